@@ -1,0 +1,4 @@
+pub mod ErrorNames
+pub mod Image
+pub mod Own
+pub mod Texts

@@ -1,0 +1,27 @@
+//! The plain values that every other crate speaks of: errors, calls, replies, the entries of a
+//! history, fault records and the state that is kept of each caller. Nothing here does work; a
+//! contract sees each list type as its list, so values are equal exactly where their contents are.
+//!
+//! `specs/Own.antt` says which entries of a history are a caller's own, `specs/Image.antt` what an
+//! image of a volume is.
+#![tactic(auto)]
+
+mod bytes;
+mod calls;
+mod credentials;
+mod entries;
+mod errors;
+mod faults;
+mod laws;
+mod replies;
+mod sequence;
+
+pub use bytes::{Name, Octets, Path};
+pub use calls::{Call, How, Whence};
+pub use credentials::{Cred, Creds};
+pub use entries::{Entry, Flight, Stand};
+pub use errors::Errno;
+pub use faults::{FaultRecord, Kind, Records, Ticket};
+pub use laws::own_appends;
+pub use replies::{Reply, Stat};
+pub use sequence::Seq;
