@@ -5,3 +5,5 @@ pub mod Views
 pub mod Holding
 pub mod Parts
 pub mod Seats
+pub mod Composing
+pub mod Sending

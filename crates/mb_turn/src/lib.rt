@@ -16,12 +16,16 @@
 
 mod booked;
 mod errand;
+mod laws;
 mod pass;
 mod rule;
 mod sight;
+#[cfg(test)]
+mod tests;
 mod turn;
 
 pub use booked::Booked;
 pub use errand::{Errand, each};
+pub use laws::{follows_composes, others_came, own_entries};
 pub use pass::Pass;
 pub use turn::{Passes, Turn};
