@@ -116,3 +116,13 @@ module _ {T Origin : Type 0} (list : T → List Entry) (stand : T → ℕ → Op
     where
       some_inside : (a b : T) → Some a ≡ Some b → a ≡ b
       some_inside a b e = cc
+
+  -- the same of the card that sees the value, and of the seat into whose slot the value goes
+  pub adds_card : (caller number : ℕ) (saw value : T) (card : ℕ × T) (me : Me (Option T) (View T)) → card ≡ (number, value) → number ≡ caller
+      → Adds list stand origin caller saw value → me ≡ (held caller saw, (0, Some value) ∷ [])
+      → (took : T) × Adds list stand origin card.0 took card.1 × (me ≡ (held card.0 took, (0, Some card.1) ∷ []))
+  adds_card caller number saw value card me is same adds seat =
+      let e : card ≡ (caller, value) = is ∙ ap (λ (n : ℕ). (n, value)) same in
+      let P : ℕ × T → Type 0 = λ x. Adds list stand origin x.0 saw x.1 × (me ≡ (held x.0 saw, (0, Some x.1) ∷ [])) in
+      let r = subst P (sym e) (adds, seat) in
+      (saw, r.0, r.1)

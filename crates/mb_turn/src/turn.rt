@@ -3,7 +3,7 @@ ghost use Rattle.std.specs.List.{range_with_len};
 ghost use mathlib.Core.List.{IsPrefix};
 ghost use Rattle.mb_kinds.specs.Own.{own};
 ghost use Rattle.mb_kinds.specs.declared.Entry.{Entry};
-ghost use Rattle.mb_turn.specs.Passes.{Each, Known, known, Continues, OthersStand, Follows, seen, mine, origin_of, stand_of, found, dealt};
+ghost use Rattle.mb_turn.specs.Passes.{Each, Known, known, Continues, OthersStand, Follows, Adds, seen, mine, origin_of, stand_of, found, dealt};
 ghost use Rattle.mb_turn.specs.Rule.{free, held, sight, idle, sights_from, sight_of_card, sight_of_pass};
 ghost use Rattle.mb_turn.specs.Steps.{tail_of, tail_sights, both_of};
 
@@ -93,9 +93,8 @@ impl<T: Booked> Turn<T> {
         let card = Card::of(&value, pass.card.caller());
         let empty = shared.exchange(&mut pass.seat, 0, Some(value));
         let None = empty else { unreachable!() };
-        shared.store::<Publish>(&mut pass.seat, 1, count);
-        shared.store::<Give>(&mut pass.seat, 0, 0);
-        shared.wake_one(0);
+        publish(shared, &mut pass.seat, &card, count);
+        give_up(shared, &mut pass.seat, &card);
         pass.card = card;
     }
 
@@ -214,6 +213,39 @@ fn win<T: Booked, R: Wait>(
         shared.park(rt, 0, 1);
     }
     unreachable!()
+}
+
+// Publishes the count of the value that lies in the seat's slot, which is the one that the card sees.
+fn publish<T: Booked>(
+    shared: &Shared<Option<T>, View<T>, Key<T>, Law<T>>,
+    seat: &mut Seat<Option<T>, View<T>>,
+    card: &Card<T>,
+    count: u64,
+)
+    requires table { (seat.old.table_id ≡ shared.now.table_id) × (1 < shared.now.table_id.words) }
+    requires count { count ≡ length (T.list card.now.1) }
+    requires seat { (took : T) × Adds T.list T.stand T.origin card.now.0 took card.now.1 × (seat.old.me ≡ (held card.now.0 took, (0, Some card.now.1) ∷ [])) }
+    ensures table { seat.new.table_id ≡ seat.old.table_id }
+    ensures seat { seat.new.me ≡ (held card.now.0 card.now.1, (0, Some card.now.1) ∷ []) }
+{
+    let _ = card;
+    shared.store::<Publish>(seat, 1, count);
+}
+
+// Gives the turn up, with the value that lies in the seat's slot, and wakes one caller that waits.
+fn give_up<T: Booked>(
+    shared: &Shared<Option<T>, View<T>, Key<T>, Law<T>>,
+    seat: &mut Seat<Option<T>, View<T>>,
+    card: &Card<T>,
+)
+    requires table { (seat.old.table_id ≡ shared.now.table_id) × (0 < shared.now.table_id.words) × (shared.now.table_id.slots ≡ 1) }
+    requires seat { seat.old.me ≡ (held card.now.0 card.now.1, (0, Some card.now.1) ∷ []) }
+    ensures table { seat.new.table_id ≡ seat.old.table_id }
+    ensures seat { seat.new.me ≡ (free card.now.0 card.now.1, []) }
+{
+    let _ = card;
+    shared.store::<Give>(seat, 0, 0);
+    shared.wake_one(0);
 }
 
 // One seat with the sights of all passes.
