@@ -1,9 +1,7 @@
 -- The laws by which what passes know composes, in the order of specs/Laws.antt.
-use Rattle.std.proofs.Common.{◌≡◌, ℕ, List, [], ◌++◌, sym, ap, ◌∙◌, append_assoc}
-use mathlib.Core.List.{IsPrefix}
+use Rattle.std.proofs.Common.{◌++◌, sym, ap, ◌∙◌, append_assoc}
 use Rattle.mb_kinds.specs.Own.{own}
-use Rattle.mb_kinds.specs.declared.Entry.{Entry}
-use Rattle.mb_turn.specs.Laws.{OthersCame, OthersCameBetween, OthersCameComposes, OwnGrows, OthersStay}
+use Rattle.mb_turn.specs.Laws.{OthersCameBetween, OthersCameComposes, OwnGrows, OthersStay}
 use Rattle.mb_turn.proofs.Knowing.{own_append, own_between, own_added, own_others}
 
 pub others_came_between : OthersCameBetween

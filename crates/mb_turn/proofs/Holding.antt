@@ -1,22 +1,22 @@
 -- The steps on word 0 and word 1 keep the rule: taking the turn, publishing the count, giving the turn up.
-use Rattle.std.proofs.Common.{◌≡◌, ◌≢◌, ℕ, zero, suc, ◌+◌, ◌<◌, ◌≤◌, eqb, Bool, true, false, List, [], ◌∷◌, length, get_or, set, sym, ap, refl, ◌∙◌, subst, arith}
+use Rattle.std.proofs.Common.{◌≡◌, ◌≢◌, ℕ, eqb, List, [], ◌∷◌, length, get_or, set, sym, ap, refl, ◌∙◌, subst, arith}
 use Rattle.std.specs.Prelude.{Option, Some}
 use mathlib.Core.Option.{some, none}
 use lib.ListN.{get_elem?}
 use prog.Atomic.{either}
-use Rattle.atomic_table.specs.Table.{State, Me, Act, keeps, takes, gives, Valid, Allows, stepped, carried_after, homes_after}
+use Rattle.atomic_table.specs.Table.{State, Me, Act, keeps, takes, gives, Valid, Allows, stepped, carried_after}
 use Rattle.atomic_table.proofs.Lists.{set_here, exchanged}
 use Rattle.mb_kinds.specs.declared.Entry.{Entry}
 use Rattle.mb_kinds.specs.declared.Stand.{Stand}
 use Rattle.mb_turn.specs.Passes.{Each, Follows, Adds}
-use Rattle.mb_turn.specs.Rule.{free, held, holding, Fits, Kept}
+use Rattle.mb_turn.specs.Rule.{free, held, Fits, Kept}
 use Rattle.mb_turn.specs.Steps.{took, published, given}
 use Rattle.mb_turn.specs.declared.sight.Sight.{Sight}
 use Rattle.mb_turn.specs.declared.sight.View.{View}
 use Rattle.mb_turn.specs.declared.sight.Key.{Key}
-use Rattle.mb_turn.proofs.Lists.{word_0, word_1, each_map}
+use Rattle.mb_turn.proofs.Lists.{word_0, word_1}
 use Rattle.mb_turn.proofs.Knowing.{follows_itself, follows_trans, adds_follows}
-use Rattle.mb_turn.proofs.Views.{renewed, Alone, holds_alone, none_holds}
+use Rattle.mb_turn.proofs.Views.{renewed, holds_alone, none_holds}
 
 module _ {T Origin : Type 0} (list : T → List Entry) (stand : T → ℕ → Option Stand) (origin : T → Origin) where
   -- what a step that makes word i become n owes, with the act and the view that it picks

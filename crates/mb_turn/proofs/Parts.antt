@@ -1,15 +1,15 @@
 -- Making the table, cutting a seat in two and making two seats one keep the rule; and what is known at the end.
-use Rattle.std.proofs.Common.{◌≡◌, ◌≢◌, ℕ, zero, suc, ◌+◌, ◌<◌, ◌≤◌, eqb, ne_eqb, Bool, true, false, List, [], ◌∷◌, ◌++◌, length, length-append, map, get_or, set, sym, ap, refl, ◌∙◌, ⊎_elim, subst, arith}
+use Rattle.std.proofs.Common.{◌≡◌, ◌≢◌, ℕ, zero, suc, ◌+◌, ◌<◌, ◌≤◌, eqb, ne_eqb, Bool, true, false, List, [], ◌∷◌, ◌++◌, length, length-append, get_or, set, sym, ap, refl, ◌∙◌, ⊎_elim, subst, arith}
 use Rattle.std.specs.Prelude.{Option, Some}
 use Rattle.std.proofs.lemmas.Bool.Decides.{eqb_tells}
-use mathlib.Core.Option.{some, none, some-injective, some-ne-none}
+use mathlib.Core.Option.{some, some-injective, some-ne-none}
 use lib.ListN.{get_elem?}
 use Rattle.atomic_table.specs.Table.{State, Splits, Joins, opening, Final, Seen}
 use Rattle.atomic_table.proofs.Lists.{at_set, at_snoc}
 use Rattle.mb_kinds.specs.declared.Entry.{Entry}
 use Rattle.mb_kinds.specs.declared.Stand.{Stand}
 use Rattle.mb_turn.specs.Passes.{Each, Follows}
-use Rattle.mb_turn.specs.Rule.{total, one_if, width, holding, shares, sight, sights_from, first_view, Fits, Kept}
+use Rattle.mb_turn.specs.Rule.{total, one_if, width, holding, shares, sights_from, first_view, Fits, Kept}
 use Rattle.mb_turn.specs.Steps.{head_sights, tail_sights, head_of, tail_of, both_of, blank}
 use Rattle.mb_turn.specs.declared.sight.Sight.{Sight}
 use Rattle.mb_turn.specs.declared.sight.View.{View}
@@ -17,7 +17,7 @@ use Rattle.mb_turn.specs.declared.sight.Key.{Key}
 use Rattle.mb_turn.proofs.Sums.{total_set, total_append, total_two, total_some}
 use Rattle.mb_turn.proofs.Lists.{each_append}
 use Rattle.mb_turn.proofs.Knowing.{follows_itself}
-use Rattle.mb_turn.proofs.Views.{holds_one, one_holds}
+use Rattle.mb_turn.proofs.Views.{one_holds}
 
 module _ {A : Type 0} (f : A → ℕ) where
   -- a sum stays where an element is cut in two, and where two are made one

@@ -1,7 +1,7 @@
 -- What a seat knows between the steps of one call, and what a pass's clauses say of its card and its seat.
-use Rattle.std.proofs.Common.{◌≡◌, ℕ, zero, suc, ◌+◌, Bool, true, false, List, [], ◌∷◌, ◌++◌, map, length, sym, ap, refl, ◌∙◌, subst, append_assoc, arith}
+use Rattle.std.proofs.Common.{◌≡◌, ℕ, zero, suc, ◌+◌, Bool, true, false, List, [], ◌∷◌, ◌++◌, map, length, sym, ap, refl, ◌∙◌, subst, arith}
 use Rattle.std.specs.Prelude.{Option, Some, None}
-use Rattle.std.proofs.lemmas.List.{append-nil, length-map}
+use Rattle.std.proofs.lemmas.List.{length-map}
 use Rattle.std.proofs.lemmas.List.FromFn.{map-range_with_len_more}
 use Rattle.std.specs.List.{range_with_len}
 use mathlib.Core.Option.{some, some-injective}
@@ -12,8 +12,7 @@ use Rattle.atomic_table.specs.Table.{Me, rest, Final, Seen}
 use Rattle.mb_kinds.specs.declared.Entry.{Entry}
 use Rattle.mb_kinds.specs.declared.Stand.{Stand}
 use Rattle.mb_turn.specs.Passes.{Each, Known, known, Continues, OthersStand, Adds, Follows}
-use Rattle.mb_turn.specs.Rule.{free, held, idle, resting, sight, sights_from, sight_of_card, sight_of_pass, Kept}
-use Rattle.mb_turn.specs.Steps.{published, tail_sights}
+use Rattle.mb_turn.specs.Rule.{held, idle, resting, sight, sights_from, sight_of_card, sight_of_pass, Kept}
 use Rattle.mb_turn.specs.declared.sight.Sight.{Sight}
 use Rattle.mb_turn.specs.declared.sight.View.{View}
 use Rattle.mb_turn.specs.declared.sight.Key.{Key}

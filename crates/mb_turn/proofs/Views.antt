@@ -1,5 +1,5 @@
 -- The views of a turn's table after a change of one of them, and what is known where one of them has the turn.
-use Rattle.std.proofs.Common.{◌≡◌, ◌≢◌, ℕ, ◌+◌, ◌<◌, ◌≤◌, eqb, eq-eqb, Bool, true, false, List, [], ◌∷◌, length, get_or, set, sym, ap, refl, ◌∙◌, ⊎_elim, subst, arith}
+use Rattle.std.proofs.Common.{◌≡◌, ◌≢◌, ℕ, ◌+◌, ◌<◌, ◌≤◌, eqb, eq-eqb, Bool, true, false, List, [], ◌∷◌, length, get_or, set, sym, ap, refl, ⊎_elim, subst, arith}
 use Rattle.std.specs.Prelude.{Option, Some}
 use mathlib.Core.Option.{some}
 use lib.ListN.{get_elem?}
@@ -7,8 +7,8 @@ use Rattle.atomic_table.specs.Table.{State}
 use Rattle.atomic_table.proofs.Lists.{at_set}
 use Rattle.mb_kinds.specs.declared.Entry.{Entry}
 use Rattle.mb_kinds.specs.declared.Stand.{Stand}
-use Rattle.mb_turn.specs.Passes.{Each, Follows, Adds}
-use Rattle.mb_turn.specs.Rule.{total, one_if, free, held, width, holding, shares, Fits, Kept}
+use Rattle.mb_turn.specs.Passes.{Each}
+use Rattle.mb_turn.specs.Rule.{total, one_if, held, width, holding, shares, Fits, Kept}
 use Rattle.mb_turn.specs.declared.sight.Sight.{Sight}
 use Rattle.mb_turn.specs.declared.sight.View.{View}
 use Rattle.mb_turn.specs.declared.sight.Key.{Key}

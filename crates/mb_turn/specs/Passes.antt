@@ -1,6 +1,6 @@
 -- What a pass knows of the value behind its turn, and what that value may become while the pass has the turn.
 -- A value stands for its entries (`list`), for a stand of each caller (`stand`), and for an origin that never changes (`origin`).
-use Rattle.std.specs.Prelude.{◌≡◌, ◌≢◌, ℕ, Bool, false, List, ◌++◌, map, Option, IsSome, IsSomeAnd}
+use Rattle.std.specs.Prelude.{◌≡◌, ◌≢◌, ℕ, Bool, false, List, ◌++◌, map, Option, IsSomeAnd}
 use Rattle.std.specs.List.{AllByRecursion, range_with_len}
 use mathlib.Core.List.{IsPrefix}
 use Rattle.atomic_table.specs.Seated.{TableId}

@@ -1,4 +1,4 @@
-ghost use Rattle.std.specs.Prelude.{◌≡◌, ℕ, false, [], ◌∷◌, IsSome};
+ghost use Rattle.std.specs.Prelude.{◌≡◌, ℕ, false, [], IsSome};
 ghost use Rattle.mb_turn.specs.Passes.{Known, known, Begins, stand_of};
 ghost use Rattle.mb_turn.specs.Rule.{free};
 

@@ -41,6 +41,14 @@ struct Worker {
     added: u64,
 }
 
+impl Worker {
+    fn new(pass: Pass<Book>) -> Worker
+        ensures { result ≡ record { pass = pass; added = 0 } }
+    {
+        Worker { pass, added: 0 }
+    }
+}
+
 struct Hundred;
 
 // Takes the turn, adds an entry of the pass's caller and gives the turn back. It says whether there
@@ -94,6 +102,12 @@ fn run_each<T: Booked + Send, E: Errand<Turn<T>, Pass<T>> + Sync, R: Threads + W
     each(rt, errand, turn, passes)
 }
 
+// How many entries are the caller's.
+fn count_of(book: &Book, caller: u8) -> usize {
+    let entries = book.entries.as_slice().iter();
+    entries.filter(|entry| entry.caller == caller).count()
+}
+
 #[test]
 fn two_threads_add_a_hundred_entries_each(rt: HostRuntime) -> Result<(), Fail> {
     let mut workers = Vec::with_capacity(rt.alloc(), 2)?;
@@ -108,23 +122,16 @@ fn two_threads_add_a_hundred_entries_each(rt: HostRuntime) -> Result<(), Fail> {
     let second = passes.pop().unwrap();
     let first = passes.pop().unwrap();
     assert!(rt; first.caller() == 0 && second.caller() == 1 && second.begun() == 7);
-    workers.push_reserved(Worker { pass: first, added: 0 });
-    workers.push_reserved(Worker { pass: second, added: 0 });
+    workers.push_reserved(Worker::new(first));
+    workers.push_reserved(Worker::new(second));
     let mut workers = each(&rt, &Hundred, &turn, workers);
     let second = workers.pop().unwrap();
     let first = workers.pop().unwrap();
     passes.push_reserved(first.pass);
     passes.push_reserved(second.pass);
     let book = turn.close(passes);
-    let own = |caller: u8| {
-        book.entries
-            .as_slice()
-            .iter()
-            .filter(|entry| entry.caller == caller)
-            .count()
-    };
     assert_eq!(rt; book.entries.len(), 200);
     assert!(rt; first.added == 100 && second.added == 100);
-    assert!(rt; own(0) == 100 && own(1) == 100);
+    assert!(rt; count_of(&book, 0) == 100 && count_of(&book, 1) == 100);
     Ok(())
 }

@@ -1,9 +1,9 @@
-ghost use Rattle.std.specs.Prelude.{◌≡◌, ◌≢◌, ℕ, ◌<◌, ◌+◌, Bool, true, false, List, [], ◌∷◌, ◌++◌, length, map, IfOk, IfErr, IsSome, Some, vec_len, vec_capacity};
+ghost use Rattle.std.specs.Prelude.{◌≡◌, ◌≢◌, ℕ, ◌<◌, ◌+◌, true, false, List, [], ◌∷◌, ◌++◌, length, map, IfOk, IfErr, IsSome, Some, vec_len, vec_capacity};
 ghost use Rattle.std.specs.List.{range_with_len};
 ghost use mathlib.Core.List.{IsPrefix};
 ghost use Rattle.mb_kinds.specs.Own.{own};
 ghost use Rattle.mb_kinds.specs.declared.Entry.{Entry};
-ghost use Rattle.mb_turn.specs.Passes.{Each, Known, known, Continues, Follows, Adds, seen, mine, origin_of, stand_of, found, dealt};
+ghost use Rattle.mb_turn.specs.Passes.{Each, known, Continues, Follows, Adds, seen, mine, origin_of, stand_of, found, dealt};
 ghost use Rattle.mb_turn.specs.Rule.{free, held, sight, idle, sights_from, sight_of_card, sight_of_pass};
 ghost use Rattle.mb_turn.specs.Steps.{tail_of, tail_sights, both_of};
 

@@ -1,5 +1,5 @@
 -- One more card.
-use Rattle.std.proofs.Common.{rules, ◌∙◌}
+use Rattle.std.proofs.Common.{rules}
 use Rattle.mb_turn.proofs.Seats.{more_cards}
 use Rattle.mb_turn.proofs.turn.cards_of.Goals as goal
 

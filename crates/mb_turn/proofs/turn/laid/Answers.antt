@@ -1,5 +1,4 @@
 -- The rule holds of a new table.
-use Rattle.std.proofs.Common.{◌≡◌, List, []}
 use Rattle.mb_turn.proofs.Parts.{opens}
 use Rattle.mb_turn.proofs.turn.laid.Goals as goal
 

@@ -1,5 +1,5 @@
 -- The seat with the sights of all passes knows what the value is that the table ends with.
-use Rattle.std.proofs.Common.{◌≡◌, sym, ap, ◌∙◌}
+use Rattle.std.proofs.Common.{sym, ap, ◌∙◌}
 use Rattle.std.specs.Prelude.{is_some}
 use Rattle.mb_turn.specs.Passes.{Each, Follows}
 use Rattle.mb_turn.proofs.Lists.{each_map}
