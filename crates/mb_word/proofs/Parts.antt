@@ -1,8 +1,8 @@
 -- Parts of lists of bytes: read from their own bytes alone, after a write that covers them, and behind
 -- what stands in front of them.
-use Rattle.std.proofs.Common.{ℕ, ◌≡◌, ◌+◌, ◌-◌, ◌<◌, ◌≤◌, ◌⊎◌, inl, inr, List, [], ◌++◌, length, take, drop, get_or, refl, sym, ap, ◌∙◌, arith}
-use Rattle.std.proofs.lemmas.List.{length-append, length-take, length-take-le, length-drop, get_or-take, get_or-drop, get_or-append-add, ext_get_or, take-append-drop, drop-drop, drop_at}
-use Rattle.mb_word.specs.Numbers.{word_at, long_at, addr_at, put_at, SameFrom}
+use Rattle.std.proofs.Common.{ℕ, ◌≡◌, ◌+◌, ◌<◌, ◌≤◌, List, [], ◌++◌, length, take, drop, get_or, refl, sym, ap, ◌∙◌, arith}
+use Rattle.std.proofs.lemmas.List.{length-take, length-drop, get_or-take, get_or-drop, get_or-append-add, ext_get_or, take-append-drop, drop-drop, drop_at}
+use Rattle.mb_word.specs.Numbers.{word_at, long_at, put_at, SameFrom}
 use Rattle.mb_word.proofs.Writes.{length-put_at, put_at_in, put_at_own}
 
 -- a byte of a part
