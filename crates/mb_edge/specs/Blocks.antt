@@ -1,0 +1,37 @@
+-- The blocks of a device: what a read gives, what a write changes, and the image that a list of bytes is.
+use Rattle.std.specs.Prelude.{ℕ, ◌+◌, ◌*◌, ◌/◌, ◌<◌, ◌≤◌, ◌≡◌, ◌≢◌, ⊤, List, length, take, drop, max, nat_lt, if◌then◌else◌, All, Option, None, Some, Result, Ok, Err, MatchResult, IfSome}
+use Rattle.mb_kinds.specs.Image.{Image, put, zeros}
+
+-- 512 bytes
+pub record IsBlock (bytes : List ℕ) : Type 0 where
+  pub size : length bytes ≡ 512
+  pub small : All (λ byte. byte < 256) bytes
+
+-- the number of blocks, where it is told
+abbrev pub CountsBlocks : Option Image → ℕ → Type 0
+CountsBlocks told count = IfSome told (λ image. count ≡ image.count)
+
+-- the bytes of a block, where they are told
+abbrev pub GivesBlock : Option Image → ℕ → List ℕ → Type 0
+GivesBlock told block bytes = IfSome told (λ image. bytes ≡ image.at block)
+
+-- what a write that failed leaves: any bytes in its block, every other block as it was, and a number of
+-- blocks between the old one and what the write would have made it
+pub record Spoils (old new : Image) (block : ℕ) : Type 0 where
+  pub others : (other : ℕ) → other ≢ block → new.at other ≡ old.at other
+  pub not_fewer : old.count ≤ new.count
+  pub not_more : new.count ≤ max old.count (block + 1)
+
+-- a write puts the block, or spoils it where it fails
+abbrev pub WritesBlock : {E : Type 0} → Option Image → Option Image → Result Unit E → ℕ → List ℕ → Type 0
+WritesBlock None new result block bytes = ⊤
+WritesBlock (Some old) None result block bytes = ⊥
+WritesBlock (Some old) (Some new) result block bytes = MatchResult result (λ _. new ≡ put old block bytes) (λ _. Spoils old new block)
+
+-- a block of a flat list of bytes
+unfoldable pub block_at : List ℕ → ℕ → List ℕ
+block_at bytes block = take 512 (drop (512 * block) bytes)
+
+-- a flat list of bytes as a device: bytes after the last whole block belong to no block
+abbrev pub image_of : List ℕ → Image
+image_of bytes = record { count = length bytes / 512; at = λ block. if nat_lt block (length bytes / 512) then block_at bytes block else zeros }
