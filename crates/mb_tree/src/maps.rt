@@ -71,10 +71,8 @@ impl<V: Drop> Map<V> {
         ensures err { OnErr result (self.new ≡ self.old) }
         ensures sure { IsSome (fin.get self.old key) → IsOk result }
     {
-        match self.inner.insert(key, value) {
-            Ok(_) => Ok(()),
-            Err(failed) => Err(failed.into()),
-        }
+        self.inner.insert(key, value)?;
+        Ok(())
     }
 
     /// Takes the value at a key out, where there is one; needs no memory.
