@@ -1,5 +1,5 @@
 -- The blocks of a device: what a read gives, what a write changes, and the image that a list of bytes is.
-use Rattle.std.specs.Prelude.{ℕ, ◌+◌, ◌*◌, ◌/◌, ◌<◌, ◌≤◌, ◌≡◌, ◌≢◌, ⊤, List, length, take, drop, max, nat_lt, if◌then◌else◌, All, Option, None, Some, Result, Ok, Err, MatchResult, IfSome}
+use Rattle.std.specs.Prelude.{ℕ, ◌+◌, ◌-◌, ◌*◌, ◌/◌, ◌<◌, ◌≤◌, ◌≡◌, ◌≢◌, ◌++◌, ⊤, List, length, take, drop, max, nat_lt, replicate, if◌then◌else◌, All, Option, None, Some, Result, Ok, Err, MatchResult, IfSome}
 use Rattle.mb_kinds.specs.Image.{Image, put, zeros}
 
 -- 512 bytes
@@ -35,3 +35,15 @@ block_at bytes block = take 512 (drop (512 * block) bytes)
 -- a flat list of bytes as a device: bytes after the last whole block belong to no block
 abbrev pub image_of : List ℕ → Image
 image_of bytes = record { count = length bytes / 512; at = λ block. if nat_lt block (length bytes / 512) then block_at bytes block else zeros }
+
+-- a block replaced inside a list of bytes
+abbrev pub replaced : List ℕ → ℕ → List ℕ → List ℕ
+replaced bytes block from = take (512 * block) bytes ++ (from ++ drop (512 * block + 512) bytes)
+
+-- a block put behind the whole blocks of a list of bytes, with zeros in between
+abbrev pub extended : List ℕ → ℕ → List ℕ → List ℕ
+extended bytes block from = take (512 * (length bytes / 512)) bytes ++ (replicate (512 * block - 512 * (length bytes / 512)) 0 ++ from)
+
+-- the bytes after a write of one block
+abbrev pub written : List ℕ → ℕ → List ℕ → List ℕ
+written bytes block from = if nat_lt block (length bytes / 512) then replaced bytes block from else extended bytes block from

@@ -9,6 +9,7 @@ mod memory_sources;
 mod schedules;
 mod sinks;
 mod sources;
+mod stores;
 
 pub use disks::Disk;
 pub use faults::{Failed, NoMemory};
@@ -18,3 +19,4 @@ pub use memory_sources::{MemSource, SureSource};
 pub use schedules::Schedule;
 pub use sinks::Sink;
 pub use sources::Source;
+pub use stores::Store;

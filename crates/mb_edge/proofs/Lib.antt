@@ -1,0 +1,3 @@
+pub mod BlockParts
+pub mod Images
+pub mod Writes
