@@ -7,7 +7,6 @@ abbrev pub Answer : Type 0 → Type 0
 Answer A = Result A Errno
 
 infixl 10 ◌>>=◌ ◌>>◌
-
 -- go on with the value of the line before
 abbrev pub ◌>>=◌ : {A B : Type 0} → Answer A → (A → Answer B) → Answer B
 Ok x >>= next = next x

@@ -23,10 +23,13 @@ touched low high size parts = set.from_list (map (λ part. (part - low) / size) 
 -- the first part under the single, the double and the triple indirect address, and the first part past them
 abbrev pub single : ℕ
 single = 10
+
 abbrev pub double : ℕ
 double = 138
+
 abbrev pub triple : ℕ
 triple = 16522
+
 abbrev pub most_parts : ℕ
 most_parts = 2113674
 

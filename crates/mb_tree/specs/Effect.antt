@@ -41,6 +41,7 @@ touched moment node = record node { mtime = moment; ctime = moment }
 -- one name more, one name less
 abbrev pub linked : ℕ → Node → Node
 linked moment node = record node { nlink = node.nlink + 1; ctime = moment }
+
 abbrev pub unlinked : ℕ → Node → Node
 unlinked moment node = record node { nlink = node.nlink - 1; ctime = moment }
 
@@ -72,20 +73,24 @@ emptied name slots = unwrap_or (option_map (λ at. slice_set slots at (record { 
 -- a name entered in a directory, or its slot emptied
 abbrev pub with_name : ℕ → List ℕ → ℕ → Node → Node
 with_name moment name ino node = record (touched moment node) { body = on_slots (entered name ino) node.body }
+
 abbrev pub without_name : ℕ → List ℕ → Node → Node
 without_name moment name node = record (touched moment node) { body = on_slots (emptied name) node.body }
 
 -- the link count of a directory that gets or loses the `..` of a directory below it
 abbrev pub more_links : Node → Node
 more_links node = record node { nlink = node.nlink + 1 }
+
 abbrev pub less_links : Node → Node
 less_links node = record node { nlink = node.nlink - 1 }
 
 -- dir(5): the first two slots of a directory, `.` and `..`
 abbrev pub dot : List ℕ
 dot = 46 ∷ 0 ∷ 0 ∷ 0 ∷ 0 ∷ 0 ∷ 0 ∷ 0 ∷ 0 ∷ 0 ∷ 0 ∷ 0 ∷ 0 ∷ 0 ∷ []
+
 abbrev pub dot_dot : List ℕ
 dot_dot = 46 ∷ 46 ∷ 0 ∷ 0 ∷ 0 ∷ 0 ∷ 0 ∷ 0 ∷ 0 ∷ 0 ∷ 0 ∷ 0 ∷ 0 ∷ 0 ∷ []
+
 abbrev pub first_slots : ℕ → ℕ → List PlainSlot
 first_slots ino parent = (record { ino = ino; name = dot }) ∷ (record { ino = parent; name = dot_dot }) ∷ []
 

@@ -5,7 +5,7 @@ use Rattle.mb_kinds.specs.declared.entries.Entry.{Entry}
 use Rattle.mb_kinds.specs.declared.replies.Reply.{Reply}
 use Rattle.mb_kinds.specs.declared.replies.Reply.TheVariants.{Num, Got, Info, Refused, Restart, Device, Failed}
 use Rattle.mb_tree.specs.Step.{step, IsLawful}
-use Rattle.mb_tree.specs.declared.seats.Machine.{Machine}
+use Rattle.mb_tree.specs.declared.machines.Machine.{Machine}
 
 -- the step of an entry's call
 unfoldable pub stepped : Machine → Entry → Reply × Machine
@@ -28,6 +28,7 @@ past machine entry = past_reply machine (stepped machine entry).1 entry.reply
 abbrev pub after : Machine → List Entry → Machine
 after machine [] = machine
 after machine (entry ∷ entries) = after (past machine entry) entries
+
 abbrev pub after_first : Machine → List Entry → ℕ → Machine
 after_first machine entries count = after machine (take count entries)
 

@@ -10,8 +10,8 @@ use Rattle.mb_tree.specs.Maps.{Numbered}
 use Rattle.mb_tree.specs.Inodes.{slots_of, stat_of, may}
 use Rattle.mb_tree.specs.declared.nodes.PlainSlot.{PlainSlot}
 use Rattle.mb_tree.specs.declared.nodes.Node.{Node}
-use Rattle.mb_tree.specs.declared.seats.Placed.{Placed}
-use Rattle.mb_tree.specs.declared.seats.Placed.TheVariants.{Itself, At}
+use Rattle.mb_tree.specs.declared.lookups.Placed.{Placed}
+use Rattle.mb_tree.specs.declared.lookups.Placed.TheVariants.{Itself, At}
 
 -- the slash
 abbrev pub slash : ℕ

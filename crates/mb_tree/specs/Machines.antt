@@ -8,7 +8,7 @@ use Rattle.mb_tree.specs.Fits.{IsOpenable}
 use Rattle.mb_tree.specs.declared.nodes.Node.{Node}
 use Rattle.mb_tree.specs.declared.seats.PlainFile.{PlainFile}
 use Rattle.mb_tree.specs.declared.seats.Seat.{Seat}
-use Rattle.mb_tree.specs.declared.seats.Machine.{Machine}
+use Rattle.mb_tree.specs.declared.machines.Machine.{Machine}
 
 -- a descriptor is 3 to 19 and has an open file
 pub record IsDescriptor (seat : Seat) (fd place : ℕ) : Type 0 where

@@ -24,10 +24,10 @@ use Rattle.mb_tree.specs.Effect.{dot, dot_dot}
 use Rattle.mb_tree.specs.declared.nodes.Node.{Node}
 use Rattle.mb_tree.specs.declared.seats.PlainFile.{PlainFile}
 use Rattle.mb_tree.specs.declared.seats.Seat.{Seat}
-use Rattle.mb_tree.specs.declared.seats.Machine.{Machine}
-use Rattle.mb_tree.specs.declared.seats.Placed.{Placed}
-use Rattle.mb_tree.specs.declared.seats.Placed.TheVariants.{Itself, At}
-use Rattle.mb_tree.specs.declared.seats.Plan.{Plan}
+use Rattle.mb_tree.specs.declared.machines.Machine.{Machine}
+use Rattle.mb_tree.specs.declared.lookups.Placed.{Placed}
+use Rattle.mb_tree.specs.declared.lookups.Placed.TheVariants.{Itself, At}
+use Rattle.mb_tree.specs.declared.plans.Plan.{Plan}
 use Rattle.mb_tree.specs.declared.seats.SessionChange.{SessionChange}
 use Rattle.mb_tree.specs.declared.seats.SessionChange.TheVariants.{Same, Fresh, Twin, Free, Move, Cwd, Mask, Clear}
 use Rattle.mb_tree.specs.declared.operations.FsOp.{FsOp}

@@ -65,7 +65,7 @@ abbrev pub closed : Seat → ℕ → Option ℕ → Seat
 closed seat fd None = seat
 closed seat fd (Some place) = record seat {
   fds = fin.remove seat.fds fd;
-  files = if has_place (fin.remove seat.fds fd) place then seat.files else fin.remove seat.files place
+  files = if has_place (fin.remove seat.fds fd) place then seat.files else fin.remove seat.files place;
 }
 
 -- the offset of an open file set

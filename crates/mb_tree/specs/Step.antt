@@ -9,7 +9,7 @@ use Rattle.mb_tree.specs.Answers.{Answer, ◌>>=◌, ◌>>◌}
 use Rattle.mb_tree.specs.Sessions.{Counts, counts, with_change}
 use Rattle.mb_tree.specs.Effect.{Held, effect}
 use Rattle.mb_tree.specs.Rows.{plan}
-use Rattle.mb_tree.specs.declared.seats.Machine.{Machine}
+use Rattle.mb_tree.specs.declared.machines.Machine.{Machine}
 use Rattle.mb_tree.specs.declared.operations.FsOp.{FsOp}
 use Rattle.mb_tree.specs.declared.trees.Tree.{Tree}
 

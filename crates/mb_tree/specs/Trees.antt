@@ -85,6 +85,7 @@ abbrev pub links_from : ℕ → Body → ℕ
 links_from ino (Regular size parts) = 0
 links_from ino (Directory slots) = count_by (leads_to ino) slots
 links_from ino (Special size area) = 0
+
 abbrev pub late_links_from : ℕ → Body → ℕ
 late_links_from ino (Regular size parts) = 0
 late_links_from ino (Directory slots) = count_by (leads_to ino) (drop 2 slots)
@@ -93,6 +94,7 @@ late_links_from ino (Special size area) = 0
 abbrev pub links_at : ℕ → Option Node → ℕ
 links_at ino None = 0
 links_at ino (Some node) = links_from ino node.body
+
 abbrev pub late_links_at : ℕ → Option Node → ℕ
 late_links_at ino None = 0
 late_links_at ino (Some node) = late_links_from ino node.body
@@ -100,6 +102,7 @@ late_links_at ino (Some node) = late_links_from ino node.body
 -- the used slots of the whole tree that lead to ino, in all and after the second of their directories
 abbrev pub links : Tree → ℕ → ℕ
 links tree ino = sum_below (λ dir. links_at ino (fin.get tree.nodes dir)) (tree.last + 1)
+
 abbrev pub late_links : Tree → ℕ → ℕ
 late_links tree ino = sum_below (λ dir. late_links_at ino (fin.get tree.nodes dir)) (tree.last + 1)
 
