@@ -48,13 +48,13 @@ module _ {X : Type 0} where
 
   -- what an ordered map's entries are after a value was put or taken, as maps
   pub given_view : (es fs : List (ℕ × X)) (k : ℕ) (v : X)
-    → ((q : ℕ) → lookup (is_at (nat_cmp q)) fs ≡ cond (is_at (nat_cmp k) q) (Some v) (lookup (is_at (nat_cmp q)) es))
-    → fin.from_entries {R = nat_cmp} fs ≡ fin.insert (fin.from_entries es) k v
+      → ((q : ℕ) → lookup (is_at (nat_cmp q)) fs ≡ cond (is_at (nat_cmp k) q) (Some v) (lookup (is_at (nat_cmp q)) es))
+      → fin.from_entries {R = nat_cmp} fs ≡ fin.insert (fin.from_entries es) k v
   given_view es fs k v h = same _ _ (λ q. get_view fs q ∙ h q ∙ ap (λ b. cond b (Some v) (lookup (is_at (nat_cmp q)) es)) (tied_swap q k) ∙ ap (cond (eq_by_cmp nat_cmp q k) (Some v)) (sym (get_view es q)) ∙ sym (get-insert nat_cmp_total _ k v q))
 
   pub taken_view : (es fs : List (ℕ × X)) (k : ℕ)
-    → ((q : ℕ) → lookup (is_at (nat_cmp q)) fs ≡ cond (is_at (nat_cmp k) q) None (lookup (is_at (nat_cmp q)) es))
-    → fin.from_entries {R = nat_cmp} fs ≡ fin.remove (fin.from_entries es) k
+      → ((q : ℕ) → lookup (is_at (nat_cmp q)) fs ≡ cond (is_at (nat_cmp k) q) None (lookup (is_at (nat_cmp q)) es))
+      → fin.from_entries {R = nat_cmp} fs ≡ fin.remove (fin.from_entries es) k
   taken_view es fs k h = same _ _ (λ q. get_view fs q ∙ h q ∙ ap (λ b. cond b None (lookup (is_at (nat_cmp q)) es)) (tied_swap q k) ∙ ap (cond (eq_by_cmp nat_cmp q k) None) (sym (get_view es q)) ∙ sym (get-remove nat_cmp_total _ k q))
 
   -- what a look-up lends, against what is found

@@ -1,1 +1,15 @@
+pub mod Answers
 pub mod Cells
+pub mod Cost
+pub mod Counting
+pub mod Effect
+pub mod Fits
+pub mod History
+pub mod Inodes
+pub mod Lookup
+pub mod Machines
+pub mod Maps
+pub mod Rows
+pub mod Sessions
+pub mod Step
+pub mod Trees

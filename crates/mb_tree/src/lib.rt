@@ -3,16 +3,22 @@
 //! restartable file system.
 #![tactic(auto)]
 
+mod lookups;
+mod machines;
 mod maps;
 mod nodes;
 mod operations;
+mod plans;
 mod seats;
 mod tables;
 mod trees;
 
+pub use lookups::Placed;
+pub use machines::Machine;
 pub use maps::Map;
 pub use nodes::{Body, Node, Nodes, Parts, PlainSlot, PlainSlots};
 pub use operations::{FsOp, Inos};
-pub use seats::{Machine, Plan, PlainFile, Placed, Seat, Seats, SessionChange};
+pub use plans::Plan;
+pub use seats::{PlainFile, Seat, Seats, SessionChange};
 pub use tables::{Fds, Files};
 pub use trees::Tree;

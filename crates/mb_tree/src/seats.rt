@@ -1,7 +1,5 @@
-use crate::operations::FsOp;
 use crate::tables::{Fds, Files};
-use crate::trees::Tree;
-use mb_kinds::{Cred, How, Name, Reply, Seq};
+use mb_kinds::{Cred, How, Seq};
 
 /// An open file: its inode, the directions in which it is open, and the offset of the next byte.
 #[derive(Clone, Copy, Debug, Drop)]
@@ -26,13 +24,6 @@ pub struct Seat {
 /// The sessions of all callers, in the order of their numbers, from 0.
 pub type Seats = Seq<Seat>;
 
-/// The reference model: a tree and the callers' sessions.
-#[derive(Drop)]
-pub struct Machine {
-    pub tree: Tree,
-    pub seats: Seats,
-}
-
 /// What a call does to its caller's session.
 #[derive(Clone, Copy, Debug, Drop)]
 pub enum SessionChange {
@@ -52,22 +43,4 @@ pub enum SessionChange {
     Mask { mask: u16 },
     /// Frees all descriptors and open files.
     Clear,
-}
-
-/// Where a path leads when its last component is not looked up: to the directory and the name of that
-/// component, with the number that the name leads to where it is there; or to the inode itself where
-/// the path has no component.
-#[derive(Clone, Copy, Debug, Drop)]
-pub enum Placed {
-    Itself(u16),
-    At { dir: u16, name: Name, ino: Option<u16> },
-}
-
-/// What a call that is not refused will do: its reply, one operation on the file system or none, and
-/// one change of its caller's session.
-#[derive(Drop)]
-pub struct Plan {
-    pub reply: Reply,
-    pub op: Option<FsOp>,
-    pub session: SessionChange,
 }
