@@ -1,5 +1,7 @@
 -- The blocks of a device: what a read gives, what a write changes, and the image that a list of bytes is.
 use Rattle.std.specs.Prelude.{ℕ, ◌+◌, ◌-◌, ◌*◌, ◌/◌, ◌<◌, ◌≤◌, ◌≡◌, ◌≢◌, ◌++◌, ⊤, List, length, take, drop, max, nat_lt, replicate, if◌then◌else◌, All, Option, None, Some, Result, Ok, Err, MatchResult, IfSome}
+use Rattle.std.proofs.Common.{cond, subst, sym, ap, ◌∙◌}
+use Rattle.std.proofs.lemmas.Bool.{le-ltb}
 use Rattle.mb_kinds.specs.Image.{Image, put, zeros}
 
 -- 512 bytes
@@ -47,3 +49,10 @@ extended bytes block from = take (512 * (length bytes / 512)) bytes ++ (replicat
 -- the bytes after a write of one block
 abbrev pub written : List ℕ → ℕ → List ℕ → List ℕ
 written bytes block from = if nat_lt block (length bytes / 512) then replaced bytes block from else extended bytes block from
+
+-- past its whole blocks a flat list of bytes shows zeros
+pub image_of-past : (bytes : List ℕ) (image : Image) (block : ℕ) → Some (image_of bytes) ≡ Some image → image.count ≤ block → image.at block ≡ zeros
+image_of-past bytes image block same past =
+    let shown : image_of bytes ≡ image = cc in
+    let beyond : length bytes / 512 ≤ block = subst (λ (i : Image). i.count ≤ block) (sym shown) past in
+    ap (λ (i : Image). i.at block) (sym shown) ∙ ap (λ b. cond b (block_at bytes block) zeros) (le-ltb block (length bytes / 512) beyond)

@@ -20,7 +20,7 @@ pub trait Disk {
     /// Reads a block; one past the end reads as zeros. After a fault `into` holds any bytes.
     fn read(&mut self, block: u32, into: &mut [u8; 512]) -> Result<(), Failed>
         ensures bytes { OnOk result (GivesBlock (told self.old) block into.new) }
-        ensures block { IsBlock into.new }
+        ensures block { OnOk result (IsBlock into.new) }
         ensures told { told self.new ≡ told self.old }
         ensures cause { HasCause (faults self.old) (faults self.new) result };
 

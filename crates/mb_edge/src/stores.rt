@@ -75,6 +75,7 @@ impl Store {
         requires room { block < self.old.room }
         requires size { length from.now ≡ 512 }
         ensures bytes { self.new ≡ record self.old { bytes = written self.old.bytes block from.now } }
+        ensures image { image_of self.new.bytes ≡ put (image_of self.old.bytes) block from.now }
     {
         self.used = put_block(&mut self.bytes, self.used, block as usize, from);
     }
