@@ -1,5 +1,5 @@
 -- A text that is written piece by piece: what was taken so far is a front of it.
-use Rattle.std.proofs.Common.{ℕ, ◌+◌, ◌-◌, ◌≤◌, ◌≡◌, arith, List, [], ◌++◌, length, take, drop, Option, None, Some, refl, ap, ◌∙◌, sym, subst, append-nil, take-append-drop}
+use Rattle.std.proofs.Common.{ℕ, ◌+◌, ◌-◌, ◌≤◌, ◌≡◌, arith, List, [], ◌++◌, length, take, drop, Option, None, Some, ap, ◌∙◌, sym, subst, append-nil, take-append-drop}
 use Rattle.std.proofs.Math.Seq.{take-add}
 use Rattle.std.proofs.lemmas.List.{take_rest, length-drop}
 use Rattle.std.specs.Io.KnownBytes.{Appends, Keeps}
@@ -10,7 +10,7 @@ use Rattle.mb_edge.specs.Transfers.{TakesFront}
 pub front_more : (first before now : Option (List ℕ)) (text : List ℕ) (at count : ℕ) → Appends first before (take at text) → Appends before now (take count (take (length text - at) (drop at text))) → Appends first now (take (at + count) text)
 front_more first before now text at count so_far piece =
     let joined : take at text ++ take count (take (length text - at) (drop at text)) ≡ take (at + count) text =
-      ap (λ (rest : List ℕ). take at text ++ take count rest) (take_rest text at) ∙ sym (take-add at count text) in
+    ap (λ (rest : List ℕ). take at text ++ take count rest) (take_rest text at) ∙ sym (take-add at count text) in
     subst (Appends first now) joined (Appends-trans first before now _ _ so_far piece)
 
 Appends-nothing : (before now : Option (List ℕ)) → Keeps before now → Appends before now []
@@ -21,11 +21,11 @@ Appends-nothing (Some xs) (Some ys) kept = kept ∙ sym (append-nil xs)
 -- nothing more was taken
 front_stays : (first before now : Option (List ℕ)) (text : List ℕ) (at : ℕ) → Appends first before (take at text) → Appends before now [] → TakesFront first now text
 front_stays first before now text at so_far nothing = record {
-    front = take at text;
-    back = drop at text;
-    whole = sym (take-append-drop at text);
-    took = subst (Appends first now) (append-nil (take at text)) (Appends-trans first before now _ _ so_far nothing);
-  }
+  front = take at text;
+  back = drop at text;
+  whole = sym (take-append-drop at text);
+  took = subst (Appends first now) (append-nil (take at text)) (Appends-trans first before now _ _ so_far nothing);
+}
 
 pub front_kept : (first before now : Option (List ℕ)) (text : List ℕ) (at : ℕ) → Appends first before (take at text) → Keeps before now → TakesFront first now text
 front_kept first before now text at so_far kept = front_stays first before now text at so_far (Appends-nothing before now kept)

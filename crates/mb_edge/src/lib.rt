@@ -1,4 +1,11 @@
-//! The traits of the outside.
+//! The edge to the outside: a source of bytes, a sink of bytes and a disk of blocks, as traits, and devices in
+//! memory that keep them. Every call may fail. An object of the outside has a count of faults that never
+//! falls, and answers an error only where that count rose in the same call, so a caller's claim about an
+//! error is a claim about the count.
+//!
+//! `specs/Causes.antt` says when a count rose, `specs/Transfers.antt` what a read and a write move, and
+//! `specs/Blocks.antt` what a block read gives and a block written changes in an image. An object may tell
+//! nothing of its content, and then nothing is said of it.
 #![tactic(auto)]
 
 mod disks;
@@ -11,6 +18,8 @@ mod schedules;
 mod sinks;
 mod sources;
 mod stores;
+#[cfg(test)]
+mod tests;
 mod transfers;
 
 pub use disks::Disk;
@@ -22,5 +31,4 @@ pub use memory_sources::{MemSource, SureSource};
 pub use schedules::Schedule;
 pub use sinks::Sink;
 pub use sources::Source;
-pub use stores::Store;
 pub use transfers::{ReadError, read_whole, write_whole};

@@ -1,17 +1,16 @@
 ghost use Rattle.std.specs.Prelude.{◌≡◌, ◌*◌, ◌<◌, ◌≤◌, ◌||◌, Some, IfOk, IsOk, OnOk, length, nat_le};
 ghost use Rattle.std.specs.Result.{is_err};
-ghost use Rattle.mb_edge.specs.Blocks.{CountsBlocks, GivesBlock, IsBlock, WritesBlock, image_of, image_of-past};
+ghost use Rattle.mb_edge.specs.Blocks.{CountsBlocks, GivesBlock, IsBlock, WritesBlock, image_of, image_of-past, image_of-sized};
 ghost use Rattle.mb_edge.specs.Causes.{HasCause};
 ghost use Rattle.mb_edge.specs.Schedule.{after_call, is_due};
-
-use std::alloc::Global;
-use std::marker::Model;
 
 use crate::disks::Disk;
 use crate::faults::{Failed, NoMemory};
 use crate::lists::{Bytes, Fails};
 use crate::schedules::Schedule;
 use crate::stores::Store;
+use std::alloc::Global;
+use std::marker::Model;
 
 /// The most blocks that a write can reach: 128 MiB of them (this project's limit of a volume).
 const MOST: u32 = 262144;
@@ -89,7 +88,9 @@ impl Disk for SureDisk {
         Ok(())
     }
 
-    ghost past = { λ disk image block same past. image_of-past disk image block same past };
+    ghost past = { image_of-past };
+
+    ghost sized = { image_of-sized };
 }
 
 /// A disk in memory whose stated calls fail. Its room is taken when it is made, and a write past the room is
@@ -193,5 +194,7 @@ impl Disk for MemDisk {
         Ok(())
     }
 
-    ghost past = { λ disk image block same past. image_of-past disk.bytes image block same past };
+    ghost past = { λ disk. image_of-past disk.bytes };
+
+    ghost sized = { λ disk. image_of-sized disk.bytes };
 }

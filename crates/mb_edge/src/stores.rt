@@ -2,11 +2,10 @@ ghost use Rattle.std.specs.Prelude.{◌≡◌, ◌+◌, ◌*◌, ◌/◌, ◌<�
 ghost use Rattle.mb_kinds.specs.Image.{put};
 ghost use Rattle.mb_edge.specs.Blocks.{image_of, written};
 
-use std::alloc::Global;
-use std::marker::Model;
-
 use crate::faults::NoMemory;
 use crate::lists::Bytes;
+use std::alloc::Global;
+use std::marker::Model;
 
 /// Bytes of a device, in memory, with room for a stated number of blocks that is taken when it is made.
 #[derive(Drop)]

@@ -4,14 +4,13 @@ ghost use Rattle.mb_edge.specs.Causes.{HasCause, Rose};
 ghost use Rattle.mb_edge.specs.Transfers.{AreFirst, Takes};
 ghost use Rattle.mb_edge.specs.declared.transfers.ReadError.TheVariants.{NoMemory};
 
-use std::alloc::{AllocError, Global};
-use std::error::Error;
-use std::fmt;
-
 use crate::faults::Failed;
 use crate::lists::Bytes;
 use crate::sinks::Sink;
 use crate::sources::Source;
+use std::alloc::{AllocError, Global};
+use std::error::Error;
+use std::fmt;
 
 /// Why a source was not read to its end.
 #[derive(Clone, Copy, Debug, PartialEq, Eq, Drop)]

@@ -8,10 +8,10 @@ returns-in-Ok-eq0-clause-bytes g c =
 
 pub turns-preserved : goal.turns-preserved
 turns-preserved g c = record {
-    bound = front_fits c.args.text.now c.turns.at c.in-Ok.count c.turns.invariant.bound c.in-Ok.ensures.bound;
-    so_far = front_more _ _ _ c.args.text.now c.turns.at c.in-Ok.count c.turns.invariant.so_far c.in-Ok.ensures.bytes;
-    later = omega (arith, c.write.ensures.cause.later);
-  }
+  bound = front_fits c.args.text.now c.turns.at c.in-Ok.count c.turns.invariant.bound c.in-Ok.ensures.bound;
+  so_far = front_more _ _ _ c.args.text.now c.turns.at c.in-Ok.count c.turns.invariant.so_far c.in-Ok.ensures.bytes;
+  later = omega (arith, c.write.ensures.cause.later);
+}
 
 pub returns-in-Err-clause-bytes : goal.returns-in-Err-clause-bytes
 returns-in-Err-clause-bytes g c = front_kept _ _ _ _ _ c.turns.invariant.so_far c.in-Err.ensures.bytes
