@@ -1,5 +1,5 @@
 -- A block of a list of bytes that is made of others.
-use Rattle.std.proofs.Common.{ℕ, ◌+◌, ◌-◌, ◌*◌, ◌<◌, ◌≤◌, ◌≡◌, List, ◌++◌, length, take, drop, replicate, refl, ap, ◌∙◌, sym, arith}
+use Rattle.std.proofs.Common.{ℕ, ◌+◌, ◌-◌, ◌*◌, ◌≤◌, ◌≡◌, List, ◌++◌, length, take, drop, replicate, refl, ap, ◌∙◌, arith}
 use Rattle.std.proofs.lemmas.List.{take-take, drop-drop, drop-take, take_all, take-append-le, drop-append-le, length-drop, drop-replicate, take-replicate}
 use Rattle.std.proofs.Math.Seq.{drop-append-add}
 use Rattle.mb_kinds.specs.Image.{zeros}

@@ -1,5 +1,5 @@
 -- The image of a list of bytes before and after the write of one block.
-use Rattle.std.proofs.Common.{ℕ, ◌+◌, ◌-◌, ◌*◌, ◌/◌, ◌<◌, ◌≤◌, ◌≡◌, ◌≢◌, List, ◌++◌, length, take, drop, replicate, refl, ap, ◌∙◌, sym, arith, cond, Some, max, nat_lt, nat_eq, ◌⊎◌, inl, inr, subst, suc}
+use Rattle.std.proofs.Common.{ℕ, ◌+◌, ◌-◌, ◌*◌, ◌/◌, ◌<◌, ◌≤◌, ◌≡◌, ◌≢◌, List, ◌++◌, length, take, drop, replicate, ap, ◌∙◌, sym, arith, cond, max, nat_lt, nat_eq, ◌⊎◌, inl, inr, subst, suc}
 use Rattle.std.proofs.lemmas.List.{length-append, length-take-le, length-drop, length-replicate}
 use Rattle.std.proofs.lemmas.Bool.{lt-ltb, le-ltb}
 use Rattle.std.proofs.lemmas.Bool.Decides.{nat_tests, leb_tells}
@@ -80,18 +80,18 @@ image_of-replaced bytes block from size inside =
     let long : length (replaced bytes block from) ≡ length bytes = replaced_length bytes block from size inside in
     let count : length (replaced bytes block from) / 512 ≡ max (length bytes / 512) (block + 1) = omega arith in
     same_image _ _ _ _ count (λ q. at_cases q block (length bytes / 512) _ (block_at (replaced bytes block from) q) (block_at bytes q) from zeros count
-      (λ e. ap (block_at (replaced bytes block from)) e ∙ replaced_here bytes block from size inside)
-      (λ other below. replaced_old bytes block from q size inside other)
-      (λ past below. absurd (omega arith)))
+    (λ e. ap (block_at (replaced bytes block from)) e ∙ replaced_here bytes block from size inside)
+    (λ other below. replaced_old bytes block from q size inside other)
+    (λ past below. absurd (omega arith)))
 
 image_of-extended : (bytes : List ℕ) (block : ℕ) (from : List ℕ) → length from ≡ 512 → length bytes / 512 ≤ block → image_of (extended bytes block from) ≡ put (image_of bytes) block from
 image_of-extended bytes block from size past =
     let long : length (extended bytes block from) ≡ 512 * block + 512 = extended_length bytes block from size past in
     let count : length (extended bytes block from) / 512 ≡ max (length bytes / 512) (block + 1) = omega arith in
     same_image _ _ _ _ count (λ q. at_cases q block (length bytes / 512) _ (block_at (extended bytes block from) q) (block_at bytes q) from zeros count
-      (λ e. ap (block_at (extended bytes block from)) e ∙ extended_here bytes block from size past)
-      (λ other below. extended_below bytes block from q below)
-      (λ past below. extended_between bytes block from q past below))
+    (λ e. ap (block_at (extended bytes block from)) e ∙ extended_here bytes block from size past)
+    (λ other below. extended_below bytes block from q below)
+    (λ past below. extended_between bytes block from q past below))
 
 -- what one of two lists shows, either shows
 either_written : (P : List ℕ → Type 0) (m n : ℕ) (x y : List ℕ) → (m < n → P x) → (n ≤ m → P y) → P (cond (nat_lt m n) x y)
@@ -101,7 +101,7 @@ either_written P m n x y below above =
 pub image_of-written : (bytes : List ℕ) (block : ℕ) (from : List ℕ) → length from ≡ 512 → image_of (written bytes block from) ≡ put (image_of bytes) block from
 image_of-written bytes block from size =
     either_written (λ (new : List ℕ). image_of new ≡ put (image_of bytes) block from) block (length bytes / 512) (replaced bytes block from) (extended bytes block from)
-      (image_of-replaced bytes block from size) (image_of-extended bytes block from size)
+    (image_of-replaced bytes block from size) (image_of-extended bytes block from size)
 
 pub written-inside : (bytes : List ℕ) (block : ℕ) (from : List ℕ) → block < length bytes / 512 → written bytes block from ≡ replaced bytes block from
 written-inside bytes block from inside = ap (λ b. cond b (replaced bytes block from) (extended bytes block from)) (lt-ltb block (length bytes / 512) inside)

@@ -1,10 +1,9 @@
 -- What a store's buffer shows after a block is read from it or written to it: `used` of its bytes count.
-use Rattle.std.proofs.Common.{ℕ, ◌+◌, ◌-◌, ◌*◌, ◌/◌, ◌<◌, ◌≤◌, ◌≡◌, List, ◌++◌, length, take, drop, replicate, refl, ap, ◌∙◌, sym, arith, append_assoc}
+use Rattle.std.proofs.Common.{ℕ, ◌+◌, ◌-◌, ◌*◌, ◌/◌, ◌<◌, ◌≤◌, ◌≡◌, List, ◌++◌, length, take, drop, replicate, ap, ◌∙◌, sym, arith, append_assoc}
 use Rattle.std.proofs.lemmas.List.{length-append, length-take-le, length-drop, length-replicate, take-take, drop-take, drop-drop}
 use Rattle.std.proofs.lemmas.Slice.{take-put_mid}
 use Rattle.std.proofs.Math.Seq.{take-append-add}
 use borrow.Rule.Slice.PartMut.{put_mid}
-use Rattle.mb_kinds.specs.Image.{zeros}
 use Rattle.mb_edge.specs.Blocks.{block_at, image_of, replaced, extended, written}
 use Rattle.mb_edge.proofs.BlockParts.{block_at-take, zeros_are}
 use Rattle.mb_edge.proofs.Images.{written-inside, written-past, at-inside, at-past}
@@ -30,7 +29,7 @@ replaced_part : (bytes : List ℕ) (used block : ℕ) (from : List ℕ) → 512 
 replaced_part bytes used block from within =
     let cut : used ≡ 512 * block + 512 + (used - (512 * block + 512)) = omega arith in
     let rest : drop (512 * block + 512) (take used bytes) ≡ take (used - (512 * block + 512)) (drop (512 * block + 512) bytes) =
-      ap (λ (n : ℕ). drop (512 * block + 512) (take n bytes)) cut ∙ drop-take (512 * block + 512) (used - (512 * block + 512)) bytes in
+    ap (λ (n : ℕ). drop (512 * block + 512) (take n bytes)) cut ∙ drop-take (512 * block + 512) (used - (512 * block + 512)) bytes in
     ap (λ (front : List ℕ). front ++ (from ++ drop (512 * block + 512) (take used bytes))) (take-take (512 * block) used bytes (omega arith))
     ∙ ap (λ (back : List ℕ). take (512 * block) bytes ++ (from ++ back)) rest
 
@@ -43,7 +42,7 @@ puts_inside bytes used block k new from wide same size within inside =
     let broad : length new ≡ 512 = ap length same ∙ size in
     let cut : used ≡ length (take (512 * block) bytes) + (length new + (used - (512 * block + 512))) = omega arith in
     let after : drop k (drop (512 * block) bytes) ≡ drop (512 * block + 512) bytes =
-      drop-drop k (512 * block) bytes ∙ ap (λ (n : ℕ). drop (512 * block + n) bytes) wide in
+    drop-drop k (512 * block) bytes ∙ ap (λ (n : ℕ). drop (512 * block + n) bytes) wide in
     ap (λ (n : ℕ). take n (put_mid (512 * block) k bytes new)) cut
     ∙ take-append-add (take (512 * block) bytes) (new ++ drop k (drop (512 * block) bytes)) (length new + (used - (512 * block + 512)))
     ∙ ap (λ (back : List ℕ). take (512 * block) bytes ++ back) (take-append-add new (drop k (drop (512 * block) bytes)) (used - (512 * block + 512)))
@@ -74,7 +73,7 @@ puts_past bytes used block k gap new from same size within past clear =
     let beyond : length (take used bytes) / 512 ≤ block = rw long past in
     let room : 512 * (used / 512) ≤ length bytes = omega arith in
     let reach : 512 * (used / 512) + (512 * block - 512 * (used / 512)) ≤ length (put_mid (512 * (used / 512)) (512 * block - 512 * (used / 512)) bytes gap) =
-      reaches bytes gap (512 * (used / 512)) (512 * block - 512 * (used / 512)) room gap_size in
+    reaches bytes gap (512 * (used / 512)) (512 * block - 512 * (used / 512)) room gap_size in
     take-put_mid (512 * block) k (put_mid (512 * (used / 512)) (512 * block - 512 * (used / 512)) bytes gap) new (512 * block + 512) (omega arith) (omega arith)
     ∙ ap (λ (front : List ℕ). front ++ new) (take-put_mid (512 * (used / 512)) (512 * block - 512 * (used / 512)) bytes gap (512 * block) (omega arith) room)
     ∙ append_assoc (take (512 * (used / 512)) bytes) gap new

@@ -1,8 +1,7 @@
 -- What one call moves between a list of bytes and the outside. The outside may tell nothing (`None`), and
 -- then nothing is said of its bytes.
-use Rattle.std.specs.Prelude.{ℕ, ◌<◌, ◌≡◌, ◌++◌, List, length, take, Option, None, Some, Result, MatchResult, IfOk, IfSome}
+use Rattle.std.specs.Prelude.{ℕ, ◌<◌, ◌≡◌, ◌++◌, List, length, take, Option, Result, MatchResult, IfSome}
 use Rattle.std.specs.Io.KnownBytes.{Appends, Consumes, Keeps, IsAtEnd}
-use Rattle.mb_edge.specs.Causes.{Rose}
 
 -- a read gives the first bytes that are left and takes them away; 0 bytes into a buffer that is not empty
 -- come where none is left, and a read that fails takes nothing

@@ -1,4 +1,4 @@
-ghost use Rattle.std.specs.Prelude.{ℕ, ◌≡◌, ◌<◌, ◌≤◌, Option, Some, IfOk, OnOk};
+ghost use Rattle.std.specs.Prelude.{ℕ, ◌≡◌, ◌<◌, ◌≤◌, length, Option, Some, IfOk, OnOk};
 ghost use Rattle.mb_kinds.specs.Image.{Image, zeros};
 ghost use Rattle.mb_edge.specs.Blocks.{CountsBlocks, GivesBlock, IsBlock, WritesBlock};
 ghost use Rattle.mb_edge.specs.Causes.{HasCause};
@@ -20,7 +20,7 @@ pub trait Disk {
     /// Reads a block; one past the end reads as zeros. After a fault `into` holds any bytes.
     fn read(&mut self, block: u32, into: &mut [u8; 512]) -> Result<(), Failed>
         ensures bytes { OnOk result (GivesBlock (told self.old) block into.new) }
-        ensures block { IsBlock into.new }
+        ensures block { OnOk result (IsBlock into.new) }
         ensures told { told self.new ≡ told self.old }
         ensures cause { HasCause (faults self.old) (faults self.new) result };
 
@@ -33,4 +33,7 @@ pub trait Disk {
 
     /// Past the last block there are zeros.
     ghost past: { (disk : Self) (image : Image) (block : ℕ) → told disk ≡ Some image → image.count ≤ block → image.at block ≡ zeros };
+
+    /// Every block has 512 bytes.
+    ghost sized: { (disk : Self) (image : Image) (block : ℕ) → told disk ≡ Some image → length (image.at block) ≡ 512 };
 }

@@ -4,13 +4,12 @@ ghost use Rattle.mb_edge.specs.Causes.{HasCause, Rose};
 ghost use Rattle.mb_edge.specs.Schedule.{after_call, is_due};
 ghost use Rattle.mb_edge.specs.Transfers.{Writes};
 
-use std::alloc::Global;
-use std::marker::Model;
-
 use crate::faults::{Failed, NoMemory};
 use crate::lists::Fails;
 use crate::schedules::Schedule;
 use crate::sinks::Sink;
+use std::alloc::Global;
+use std::marker::Model;
 
 /// A sink that takes every byte, keeps none and tells none. It never fails.
 #[derive(Drop)]

@@ -4,12 +4,11 @@ ghost use Rattle.mb_edge.specs.Causes.{HasCause};
 ghost use Rattle.mb_edge.specs.Schedule.{after_call, is_due};
 ghost use Rattle.mb_edge.specs.Transfers.{Reads};
 
-use std::marker::Model;
-
 use crate::faults::Failed;
 use crate::lists::{Bytes, Fails};
 use crate::schedules::Schedule;
 use crate::sources::Source;
+use std::marker::Model;
 
 /// A source over bytes in memory that never fails. A contract sees the bytes that are left.
 #[derive(Drop)]

@@ -2,11 +2,10 @@ ghost use Rattle.std.specs.Prelude.{◌≡◌, ◌+◌, ◌*◌, ◌/◌, ◌<�
 ghost use Rattle.mb_kinds.specs.Image.{put};
 ghost use Rattle.mb_edge.specs.Blocks.{image_of, written};
 
-use std::alloc::Global;
-use std::marker::Model;
-
 use crate::faults::NoMemory;
 use crate::lists::Bytes;
+use std::alloc::Global;
+use std::marker::Model;
 
 /// Bytes of a device, in memory, with room for a stated number of blocks that is taken when it is made.
 #[derive(Drop)]
@@ -75,6 +74,7 @@ impl Store {
         requires room { block < self.old.room }
         requires size { length from.now ≡ 512 }
         ensures bytes { self.new ≡ record self.old { bytes = written self.old.bytes block from.now } }
+        ensures image { image_of self.new.bytes ≡ put (image_of self.old.bytes) block from.now }
     {
         self.used = put_block(&mut self.bytes, self.used, block as usize, from);
     }

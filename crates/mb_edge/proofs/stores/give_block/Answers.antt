@@ -1,4 +1,4 @@
-use Rattle.std.proofs.Common.{ℕ, ◌<◌, ◌∙◌, ap, length, replicate, arith}
+use Rattle.std.proofs.Common.{ℕ, ◌<◌, ◌∙◌, arith}
 use Rattle.std.proofs.lemmas.List.Elements.{All-from_get_or}
 use Rattle.mb_edge.proofs.Writes.{gives_inside, gives_past}
 use Rattle.mb_edge.proofs.stores.give_block.Goals as goal
