@@ -1,0 +1,5 @@
+//! Pages of 512 bytes in rings.
+#![tactic(auto)]
+
+mod node;
+mod nodes;
