@@ -1,3 +1,4 @@
+pub mod Cells
 pub mod Crosses
 pub mod Boxed
 pub mod Mark

@@ -5,7 +5,7 @@ use Rattle.std.proofs.lemmas.Option.{none-some}
 use lib.Dec.{eqb_refl}
 use denote.RawPtr.{Ptr, block_ptr, null_ptr}
 use Rattle.mb_frames.specs.declared.node.Node.{Node}
-use Rattle.mb_frames.specs.Cells.{same_ptr, Cell, cell, is_at, node_at, put_node, places}
+use Rattle.mb_frames.specs.Cells.{same_ptr, has, Cell, cell, is_at, node_at, put_node, places}
 
 true_of : (b : Bool) → T b → b ≡ true
 true_of true t = refl
@@ -46,6 +46,7 @@ pub record Found (p : Ptr) (cs : List Cell) : Type 0 where
   pub got : (d : Node) → node_at p cs d ≡ here.node
 
 pub found : (p : Ptr) (cs : List Cell) → IsTrue (is_at p cs) → Found p cs
+unfolding has node_at put_node
 found p [] t = absurd (subst T (sym t) tt)
 found p (c ∷ cs) t = (elim (same_ptr c.at p) as (λ y. same_ptr c.at p ≡ y → Found p (c ∷ cs)) [
   | true ↦ λ e. record {
