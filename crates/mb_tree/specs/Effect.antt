@@ -23,16 +23,12 @@ pub record Held : Type 0 where
   pub tree : Tree
   pub opens : Counts
 
--- ---- counts
-
 abbrev pub hold : Counts → ℕ → Counts
 hold opens ino = λ other. if other == ino then opens other + 1 else opens other
 
 -- one open file less for each time that an inode's number stands in the list
 abbrev pub release : Counts → List ℕ → Counts
 release opens inos = λ other. opens other - count_by (nat_eq other) inos
-
--- ---- one inode
 
 -- content changed
 abbrev pub touched : ℕ → Node → Node
@@ -52,8 +48,6 @@ made mode nlink uid gid moment body = record { mode = mode; nlink = nlink; uid =
 -- the link count of the inode with a number, 0 where there is none
 abbrev pub nlink_in : Numbered Node → ℕ → ℕ
 nlink_in nodes ino = unwrap_or (option_map (λ (node : Node). node.nlink) (fin.get nodes ino)) 0
-
--- ---- slots
 
 abbrev pub on_slots : (List PlainSlot → List PlainSlot) → Body → Body
 on_slots f (Regular size parts) = Regular size parts
@@ -94,8 +88,6 @@ dot_dot = 46 ∷ 46 ∷ 0 ∷ 0 ∷ 0 ∷ 0 ∷ 0 ∷ 0 ∷ 0 ∷ 0 ∷ 0 ∷ 0 
 abbrev pub first_slots : ℕ → ℕ → List PlainSlot
 first_slots ino parent = (record { ino = ino; name = dot }) ∷ (record { ino = parent; name = dot_dot }) ∷ []
 
--- ---- bytes
-
 -- one byte put at its place, in a part that was zeros where it was missing
 abbrev pub put_byte : Numbered (List ℕ) → ℕ → ℕ → Numbered (List ℕ)
 put_byte parts index byte = fin.insert parts (index / 512) (slice_set (part_at parts (index / 512)) (index % 512) byte)
@@ -115,8 +107,6 @@ abbrev pub cleared : Body → Body
 cleared (Regular size parts) = Regular 0 fin.empty
 cleared (Directory slots) = Directory slots
 cleared (Special size area) = Special size area
-
--- ---- the tree
 
 -- refused where the files would hold more blocks than the volume has for them
 abbrev pub fitting : Tree → Numbered Node → Answer Tree
@@ -138,8 +128,6 @@ less_name nodes opens moment ino =
 -- released inodes dropped where they are nameless and not open any longer
 abbrev pub less_open : Numbered Node → Counts → List ℕ → Numbered Node
 less_open nodes opens inos = fin.retain_keys nodes (λ ino. not (list_any (nat_eq ino) inos && is_lost opens ino (fin.get nodes ino)))
-
--- ---- the operations
 
 -- a regular file with the picked number, which is held
 abbrev pub create : Tree → Counts → ℕ → List ℕ → ℕ → ℕ → ℕ → ℕ → Option ℕ → Answer Held

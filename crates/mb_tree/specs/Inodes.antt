@@ -62,8 +62,6 @@ bits_for cred stat =
 abbrev pub may : Cred → Stat → ℕ → Bool
 may cred stat wanted = cred.uid == 0 || bit_and (bits_for cred stat) wanted == wanted
 
--- ---- content
-
 -- a missing part reads as zeros
 abbrev pub part_at : Numbered (List ℕ) → ℕ → List ℕ
 part_at parts part = unwrap_or (fin.get parts part) zeros

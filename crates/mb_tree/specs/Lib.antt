@@ -1,5 +1,7 @@
 pub mod Answers
+pub mod Blocks
 pub mod Cells
+pub mod Chain
 pub mod Cost
 pub mod Counting
 pub mod Effect
@@ -9,7 +11,11 @@ pub mod Inodes
 pub mod Lookup
 pub mod Machines
 pub mod Maps
+pub mod Opening
+pub mod Places
 pub mod Rows
 pub mod Sessions
 pub mod Step
 pub mod Trees
+pub mod Views
+pub mod Volume

@@ -87,8 +87,6 @@ place_under nodes cred start (name ∷ names) = do
 abbrev pub find_place : Numbered Node → Cred → ℕ → List ℕ → Answer Placed
 find_place nodes cred cwd path = place_under nodes cred (start_of cwd path) (components path)
 
--- ---- directories
-
 -- the slots of a directory, where the inode is one
 abbrev pub slots_in : Numbered Node → ℕ → Option (List PlainSlot)
 slots_in nodes ino = option_and_then (λ (node : Node). slots_of node.body) (fin.get nodes ino)

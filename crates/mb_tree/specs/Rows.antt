@@ -33,8 +33,6 @@ use Rattle.mb_tree.specs.declared.seats.SessionChange.TheVariants.{Same, Fresh, 
 use Rattle.mb_tree.specs.declared.operations.FsOp.{FsOp}
 use Rattle.mb_tree.specs.declared.operations.FsOp.TheVariants as op
 
--- ---- plans
-
 -- a reply alone
 abbrev pub reply : Reply → Plan
 reply answer = record { reply = answer; op = None; session = Same }
@@ -51,8 +49,6 @@ act operation = record { reply = Num 0; op = Some operation; session = Same }
 abbrev pub both : ℕ → FsOp → SessionChange → Plan
 both number operation change = record { reply = Num number; op = Some operation; session = change }
 
--- ---- open(2)
-
 -- the permission bits that a direction wants
 abbrev pub bits_of : How → ℕ
 bits_of how = (if reads how then 4 else 0) + (if writes how then 2 else 0)
@@ -65,8 +61,6 @@ open_row nodes seat path how = do
   need (not (is_special stat.mode)) ENXIO
   fd ← some (free_descriptor seat) EMFILE
   Ok (both fd (op.Hold stat.ino) (Fresh fd stat.ino how))
-
--- ---- creat(2)
 
 -- the nine permission bits without those of the mask; V7 keeps the set-id bits too
 abbrev pub masked : ℕ → Seat → ℕ
@@ -99,8 +93,6 @@ abbrev pub creat_row : Numbered Node → Seat → List ℕ → ℕ → ℕ → O
 creat_row nodes seat path mode moment pick = do
   placed ← find_place nodes seat.cred seat.cwd path
   creat_at nodes seat mode moment pick placed
-
--- ---- close(2), read(2), write(2), lseek(2), dup(2)
 
 -- the open file is released with its last descriptor
 abbrev pub close_row : Seat → ℕ → Answer Plan
@@ -158,8 +150,6 @@ dup_row seat fd = do
   to ← some (free_descriptor seat) EMFILE
   Ok (seated (Num to) (Twin fd to))
 
--- ---- link(2), unlink(2)
-
 abbrev pub link_at : Numbered Node → Seat → ℕ → ℕ → Placed → Answer Plan
 link_at nodes seat moment ino (Itself other) = Err EEXIST
 link_at nodes seat moment ino (At dir name (Some other)) = Err EEXIST
@@ -192,8 +182,6 @@ abbrev pub unlink_row : Numbered Node → Seat → List ℕ → ℕ → Answer P
 unlink_row nodes seat path moment = do
   placed ← find_place nodes seat.cred seat.cwd path
   unlink_at nodes seat moment placed
-
--- ---- mkdir(1), rmdir(1), chdir(2)
 
 abbrev pub mkdir_at : Numbered Node → Seat → ℕ → ℕ → Placed → Answer Plan
 mkdir_at nodes seat mode moment (Itself ino) = Err EEXIST
@@ -243,8 +231,6 @@ chdir_row nodes seat path = do
   need (may seat.cred stat 1) EACCES
   Ok (seated (Num 0) (Cwd stat.ino))
 
--- ---- stat(2), chmod(2), chown(2), utime(2), access(2)
-
 abbrev pub stat_row : Numbered Node → Seat → List ℕ → Answer Plan
 stat_row nodes seat path = do
   stat ← find_path nodes seat.cred seat.cwd path
@@ -287,8 +273,6 @@ access_row nodes seat path bits = do
   need (may seat.cred stat bits) EACCES
   Ok (reply (Num 0))
 
--- ---- umask(2), sync(2), exit(2)
-
 abbrev pub umask_row : Seat → ℕ → Answer Plan
 umask_row seat mask = Ok (seated (Num seat.umask) (Mask (bit_and mask 0x1FF)))
 
@@ -302,8 +286,6 @@ exited (ino ∷ inos) = both 0 (op.Release (ino ∷ inos)) Clear
 
 abbrev pub exit_row : Seat → Answer Plan
 exit_row seat = Ok (exited (inos_of seat))
-
--- ---- the table
 
 abbrev pub row : Numbered Node → List Seat → Seat → Call → ℕ → Option ℕ → Answer Plan
 row nodes seats seat (call.Open path how) moment pick = open_row nodes seat path how

@@ -48,8 +48,6 @@ is_shared seat fd = unwrap_or (option_map (has_place (fin.remove seat.fds fd)) (
 abbrev pub inos_of : Seat → List ℕ
 inos_of seat = map (λ (file : PlainFile). file.ino) (fin.values seat.files)
 
--- ---- session changes
-
 -- a descriptor on a new open file
 abbrev pub opened : Seat → ℕ → PlainFile → Option ℕ → Seat
 opened seat fd file None = seat
@@ -86,8 +84,6 @@ changed seat Clear = record seat { fds = fin.empty; files = fin.empty }
 -- one caller's session changed, the others' as they were
 abbrev pub with_change : List Seat → ℕ → SessionChange → List Seat
 with_change seats caller change = unwrap_or (option_map (λ seat. slice_set seats caller (changed seat change)) (slice_get seats caller)) seats
-
--- ---- counts of open files
 
 -- for each inode, how many open files there are on it
 abbrev pub Counts : Type 0

@@ -32,8 +32,6 @@ or_refused machine (Err e) = (Refused e, machine)
 abbrev pub step : Machine → ℕ → Call → ℕ → Option ℕ → Reply × Machine
 step machine caller call moment pick = or_refused machine (serve machine caller call moment pick)
 
--- ---- picks
-
 -- a number that a new inode may get; inode 1 and the root are never picked
 pub record IsFree (tree : Tree) (ino : ℕ) : Type 0 where
   pub above : 3 ≤ ino

@@ -15,8 +15,6 @@ use Rattle.mb_tree.specs.declared.nodes.Body.{Body}
 use Rattle.mb_tree.specs.declared.nodes.Body.TheVariants.{Regular, Directory, Special}
 use Rattle.mb_tree.specs.declared.trees.Tree.{Tree}
 
--- ---- single inodes
-
 pub record IsThere (nodes : Numbered Node) (ino : ℕ) : Type 0 where
   pub node : Node
   pub has : fin.get nodes ino ≡ Some node
@@ -46,8 +44,6 @@ HasSize (Regular size parts) = (size ≤ 1082201088) × ((part : ℕ) (bytes : L
 HasSize (Directory slots) = 2 ≤ length slots
 HasSize (Special size area) = Unit {0}
 
--- ---- names
-
 -- a component's 14 bytes: not empty, without a slash, padded with 0
 pub record IsName (name : List ℕ) : Type 0 where
   pub full : length name ≡ 14
@@ -74,8 +70,6 @@ pub record AreSlots (nodes : Numbered Node) (ino : ℕ) (slots : List PlainSlot)
   -- names are names, and each stands once
   pub names : (at : ℕ) (slot : PlainSlot) → IsUsedAt slots at slot → IsName slot.name
   pub distinct : (at other : ℕ) (slot twin : PlainSlot) → IsUsedAt slots at slot → IsUsedAt slots other twin → slot.name ≡ twin.name → at ≡ other
-
--- ---- links
 
 abbrev pub leads_to : ℕ → PlainSlot → Bool
 leads_to ino slot = slot.ino == ino
@@ -140,8 +134,6 @@ pub record IsRoot (tree : Tree) : Type 0 where
   pub body : node.body ≡ Directory slots
   pub upward : slice_get slots 1 ≡ Some (record { ino = 2; name = dot_dot })
   pub top : late_links tree 2 ≡ 0
-
--- ---- the tree
 
 abbrev pub Each : Tree → (ℕ → Node → Type 0) → Type 0
 Each tree P = (ino : ℕ) (node : Node) → fin.get tree.nodes ino ≡ Some node → P ino node
