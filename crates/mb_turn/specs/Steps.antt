@@ -1,0 +1,48 @@
+-- What each kind of step tells the pass that makes it, and how a view is cut in two and two are made one.
+-- Each is said of every sight that the seat has, which for a pass is one.
+use Rattle.std.specs.Prelude.{◌≡◌, ◌≢◌, ℕ, false, List, [], ◌∷◌, ◌++◌, Option, Some, IfSome}
+use Rattle.atomic_table.specs.Table.{Me}
+use Rattle.mb_kinds.specs.declared.Entry.{Entry}
+use Rattle.mb_kinds.specs.declared.Stand.{Stand}
+use Rattle.mb_turn.specs.Passes.{Each, Follows}
+use Rattle.mb_turn.specs.Rule.{free, held}
+use Rattle.mb_turn.specs.declared.sight.Sight.{Sight}
+use Rattle.mb_turn.specs.declared.sight.View.{View}
+
+module _ {T Origin : Type 0} (list : T → List Entry) (stand : T → ℕ → Option Stand) (origin : T → Origin) where
+  -- the turn was free, and the seat has it, with a value that follows what was seen; or nothing changed
+  abbrev pub took : Me (Option T) (View T) → ℕ → Me (Option T) (View T) → Type 0
+  took before word after =
+      Each (λ (x : Sight T). word ≡ 0 → (value : T) × Follows list stand origin x.caller x.value value × (after ≡ (held x.caller value, (0, Some value) ∷ []))) before.0.sights
+      × (word ≢ 0 → after ≡ before)
+
+module _ {T : Type 0} where
+  -- the seat has seen the value that lies in the slot it has
+  abbrev pub published : Me (Option T) (View T) → Me (Option T) (View T) → Type 0
+  published before after = Each (λ (x : Sight T). Each (λ (y : ℕ × Option T). IfSome y.1 (λ value. after ≡ (held x.caller value, before.1))) before.1) before.0.sights
+
+  -- the seat has neither the turn nor the slot
+  abbrev pub given : Me (Option T) (View T) → Me (Option T) (View T) → Type 0
+  given before after = Each (λ (x : Sight T). after ≡ (free x.caller x.value, [])) before.0.sights
+
+  abbrev pub head_sights : List (Sight T) → List (Sight T)
+  head_sights [] = []
+  head_sights (x ∷ xs) = x ∷ []
+
+  abbrev pub tail_sights : List (Sight T) → List (Sight T)
+  tail_sights [] = []
+  tail_sights (x ∷ xs) = xs
+
+  -- the first sight, and the others
+  abbrev pub head_of : View T → View T
+  head_of v = record { sights = head_sights v.sights; holds = false }
+
+  abbrev pub tail_of : View T → View T
+  tail_of v = record { sights = tail_sights v.sights; holds = false }
+
+  -- the sights of both, and no sight
+  abbrev pub both_of : View T → View T → View T
+  both_of v w = record { sights = v.sights ++ w.sights; holds = false }
+
+  abbrev pub blank : View T
+  blank = record { sights = []; holds = false }
