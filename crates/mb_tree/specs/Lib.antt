@@ -3,12 +3,14 @@ pub mod Cells
 pub mod Cost
 pub mod Counting
 pub mod Effect
+pub mod Filled
 pub mod Fits
 pub mod History
 pub mod Inodes
 pub mod Lookup
 pub mod Machines
 pub mod Maps
+pub mod Results
 pub mod Rows
 pub mod Sessions
 pub mod Step
