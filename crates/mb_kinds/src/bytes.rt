@@ -1,6 +1,7 @@
-ghost use Rattle.std.specs.Prelude.{◌≡◌};
+ghost use Rattle.std.specs.Prelude.{◌≡◌, IfOk};
 ghost use Rattle.mb_kinds.specs.Texts.{AreOctets, IsPath};
 
+use std::alloc::{AllocError, Global};
 use std::marker::Model;
 
 /// A directory entry's name: 14 bytes, padded with 0 (V7 dir(5)).
@@ -47,6 +48,14 @@ impl Octets {
         ensures bound { AreOctets self.now }
     {
         &self.bytes
+    }
+
+    /// A copy. The only error is want of memory.
+    pub fn copied(&self, alloc: Global) -> Result<Octets, AllocError>
+        ensures { IfOk result (λ copy. copy ≡ self.now) }
+    {
+        let bytes = Vec::from_slice(alloc, &self.bytes)?;
+        Ok(Octets { bytes })
     }
 }
 
@@ -105,6 +114,14 @@ impl Path {
         ensures path { IsPath self.now }
     {
         &self.bytes
+    }
+
+    /// A copy. The only error is want of memory.
+    pub fn copied(&self, alloc: Global) -> Result<Path, AllocError>
+        ensures { IfOk result (λ copy. copy ≡ self.now) }
+    {
+        let bytes = Vec::from_slice(alloc, &self.bytes)?;
+        Ok(Path { bytes })
     }
 }
 

@@ -1,4 +1,7 @@
+ghost use Rattle.std.specs.Prelude.{◌≡◌, IfOk};
+
 use crate::bytes::{Octets, Path};
+use std::alloc::{AllocError, Global};
 
 /// The directions in which a file is opened (V7 open(2)).
 #[derive(Clone, Copy, Debug, PartialEq, Eq, Drop)]
@@ -93,4 +96,80 @@ pub enum Call {
     },
     Sync,
     Exit,
+}
+
+impl Call {
+    /// A copy. The only error is want of memory.
+    pub fn copied(&self, alloc: Global) -> Result<Call, AllocError>
+        ensures { IfOk result (λ copy. copy ≡ self.now) }
+    {
+        let copy = match self {
+            Call::Open { path, how } => Call::Open {
+                path: path.copied(alloc)?,
+                how: *how,
+            },
+            Call::Creat { path, mode } => Call::Creat {
+                path: path.copied(alloc)?,
+                mode: *mode,
+            },
+            Call::Close { fd } => Call::Close { fd: *fd },
+            Call::Read { fd, count } => Call::Read {
+                fd: *fd,
+                count: *count,
+            },
+            Call::Write { fd, bytes } => Call::Write {
+                fd: *fd,
+                bytes: bytes.copied(alloc)?,
+            },
+            Call::Lseek { fd, offset, whence } => Call::Lseek {
+                fd: *fd,
+                offset: *offset,
+                whence: *whence,
+            },
+            Call::Dup { fd } => Call::Dup { fd: *fd },
+            Call::Link { from, to } => Call::Link {
+                from: from.copied(alloc)?,
+                to: to.copied(alloc)?,
+            },
+            Call::Unlink { path } => Call::Unlink {
+                path: path.copied(alloc)?,
+            },
+            Call::Mkdir { path, mode } => Call::Mkdir {
+                path: path.copied(alloc)?,
+                mode: *mode,
+            },
+            Call::Rmdir { path } => Call::Rmdir {
+                path: path.copied(alloc)?,
+            },
+            Call::Chdir { path } => Call::Chdir {
+                path: path.copied(alloc)?,
+            },
+            Call::Stat { path } => Call::Stat {
+                path: path.copied(alloc)?,
+            },
+            Call::Fstat { fd } => Call::Fstat { fd: *fd },
+            Call::Chmod { path, mode } => Call::Chmod {
+                path: path.copied(alloc)?,
+                mode: *mode,
+            },
+            Call::Chown { path, uid, gid } => Call::Chown {
+                path: path.copied(alloc)?,
+                uid: *uid,
+                gid: *gid,
+            },
+            Call::Utime { path, atime, mtime } => Call::Utime {
+                path: path.copied(alloc)?,
+                atime: *atime,
+                mtime: *mtime,
+            },
+            Call::Access { path, bits } => Call::Access {
+                path: path.copied(alloc)?,
+                bits: *bits,
+            },
+            Call::Umask { mask } => Call::Umask { mask: *mask },
+            Call::Sync => Call::Sync,
+            Call::Exit => Call::Exit,
+        };
+        Ok(copy)
+    }
 }

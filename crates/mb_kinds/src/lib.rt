@@ -15,6 +15,8 @@ mod faults;
 mod laws;
 mod replies;
 mod sequence;
+#[cfg(test)]
+mod tests;
 
 pub use bytes::{Name, Octets, Path};
 pub use calls::{Call, How, Whence};

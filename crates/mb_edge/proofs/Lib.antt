@@ -1,0 +1,4 @@
+pub mod BlockParts
+pub mod Fronts
+pub mod Images
+pub mod Writes

@@ -1,0 +1,5 @@
+pub mod Blocks
+pub mod Causes
+pub mod Memory
+pub mod Schedule
+pub mod Transfers

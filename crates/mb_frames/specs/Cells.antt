@@ -1,0 +1,89 @@
+-- The nodes as the proofs see them: each with the place where it lies.
+use Rattle.std.specs.Prelude.{◌≡◌, ℕ, Bool, true, false, ◌&&◌, ◌||◌, ◌==◌, cond, List, [], ◌∷◌, map}
+use Rattle.std.specs.List.{AllByRecursion}
+use denote.RawPtr.{Ptr, block_ptr, null_ptr}
+use Rattle.mb_frames.specs.declared.node.Node.{Node}
+
+-- whether two pointers are the same
+abbrev pub same_ptr : Ptr → Ptr → Bool
+same_ptr (block_ptr b o) (block_ptr c p) = (b == c) && (o == p)
+same_ptr (block_ptr b o) null_ptr = false
+same_ptr null_ptr (block_ptr c p) = false
+same_ptr null_ptr null_ptr = true
+
+pub record Cell : Type 0 where
+  pub at : Ptr
+  pub node : Node
+
+abbrev pub cell : Ptr → Node → Cell
+cell p n = record { at = p; node = n }
+
+abbrev pub places : List Cell → List Ptr
+places = map (λ c. c.at)
+
+-- no pointer of the list is p
+abbrev pub IsFresh : Ptr → List Ptr → Type 0
+IsFresh p = AllByRecursion (λ q. same_ptr p q ≡ false)
+
+-- whether p is in the list
+unfoldable pub has : Ptr → List Ptr → Bool
+has p [] = false
+has p (q ∷ qs) = same_ptr q p || has p qs
+
+-- whether a node lies at p
+abbrev pub is_at : Ptr → List Cell → Bool
+is_at p cs = has p (places cs)
+
+-- the node at p, or else the given one
+unfoldable pub node_at : Ptr → List Cell → Node → Node
+node_at p [] d = d
+node_at p (c ∷ cs) d = cond (same_ptr c.at p) c.node (node_at p cs d)
+
+-- the cells with w as the node at p
+unfoldable pub put_node : Ptr → Node → List Cell → List Cell
+put_node p w [] = []
+put_node p w (c ∷ cs) = cond (same_ptr c.at p) (cell c.at w ∷ cs) (c ∷ put_node p w cs)
+
+-- what f reads of the node at p, or else d
+unfoldable pub read : {X : Type 0} → (Node → X) → X → List Cell → Ptr → X
+read f d [] p = d
+read f d (c ∷ cs) p = cond (same_ptr c.at p) (f c.node) (read f d cs p)
+
+abbrev pub next_at : List Cell → Ptr → Ptr
+next_at cs p = read (λ n. n.next.ptr) p cs p
+
+abbrev pub prev_at : List Cell → Ptr → Ptr
+prev_at cs p = read (λ n. n.prev.ptr) p cs p
+
+abbrev pub head_at : List Cell → Ptr → Bool
+head_at cs p = read (λ n. n.is_head) true cs p
+
+abbrev pub bytes_at : List Cell → Ptr → List ℕ
+bytes_at cs p = read (λ n. n.bytes) [] cs p
+
+-- what a change of the cells leaves
+pub record Keeps (old new : List Cell) : Type 0 where
+  pub places : places new ≡ places old
+  pub heads : (q : Ptr) → head_at new q ≡ head_at old q
+
+-- a's link forward was set to b, and b's link back to a
+pub record Links (old new : List Cell) (a b : Ptr) : Type 0 where
+  pub keeps : Keeps old new
+  pub bytes : (q : Ptr) → bytes_at new q ≡ bytes_at old q
+  pub next : (q : Ptr) → next_at new q ≡ cond (same_ptr a q) b (next_at old q)
+  pub prev : (q : Ptr) → prev_at new q ≡ cond (same_ptr b q) a (prev_at old q)
+
+-- the run from first to last was taken out, and linked in before target
+pub record Moves (old new : List Cell) (first last target : Ptr) : Type 0 where
+  pub one : List Cell
+  pub two : List Cell
+  pub closes : Links old one (prev_at old first) (next_at old last)
+  pub begins : Links one two (prev_at old target) first
+  pub ends : Links two new last target
+
+-- the node at p holds other bytes
+pub record Writes (old new : List Cell) (p : Ptr) (content : List ℕ) : Type 0 where
+  pub keeps : Keeps old new
+  pub bytes : (q : Ptr) → bytes_at new q ≡ cond (same_ptr p q) content (bytes_at old q)
+  pub next : (q : Ptr) → next_at new q ≡ next_at old q
+  pub prev : (q : Ptr) → prev_at new q ≡ prev_at old q

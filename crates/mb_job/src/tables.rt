@@ -1,0 +1,65 @@
+ghost use Rattle.std.specs.Prelude.{◌≡◌, IfOk, Option, option_map, List, ℕ, Some, None, Vec};
+ghost use Rattle.toml.specs.View.{table_view, view, array_view};
+ghost use Rattle.mb_job.specs.CallTexts.{calls_in};
+ghost use Rattle.mb_job.specs.Job.{call_texts, texts_in, texts_of};
+
+use crate::jobs::JobCall;
+use crate::texts::Text;
+use crate::verbs::call_of;
+use std::alloc::{AllocError, Global};
+use toml::value::Array;
+use toml::{Table, Value};
+
+/// The texts of an array, or `None` where it holds something else.
+fn texts_of_array(alloc: Global, array: &Array) -> Result<Option<Vec<Text>>, AllocError>
+    ensures { IfOk result (λ found. option_map (λ texts. texts.items) found ≡ texts_of (array_view array.now)) }
+{
+    let mut texts = Vec::new(alloc);
+    'values: for value in array {
+        match value.as_str() {
+            Some(text) => texts.push(Text::from_vec(text.as_bytes().to_vec(alloc)?))?,
+            None => return Ok(None),
+        }
+    }
+    Ok(Some(texts))
+}
+
+/// The texts of a value that is an array of texts, or `None` where it is none.
+fn texts_of_value(alloc: Global, value: &Value) -> Result<Option<Vec<Text>>, AllocError>
+    ensures { IfOk result (λ found. option_map (λ texts. texts.items) found ≡ texts_in (view value.now)) }
+{
+    match value.as_array() {
+        Some(array) => texts_of_array(alloc, array),
+        None => Ok(None),
+    }
+}
+
+/// The texts of a table whose one key is `calls`, an array of texts; `None` for every other table.
+pub(crate) fn texts_of_table(alloc: Global, table: &Table) -> Result<Option<Vec<Text>>, AllocError>
+    ensures { IfOk result (λ found. option_map (λ texts. texts.items) found ≡ call_texts (table_view table.now)) }
+{
+    if table.len() != 1 {
+        return Ok(None);
+    }
+    match table.get("calls") {
+        Some(value) => texts_of_value(alloc, value),
+        None => Ok(None),
+    }
+}
+
+/// The calls that a list of texts writes, or `None` where one of them writes none.
+pub(crate) fn calls_of_texts(
+    alloc: Global,
+    texts: &[Text],
+) -> Result<Option<Vec<JobCall>>, AllocError>
+    ensures { IfOk result (λ found. option_map (λ calls. calls.items) found ≡ calls_in texts.now) }
+{
+    let mut calls = Vec::new(alloc);
+    'texts: for text in texts {
+        match call_of(alloc, text.as_slice())? {
+            Some(call) => calls.push(call)?,
+            None => return Ok(None),
+        }
+    }
+    Ok(Some(calls))
+}
