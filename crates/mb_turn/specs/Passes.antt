@@ -51,6 +51,10 @@ module _ {T : Type 0} where
   abbrev pub found : (T → ℕ → Option Stand) → Known T → ℕ → Option Stand
   found stand pass = stand pass.value
 
+  -- a pass of that table's turn which has not the turn
+  abbrev pub IsIdle : TableId → Known T → Type 0
+  IsIdle table pass = (pass.table ≡ table) × (pass.holds ≡ false)
+
   -- one pass for each caller from 0 on, in order, which has seen the value
   abbrev pub dealt : TableId → ℕ → T → List (Known T)
   dealt table callers value = map (λ caller. known table caller value false) (range_with_len 0 callers)

@@ -1,6 +1,6 @@
 ghost use Rattle.std.specs.Prelude.{◌≡◌, ◌+◌, if◌then◌else◌, false, [], length, None, Some};
 ghost use Rattle.std.specs.List.{AllZip};
-ghost use Rattle.mb_turn.specs.Passes.{Each, mine};
+ghost use Rattle.mb_turn.specs.Passes.{Each, IsIdle, mine};
 
 use crate::{Booked, Errand, Pass, Passes, Turn, each};
 use mb_kinds::{Call, Entry, Reply, Seq};
@@ -54,8 +54,9 @@ struct Hundred;
 // Takes the turn, adds an entry of the pass's caller and gives the turn back. It says whether there
 // was memory for the entry.
 fn add_one<R: Wait>(rt: &R, turn: &Turn<Book>, pass: &mut Pass<Book>, ordinal: u32) -> bool
-    requires { (pass.old.table ≡ turn.now.table) × (pass.old.holds ≡ false) }
-    ensures pass { (pass.new.table ≡ pass.old.table) × (pass.new.caller ≡ pass.old.caller) × (pass.new.holds ≡ false) }
+    requires { IsIdle turn.now.table pass.old }
+    ensures idle { IsIdle turn.now.table pass.new }
+    ensures caller { pass.new.caller ≡ pass.old.caller }
     ensures mine { length (mine (λ book. book.entries) pass.new) ≡ length (mine (λ book. book.entries) pass.old) + (if result then 1 else 0) }
 {
     let mut book = turn.take(rt, pass);
@@ -73,9 +74,9 @@ fn add_one<R: Wait>(rt: &R, turn: &Turn<Book>, pass: &mut Pass<Book>, ordinal: u
 }
 
 impl Errand<Turn<Book>, Worker> for Hundred {
-    ghost asks = { λ turn worker. (worker.pass.table ≡ turn.table) × (worker.pass.holds ≡ false) × (worker.added ≡ 0) };
+    ghost asks = { λ turn worker. IsIdle turn.table worker.pass × (worker.added ≡ 0) };
 
-    ghost gives = { λ turn before after. (after.pass.table ≡ turn.table) × (after.pass.holds ≡ false) × (after.pass.caller ≡ before.pass.caller) × (length (mine (λ book. book.entries) after.pass) ≡ length (mine (λ book. book.entries) before.pass) + after.added) };
+    ghost gives = { λ turn before after. IsIdle turn.table after.pass × (after.pass.caller ≡ before.pass.caller) × (length (mine (λ book. book.entries) after.pass) ≡ length (mine (λ book. book.entries) before.pass) + after.added) };
 
     fn run<R: Wait>(&self, rt: &R, shared: &Turn<Book>, own: Worker) -> Worker {
         let Worker { mut pass, added: _ } = own;
