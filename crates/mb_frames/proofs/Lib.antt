@@ -1,7 +1,10 @@
 pub mod Cells
+pub mod Chains
 pub mod Crosses
 pub mod Boxed
 pub mod Mark
 pub mod Memory
 pub mod Pointers
+pub mod Runs
 pub mod Sharing
+pub mod Sums

@@ -1,3 +1,4 @@
 pub mod Cells
 pub mod Lends
 pub mod Ownership
+pub mod Shape
