@@ -6,5 +6,6 @@ pub mod Mark
 pub mod Memory
 pub mod Pointers
 pub mod Runs
+pub mod Shapes
 pub mod Sharing
 pub mod Sums

@@ -165,3 +165,27 @@ module _ (h : Ptr) (xs : List Ptr) (u : Ptr) (us ys : List Ptr) (t : Ptr) (ts : 
           kept_round n2 p2 n3 p3 (last u us) t three_ row (in_from (last u us) (omega (arith, times_last u us))) (none t (omega (arith, times_cons t t ts, one_self t)))
           (kept_round n1 p1 n2 p2 (last t ts) u r2 row (none (last t ts) (omega (arith, times_last t ts))) (in_from u (omega (arith, times_cons u u us, one_self u)))
           (kept_round n0 p0 n1 p1 (last h xs) o.z r1 row (in_from (last h xs) (omega (arith, times_last h xs, times_cons (last h xs) h xs))) (in_from o.z (omega (arith, opened_times o.z, times_cons o.z o.z o.zs, one_self o.z))) r))
+
+    -- the neighbours of the run and the other row's last, which the three links name
+    module _ (n p : Ptr → Ptr) (R : Round n p from_row) (S : Round n p (t ∷ ts)) where
+      pub left_is : p u ≡ last h xs
+      left_is = (parts n p R).1.1
+
+      pub right_in_row : 1 ≤ times (n (last u us)) from_row
+      right_in_row =
+          let q = o.z in let at : n (last u us) ≡ q = (parts n p R).2.0 in
+          let m : 1 ≤ times q (h ∷ (xs ++ ((u ∷ us) ++ ys))) = omega (arith, opened_times q, times_cons q o.z o.zs, one_self q, times_cons q h (xs ++ ((u ∷ us) ++ ys)), times_append q xs ((u ∷ us) ++ ys), times_append q (u ∷ us) ys) in
+          subst (λ k. 1 ≤ times k from_row) (sym at) m
+
+      pub left_in_row : 1 ≤ times (p u) from_row
+      left_in_row =
+          let q = last h xs in
+          let m : 1 ≤ times q (h ∷ (xs ++ ((u ∷ us) ++ ys))) = omega (arith, times_last h xs, times_cons q h xs, times_cons q h (xs ++ ((u ∷ us) ++ ys)), times_append q xs ((u ∷ us) ++ ys)) in
+          subst (λ k. 1 ≤ times k from_row) (sym left_is) m
+
+      pub tail_in_row : 1 ≤ times (p t) (t ∷ ts)
+      tail_in_row = subst (λ k. 1 ≤ times k (t ∷ ts)) (sym (cut_chain n p t ts (t ∷ []) S).1.1) (times_last t ts)
+
+  pub run_in_row : (q : Ptr) → 1 ≤ times q (u ∷ us) → 1 ≤ times q from_row
+  run_in_row q w =
+      let m : 1 ≤ times q (h ∷ (xs ++ ((u ∷ us) ++ ys))) = omega (arith, w, times_cons q h (xs ++ ((u ∷ us) ++ ys)), times_append q xs ((u ∷ us) ++ ys), times_append q (u ∷ us) ys) in m
