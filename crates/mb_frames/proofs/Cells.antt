@@ -4,7 +4,8 @@ use Rattle.std.specs.Prelude.{IsTrue}
 use denote.RawPtr.{Ptr}
 use Rattle.mb_frames.specs.declared.node.Node.{Node}
 use Rattle.mb_frames.specs.declared.node.NodePtr.{NodePtr}
-use Rattle.mb_frames.specs.Cells.{same_ptr, has, Cell, cell, is_at, node_at, put_node, places, read, next_at, prev_at, head_at, bytes_at, Keeps, Links, Writes}
+use Rattle.mb_frames.specs.Pointers.{same_ptr}
+use Rattle.mb_frames.specs.Cells.{has, Cell, cell, is_at, node_at, put_node, places, read, next_at, prev_at, head_at, bytes_at, Keeps, Links, Writes}
 use Rattle.mb_frames.proofs.Pointers.{same_ptr_refl, same_ptr_eq}
 
 module _ {X : Type 0} (f : Node → X) where

@@ -23,7 +23,8 @@ use Rattle.std_alloc.proofs.RcSteps.{word}
 use denote.Memory.{part_at, cell_at}
 use denote.RawPtr.{Ptr, block_ptr, null_ptr, lies_at}
 use denote.Struct.Lending.{lent_at}
-use Rattle.mb_frames.specs.Cells.{same_ptr, Cell, places, IsFresh}
+use Rattle.mb_frames.specs.Pointers.{same_ptr}
+use Rattle.mb_frames.specs.Cells.{Cell, places, IsFresh}
 use Rattle.mb_frames.specs.Ownership.{cell_owns, cells_own, cells_lent}
 use Rattle.mb_frames.specs.contracts.node.Node.{the_row as R}
 use Rattle.mb_frames.proofs.Pointers.{same_ptr_eq}

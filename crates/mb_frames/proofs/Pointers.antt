@@ -5,7 +5,8 @@ use Rattle.std.proofs.lemmas.Option.{none-some}
 use lib.Dec.{eqb_refl}
 use denote.RawPtr.{Ptr, block_ptr, null_ptr}
 use Rattle.mb_frames.specs.declared.node.Node.{Node}
-use Rattle.mb_frames.specs.Cells.{same_ptr, has, Cell, cell, is_at, node_at, put_node, places}
+use Rattle.mb_frames.specs.Pointers.{same_ptr}
+use Rattle.mb_frames.specs.Cells.{has, Cell, cell, is_at, node_at, put_node, places}
 
 true_of : (b : Bool) → T b → b ≡ true
 true_of true t = refl

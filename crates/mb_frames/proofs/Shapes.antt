@@ -4,8 +4,10 @@ use Rattle.std.specs.Prelude.{◌≢◌, IsTrue}
 use Rattle.std.specs.List.{AllByRecursion}
 use Rattle.std.proofs.lemmas.Bool.Decides.{eqb_tells}
 use denote.RawPtr.{Ptr}
-use Rattle.mb_frames.specs.Cells.{same_ptr, Cell, is_at, next_at, prev_at, head_at, bytes_at, places, Keeps, Links, Moves, Writes}
-use Rattle.mb_frames.specs.Shape.{times, total, Linked, Round, Headed, Shaped}
+use Rattle.mb_frames.specs.Pointers.{same_ptr}
+use Rattle.mb_frames.specs.Cells.{Cell, is_at, next_at, prev_at, head_at, bytes_at, places, Keeps, Links, Moves, Writes}
+use Rattle.mb_frames.specs.Counts.{times, total}
+use Rattle.mb_frames.specs.Shape.{Linked, Round, Headed, Shaped}
 use Rattle.mb_frames.proofs.Cells.{is_kept}
 use Rattle.mb_frames.proofs.Sums.{total_at, total_set, total_two}
 use Rattle.mb_frames.proofs.Chains.{last, one, one_self, times_none, times_cons, times_append, times_last, Relinks}

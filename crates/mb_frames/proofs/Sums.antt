@@ -1,7 +1,7 @@
 -- Sums over a list, of which one term changes.
 use Rattle.std.proofs.Common.{◌≡◌, ℕ, zero, suc, ◌+◌, ◌<◌, ◌≤◌, List, [], ◌∷◌, ◌++◌, length, get_or, set, map, refl, sym, ap, ◌∙◌, arith}
 use Rattle.std.specs.Prelude.{◌≢◌}
-use Rattle.mb_frames.specs.Shape.{total}
+use Rattle.mb_frames.specs.Counts.{total}
 
 module _ {X : Type 0} (f : X → ℕ) (d : X) where
   pub total_at : (xs : List X) (i : ℕ) → i < length xs → f (get_or xs i d) ≤ total f xs

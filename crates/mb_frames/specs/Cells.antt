@@ -1,15 +1,9 @@
 -- The nodes as the proofs see them: each with the place where it lies.
-use Rattle.std.specs.Prelude.{◌≡◌, ℕ, Bool, true, false, ◌&&◌, ◌||◌, ◌==◌, cond, List, [], ◌∷◌, map}
+use Rattle.std.specs.Prelude.{◌≡◌, ℕ, Bool, true, false, ◌||◌, cond, List, [], ◌∷◌, map}
 use Rattle.std.specs.List.{AllByRecursion}
-use denote.RawPtr.{Ptr, block_ptr, null_ptr}
+use denote.RawPtr.{Ptr}
+use Rattle.mb_frames.specs.Pointers.{same_ptr}
 use Rattle.mb_frames.specs.declared.node.Node.{Node}
-
--- whether two pointers are the same
-abbrev pub same_ptr : Ptr → Ptr → Bool
-same_ptr (block_ptr b o) (block_ptr c p) = (b == c) && (o == p)
-same_ptr (block_ptr b o) null_ptr = false
-same_ptr null_ptr (block_ptr c p) = false
-same_ptr null_ptr null_ptr = true
 
 pub record Cell : Type 0 where
   pub at : Ptr

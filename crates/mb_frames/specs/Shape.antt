@@ -2,16 +2,8 @@
 use Rattle.std.specs.Prelude.{◌≡◌, ℕ, zero, suc, ◌+◌, ◌<◌, ◌≤◌, Bool, true, false, cond, List, [], ◌∷◌, ◌++◌, length, map, get_or, IsTrue, ⊤}
 use Rattle.std.specs.List.{AllByRecursion}
 use denote.RawPtr.{Ptr, null_ptr}
-use Rattle.mb_frames.specs.Cells.{same_ptr, Cell, is_at, next_at, prev_at, head_at}
-
-unfoldable pub total : {X : Type 0} → (X → ℕ) → List X → ℕ
-total f [] = 0
-total f (x ∷ xs) = f x + total f xs
-
--- how often q stands in the list
-unfoldable pub times : Ptr → List Ptr → ℕ
-times q [] = 0
-times q (p ∷ ps) = cond (same_ptr p q) 1 0 + times q ps
+use Rattle.mb_frames.specs.Counts.{total, times}
+use Rattle.mb_frames.specs.Cells.{Cell, is_at, next_at, prev_at, head_at}
 
 -- from a on, each link goes to the next of the list, and that one's link back
 abbrev pub Linked : (Ptr → Ptr) → (Ptr → Ptr) → Ptr → List Ptr → Type 0
