@@ -4,8 +4,10 @@ pub mod Crosses
 pub mod Boxed
 pub mod Mark
 pub mod Memory
+pub mod Pages
 pub mod Pointers
 pub mod Runs
 pub mod Shapes
 pub mod Sharing
 pub mod Sums
+pub mod Views

@@ -1,5 +1,5 @@
 -- The rings as callers see them: lists of pages.
-use Rattle.std.specs.Prelude.{◌≡◌, ℕ, ◌+◌, Bool, cond, ltb, List, [], ◌∷◌, ◌++◌, length, map, get_or, slice_set}
+use Rattle.std.specs.Prelude.{◌≡◌, ℕ, zero, suc, ◌+◌, Bool, true, false, cond, List, [], ◌∷◌, ◌++◌, length, map, get_or, slice_set}
 use denote.RawPtr.{Ptr}
 use Rattle.mb_frames.specs.Pointers.{same_ptr}
 use Rattle.mb_frames.specs.Counts.{total, times}
@@ -43,9 +43,14 @@ unfoldable pub bytes_in : Ptr → List Page → List ℕ
 bytes_in p [] = []
 bytes_in p (g ∷ gs) = cond (same_ptr g.place p) g.bytes (bytes_in p gs)
 
+-- whether a count is more than none
+abbrev pub any : ℕ → Bool
+any zero = false
+any (suc n) = true
+
 unfoldable pub bytes_of : Ptr → List (List Page) → List ℕ
 bytes_of p [] = []
-bytes_of p (r ∷ rs) = cond (ltb 0 (stands_in p r)) (bytes_in p r) (bytes_of p rs)
+bytes_of p (r ∷ rs) = cond (any (stands_in p r)) (bytes_in p r) (bytes_of p rs)
 
 -- the ring with the page at p left out
 unfoldable pub without : Ptr → List Page → List Page
