@@ -9,5 +9,6 @@ pub mod Pointers
 pub mod Runs
 pub mod Shapes
 pub mod Sharing
+pub mod Steps
 pub mod Sums
 pub mod Views
