@@ -6,6 +6,7 @@ pub mod Mark
 pub mod Memory
 pub mod Pages
 pub mod Pointers
+pub mod Rings
 pub mod Runs
 pub mod Shapes
 pub mod Sharing

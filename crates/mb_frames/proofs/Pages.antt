@@ -146,3 +146,44 @@ split_at p (q ∷ ps) w = (elim (same_ptr q p) as (λ y. same_ptr q p ≡ y → 
   | true ↦ λ e v. record { before = []; after = ps; is = ap (λ k. k ∷ ps) (same_ptr_eq q p e) }
   | false ↦ λ e v. let there = split_at p ps (omega (arith, v)) in record { before = q ∷ there.before; after = there.after; is = ap (λ l. q ∷ l) there.is }
 ]) refl w
+
+pub other_ptr : (p q : Ptr) → q ≢ p → same_ptr p q ≡ false
+other_ptr p q n = (elim (same_ptr p q) as (λ y. same_ptr p q ≡ y → y ≡ false) [
+  | true ↦ λ e. absurd (n (sym (same_ptr_eq p q e)))
+  | false ↦ λ e. refl
+]) refl
+
+-- other bytes change no place
+place_rewritten : (p : Ptr) (b : List ℕ) (g : Page) → (rewritten p b g).place ≡ g.place
+unfolding rewritten
+place_rewritten p b g = (elim (same_ptr p g.place) as (λ y. (cond y (page g.place b) g).place ≡ g.place) [
+  | true ↦ refl
+  | false ↦ refl
+])
+
+pub places_rewritten : (p : Ptr) (b : List ℕ) (gs : List Page) → map (λ (g : Page). g.place) (map (rewritten p b) gs) ≡ map (λ (g : Page). g.place) gs
+places_rewritten p b [] = refl
+places_rewritten p b (g ∷ gs) = λ i. place_rewritten p b g i ∷ places_rewritten p b gs i
+
+pub stands_rewritten : (q p : Ptr) (b : List ℕ) (gs : List Page) → stands_in q (map (rewritten p b) gs) ≡ stands_in q gs
+unfolding stands_in
+stands_rewritten q p b gs = ap (times q) (places_rewritten p b gs)
+
+pub standing_rewritten : (q p : Ptr) (b : List ℕ) (rs : List (List Page)) → standing q (map (map (rewritten p b)) rs) ≡ standing q rs
+unfolding standing total
+standing_rewritten q p b [] = refl
+standing_rewritten q p b (r ∷ rs) = omega (arith, stands_rewritten q p b r, standing_rewritten q p b rs)
+
+-- a place that does not stand is not rewritten
+rewritten_none : (p : Ptr) (b : List ℕ) (gs : List Page) → stands_in p gs ≡ 0 → map (rewritten p b) gs ≡ gs
+unfolding rewritten stands_in times
+rewritten_none p b [] e = refl
+rewritten_none p b (g ∷ gs) e = (elim (same_ptr g.place p) as (λ y. same_ptr g.place p ≡ y → cond y 1 0 + times p (map (λ (g : Page). g.place) gs) ≡ 0 → map (rewritten p b) (g ∷ gs) ≡ g ∷ gs) [
+  | true ↦ λ s z. absurd (omega (arith, z))
+  | false ↦ λ s z i. (ap (λ y. cond y (page g.place b) g) (same_ptr_symm p g.place ∙ s)) i ∷ rewritten_none p b gs (omega (arith, z)) i
+]) refl e
+
+pub rewritten_all : (p : Ptr) (b : List ℕ) (rs : List (List Page)) → standing p rs ≡ 0 → map (map (rewritten p b)) rs ≡ rs
+unfolding standing total
+rewritten_all p b [] e = refl
+rewritten_all p b (r ∷ rs) e = λ i. rewritten_none p b r (omega (arith, e)) i ∷ rewritten_all p b rs (omega (arith, e)) i

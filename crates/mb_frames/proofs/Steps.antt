@@ -13,7 +13,7 @@ use Rattle.mb_frames.proofs.Pointers.{same_ptr_refl}
 use Rattle.mb_frames.proofs.Chains.{last, one, one_self, times_cons}
 use Rattle.mb_frames.proofs.Shapes.{in_row, wrote, ends_at, sides_at}
 use Rattle.mb_frames.proofs.Views.{rest_of, pages_of, map_places, seen, firsts, moved_shaped, moved_pages, moved_places}
-use Rattle.mb_frames.proofs.Pages.{stands_pages, stands_cons, standing_cons, Told}
+use Rattle.mb_frames.proofs.Pages.{stands_pages, stands_cons, standing_cons}
 
 abbrev pub spots : List Page → List Ptr
 spots = map (λ g. g.place)
@@ -75,7 +75,7 @@ module _ (c : List Cell) (H : List Ptr) (S : Shaped c (map (row_at c) H)) where
     pub page_there : (p : Ptr) → 0 < times p (spots (pages_at c h)) → IsTrue (is_at p c)
     page_there p m = in_row c (map (row_at c) H) S k within_rows p (subst (λ r. 1 ≤ times p r) (sym row_is) (omega (arith, m, times_cons p h (spots (pages_at c h)))))
 
-    round_is : Round (next_at c) (prev_at c) (row_at c h)
+    pub round_is : Round (next_at c) (prev_at c) (row_at c h)
     round_is = subst (Round (next_at c) (prev_at c)) row_is (S.rounds k within_rows)
 
     -- the ring's first page
@@ -133,5 +133,5 @@ module _ (c : List Cell) (H : List Ptr) (S : Shaped c (map (row_at c) H)) where
         ∙ (λ k. map (λ row. map (λ q. page_written q k) (rest_of row)) (map (row_at c) H)) ∙ map_pages (rewritten p b) c (map (row_at c) H) ∙ ap (map (map (rewritten p b))) (sym lists_are)
 
   -- the lists hold what the cells say
-  pub told_all : Told c lists
-  told_all = record { rows = map rest_of (map (row_at c) H); are = lists_are ∙ map_rest c (map (row_at c) H) }
+  pub told_are : lists ≡ map (map (page_of c)) (map rest_of (map (row_at c) H))
+  told_are = lists_are ∙ map_rest c (map (row_at c) H)
