@@ -16,15 +16,15 @@ use Rattle.mb_frames.proofs.Views.{rest_of, map_places}
 use Rattle.mb_frames.proofs.Pages.{one_other, stands_append, stands_none, stands_cons, stands_pages, standing_cons, standing_set, standing_at, Told, bytes_told, same_at, without_here, without_set, Located, located, Split, split_at, other_ptr, places_rewritten, standing_rewritten, rewritten_all}
 use Rattle.mb_frames.proofs.Steps.{spots, lists, once, row_is, round_is, within_rows, list_is, told_list, head_there, page_there, first_is, last_is, step_ends, step_sides, step_shaped, step_lists, step_places, write_shaped, write_lists, told_are}
 
-abbrev tail_of : {X : Type 0} → List X → List X
+abbrev pub tail_of : {X : Type 0} → List X → List X
 tail_of [] = []
 tail_of (x ∷ xs) = xs
 
-abbrev first_or : List (List Page) → List Page
+abbrev pub first_or : List (List Page) → List Page
 first_or [] = []
 first_or (x ∷ xs) = x
 
-last_none : (u : Ptr) → last u [] ≡ u
+pub last_none : (u : Ptr) → last u [] ≡ u
 unfolding last
 last_none u = refl
 
