@@ -7,13 +7,13 @@ use Rattle.mb_frames.specs.Counts.{times}
 use Rattle.mb_frames.specs.Cells.{Cell, is_at, next_at, prev_at, head_at, bytes_at, places, Moves, Writes}
 use Rattle.mb_frames.specs.Shape.{Shaped}
 use Rattle.mb_frames.specs.Pages.{Page, page, stands_in, standing, bytes_of, any, ring_at, with_ring, rewritten, SameAt}
-use Rattle.mb_frames.specs.Rings.{page_of, pages_at, row_at}
+use Rattle.mb_frames.specs.Walks.{page_of, pages_at, row_at}
 use Rattle.mb_frames.proofs.Pointers.{same_ptr_refl}
 use Rattle.mb_frames.proofs.Chains.{last, one, one_self, times_cons}
 use Rattle.mb_frames.proofs.Shapes.{bytes_all}
 use Rattle.mb_frames.proofs.Pages.{one_other, stands_append, stands_none, stands_cons, stands_pages, standing_set, bytes_told, other_ptr, places_rewritten, rewritten_all}
 use Rattle.mb_frames.proofs.Steps.{spots, list_is, told_list, page_there, first_is, step_ends, step_sides, step_shaped, step_lists, step_places}
-use Rattle.mb_frames.proofs.Rings.{tail_of, first_or, last_none, rings, told_rings, once_rings, stays, whole_shaped, whole_lists, whole_bytes, empty_is, written_shaped, written_rings, written_first}
+use Rattle.mb_frames.proofs.Moves.{tail_of, first_or, last_none, rings, told_rings, once_rings, stays, whole_shaped, whole_lists, whole_bytes, empty_is, written_shaped, written_rings, written_first}
 
 abbrev ptr_of : List Ptr → ℕ → Ptr
 ptr_of hs k = get_or hs k null_ptr

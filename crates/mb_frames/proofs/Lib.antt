@@ -5,9 +5,10 @@ pub mod Crosses
 pub mod Boxed
 pub mod Mark
 pub mod Memory
+pub mod Outcomes
 pub mod Pages
 pub mod Pointers
-pub mod Rings
+pub mod Moves
 pub mod Runs
 pub mod Shapes
 pub mod Sharing

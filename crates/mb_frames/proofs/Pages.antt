@@ -7,7 +7,7 @@ use Rattle.mb_frames.specs.Pointers.{same_ptr}
 use Rattle.mb_frames.specs.Counts.{total, times}
 use Rattle.mb_frames.specs.Cells.{Cell, bytes_at}
 use Rattle.mb_frames.specs.Pages.{Page, page, stands_in, standing, bytes_in, any, bytes_of, without, rewritten, SameAt}
-use Rattle.mb_frames.specs.Rings.{page_of}
+use Rattle.mb_frames.specs.Walks.{page_of}
 use Rattle.mb_frames.proofs.Pointers.{same_ptr_refl, same_ptr_eq, same_ptr_symm}
 use Rattle.mb_frames.proofs.Sums.{total_at, total_set, total_two}
 use Rattle.mb_frames.proofs.Chains.{one, one_self, times_none, times_cons, times_append}

@@ -8,7 +8,7 @@ use Rattle.mb_frames.specs.Counts.{total, times}
 use Rattle.mb_frames.specs.Cells.{Cell, is_at, next_at, prev_at, bytes_at, places, Moves, Writes}
 use Rattle.mb_frames.specs.Shape.{Linked, Round, first_of, Shaped}
 use Rattle.mb_frames.specs.Pages.{Page, page, stands_in, standing, rewritten}
-use Rattle.mb_frames.specs.Rings.{page_of, pages_at, row_at}
+use Rattle.mb_frames.specs.Walks.{page_of, pages_at, row_at}
 use Rattle.mb_frames.proofs.Pointers.{same_ptr_refl}
 use Rattle.mb_frames.proofs.Chains.{last, one, one_self, times_cons}
 use Rattle.mb_frames.proofs.Shapes.{in_row, wrote, ends_at, sides_at}

@@ -9,7 +9,7 @@ use Rattle.mb_frames.specs.Counts.{total, times}
 use Rattle.mb_frames.specs.Cells.{Cell, is_at, next_at, prev_at, head_at, bytes_at, places, Keeps, Moves}
 use Rattle.mb_frames.specs.Shape.{Linked, Round, Headed, first_of, Shaped}
 use Rattle.mb_frames.specs.Pages.{Page, page}
-use Rattle.mb_frames.specs.Rings.{page_of, follow, pages_at, row_at}
+use Rattle.mb_frames.specs.Walks.{page_of, follow, pages_at, row_at}
 use Rattle.mb_frames.proofs.Sums.{total_at}
 use Rattle.mb_frames.proofs.Chains.{last}
 use Rattle.mb_frames.proofs.Shapes.{moved_rows, moved, rest, grown, keeps_all, bytes_all}

@@ -4,5 +4,5 @@ pub mod Lends
 pub mod Ownership
 pub mod Pages
 pub mod Pointers
-pub mod Rings
+pub mod Walks
 pub mod Shape

@@ -4,3 +4,8 @@
 mod links;
 mod node;
 mod nodes;
+mod rings;
+mod token;
+
+pub use rings::Rings;
+pub use token::Token;
