@@ -1,3 +1,4 @@
+pub mod Added
 pub mod Calls
 pub mod Cells
 pub mod Chains

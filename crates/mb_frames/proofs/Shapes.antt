@@ -29,7 +29,7 @@ pub places_length : (cs : List Cell) → length (places cs) ≡ length cs
 places_length [] = refl
 places_length (c ∷ cs) = omega (arith, places_length cs)
 
-headed_kept : (old new : List Cell) → ((q : Ptr) → head_at new q ≡ head_at old q) → (row : List Ptr) → Headed old row → Headed new row
+pub headed_kept : (old new : List Cell) → ((q : Ptr) → head_at new q ≡ head_at old q) → (row : List Ptr) → Headed old row → Headed new row
 headed_kept old new e [] a = a
 headed_kept old new e (h ∷ ps) a = (e h ∙ a.0, all_map (λ p. head_at old p ≡ false) (λ p. head_at new p ≡ false) (λ p b. e p ∙ b) ps a.1)
 

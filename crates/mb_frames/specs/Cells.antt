@@ -81,3 +81,24 @@ pub record Writes (old new : List Cell) (p : Ptr) (content : List ℕ) : Type 0 
   pub bytes : (q : Ptr) → bytes_at new q ≡ cond (same_ptr p q) content (bytes_at old q)
   pub next : (q : Ptr) → next_at new q ≡ next_at old q
   pub prev : (q : Ptr) → prev_at new q ≡ prev_at old q
+
+-- a node came in at p, which was no node's place
+pub record Adopts (old new : List Cell) (p : Ptr) (is_head : Bool) : Type 0 where
+  pub node : Node
+  pub is : new ≡ cell p node ∷ old
+  pub head : node.is_head ≡ is_head
+  pub fresh : IsFresh p (places old)
+
+-- a page came in at p, and was linked in before target
+pub record Adds (old new : List Cell) (p target : Ptr) : Type 0 where
+  pub one : List Cell
+  pub two : List Cell
+  pub adopted : Adopts old one p false
+  pub begins : Links one two (prev_at old target) p
+  pub ends : Links two new p target
+
+-- a head came in at p, with nothing in its ring
+pub record AddsHead (old new : List Cell) (p : Ptr) : Type 0 where
+  pub one : List Cell
+  pub adopted : Adopts old one p true
+  pub loops : Links one new p p
