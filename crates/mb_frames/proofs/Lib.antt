@@ -4,6 +4,7 @@ pub mod Cells
 pub mod Chains
 pub mod Crosses
 pub mod Boxed
+pub mod Heads
 pub mod Mark
 pub mod Memory
 pub mod Outcomes
@@ -14,5 +15,7 @@ pub mod Runs
 pub mod Shapes
 pub mod Sharing
 pub mod Steps
+pub mod Stock
 pub mod Sums
 pub mod Views
+pub mod Walks

@@ -4,12 +4,14 @@ use Rattle.std.proofs.lemmas.List.{length-map, get_or-map}
 use Rattle.std.specs.Prelude.{◌≢◌, IsTrue}
 use denote.RawPtr.{Ptr, null_ptr}
 use Rattle.mb_frames.specs.Cells.{Cell, is_at, next_at, prev_at, head_at, bytes_at, places, Moves, Writes}
-use Rattle.mb_frames.specs.Shape.{Shaped}
+use Rattle.mb_frames.specs.Shape.{Headed, Shaped}
 use Rattle.mb_frames.specs.Pages.{Page, page, Shelf, stands_in, standing, Stands, bytes_of, ring_at, with_ring, without, rewritten, SameAt}
-use Rattle.mb_frames.specs.Walks.{pages_at, row_at, shelf, Sound}
+use Rattle.mb_frames.specs.Walks.{page_of, pages_at, row_at, shelf, Sound, IsRing}
 use Rattle.mb_frames.specs.declared.node.NodePtr.{NodePtr}
 use Rattle.mb_frames.specs.declared.rings.Rings.TheInside.{Inside}
 use Rattle.mb_frames.proofs.Shapes.{keeps_all}
+use Rattle.mb_frames.proofs.Stock.{ring_of}
+use Rattle.mb_frames.proofs.Steps.{row_is, within_rows, list_is, told_list}
 use Rattle.mb_frames.proofs.Moves as moves
 use Rattle.mb_frames.proofs.Calls as calls
 
@@ -56,6 +58,18 @@ module _ (r : Inside) (v : Shelf) (view : shelf (cells r) r.spare.ptr (ptrs r.he
 
     pub head_at_is : IsTrue (is_at n.ptr (cells r))
     head_at_is = moves.ring_there (cells r) s hs S k within_heads n.ptr head_is
+
+    pub ring_is : IsRing (cells r) n.ptr
+    ring_is = ring_of (cells r) s hs S (suc k) (omega (arith, within_heads)) n.ptr head_is
+
+    pub ring_list : ring_at v.rings k ≡ pages_at (cells r) n.ptr
+    ring_list = ap (λ l. get_or l k []) (sym rings_are) ∙ list_is (cells r) (s ∷ hs) S (suc k) (omega (arith, within_heads)) n.ptr head_is
+
+    pub ring_told : pages_at (cells r) n.ptr ≡ map (page_of (cells r)) (map (λ (g : Page). g.place) (pages_at (cells r) n.ptr))
+    ring_told = told_list (cells r) (s ∷ hs) S (suc k) (omega (arith, within_heads)) n.ptr head_is
+
+    pub ring_headed : Headed (cells r) (row_at (cells r) n.ptr)
+    ring_headed = subst (Headed (cells r)) (row_is (cells r) (s ∷ hs) S (suc k) (omega (arith, within_heads)) n.ptr head_is) (S.headed (suc k) (within_rows (cells r) (s ∷ hs) S (suc k) (omega (arith, within_heads)) n.ptr head_is))
 
     module _ (f : Ptr) (ef : f ≡ next_at (cells r) n.ptr) where
       pub first_at_is : IsTrue (is_at f (cells r))

@@ -1,9 +1,10 @@
 -- The rings as the links make them: each from its head along the links forward.
-use Rattle.std.specs.Prelude.{◌≡◌, ℕ, zero, suc, cond, List, [], ◌∷◌, length, map, reverse}
+use Rattle.std.specs.Prelude.{◌≡◌, ℕ, zero, suc, ◌<◌, ◌≤◌, cond, List, [], ◌∷◌, ◌++◌, length, map, reverse, IsTrue}
 use denote.RawPtr.{Ptr}
-use Rattle.mb_frames.specs.Cells.{Cell, next_at, head_at, bytes_at, places}
+use Rattle.mb_frames.specs.Counts.{times}
+use Rattle.mb_frames.specs.Cells.{Cell, is_at, next_at, prev_at, head_at, bytes_at, places}
 use Rattle.mb_frames.specs.Pages.{Page, page, Shelf}
-use Rattle.mb_frames.specs.Shape.{Shaped}
+use Rattle.mb_frames.specs.Shape.{Round, Headed, Shaped}
 
 abbrev pub page_of : List Cell → Ptr → Page
 page_of cs p = page p (bytes_at cs p)
@@ -28,3 +29,26 @@ shelf cs s hs w = record { rings = map (pages_at cs) hs; spare = length (pages_a
 pub record Sound (cs : List Cell) (s : Ptr) (hs owned : List Ptr) : Type 0 where
   pub shaped : Shaped cs (map (row_at cs) (s ∷ hs))
   pub freed : places cs ≡ reverse owned
+
+-- the links lead from the head h through its pages and back
+pub record IsRing (cs : List Cell) (h : Ptr) : Type 0 where
+  pub pages : List Ptr
+  pub round : Round (next_at cs) (prev_at cs) (h ∷ pages)
+  pub headed : Headed cs (h ∷ pages)
+  pub here : (q : Ptr) → 0 < times q (h ∷ pages) → IsTrue (is_at q cs)
+  pub bounded : length pages ≤ length cs
+
+-- the first place, or the head
+abbrev pub first_or_head : List Ptr → Ptr → Ptr
+first_or_head [] h = h
+first_or_head (p ∷ ps) h = p
+
+-- n steps led to p, past the pages before
+pub record Walked (cs : List Cell) (h : Ptr) (most : ℕ) (p : Ptr) (n : ℕ) : Type 0 where
+  pub before : List Ptr
+  pub after : List Ptr
+  pub cut : map (λ g. g.place) (pages_at cs h) ≡ before ++ after
+  pub count : length before ≡ n
+  pub there : p ≡ first_or_head after h
+  pub within : n ≤ most
+  pub stop : n < most → after ≡ []

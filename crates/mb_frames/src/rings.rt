@@ -1,9 +1,11 @@
 //! Rings of pages, linked by raw pointers.
-ghost use Rattle.std.specs.Prelude.{◌≡◌, ◌≢◌, ◌+◌, ◌<◌, ◌≤◌, [], ◌∷◌, ◌++◌, map, length};
+ghost use Rattle.std.specs.Prelude.{◌≡◌, ◌≢◌, ◌+◌, ◌<◌, ◌≤◌, [], ◌∷◌, ◌++◌, map, length, max, min, replicate, IfOk, OnOk, OnErr, MatchOption, Some, slice_get};
 ghost use denote.RawPtr.{Ptr};
 ghost use Rattle.mb_frames.specs.Pages.{page, ring_at, with_ring, standing, stands_in, Stands, bytes_of, without, rewritten, SameAt};
 
+use crate::boxes::boxes;
 use crate::links::Links;
+use crate::no_memory::NoMemory;
 use crate::node::NodePtr;
 use crate::token::Token;
 use std::alloc::Global;
@@ -33,7 +35,92 @@ impl Model for Rings {
     ghost invariant = { λ r. Sound r.links.nodes.cells r.spare.ptr (map (λ n. n.ptr) r.heads.items) (map (λ n. n.ptr) r.all.items) };
 }
 
+impl Drop for Rings {
+    // Each node is freed once, whatever ring it stands in.
+    fn drop(self) {
+        let Rings {
+            links,
+            spare: _,
+            heads: _,
+            all,
+            alloc,
+        } = self;
+        let Links { nodes, writes: _ } = links;
+        let mut nodes = nodes;
+        let mut all = all;
+        'all: while let Some(at) = all.pop() {
+            let _freed = nodes.give_back(alloc, at);
+        }
+        nodes.finish();
+    }
+}
+
 impl Rings {
+    /// So many empty rings, and no spare page. It is refused where memory for the rings' heads is wanting.
+    pub fn new(alloc: Global, count: u32) -> Result<Rings, NoMemory>
+        ensures { IfOk result (λ r. (r.rings ≡ replicate count []) × (r.spare ≡ 0) × (r.writes ≡ 0)) }
+    {
+        let rings = count as usize;
+        let mut nodes = boxes(alloc, rings + 1)?;
+        let mut heads = Vec::with_capacity(alloc, rings)?;
+        let mut all = Vec::with_capacity(alloc, rings + 1)?;
+        let mut links = Links::new();
+        let Some(node) = nodes.pop() else {
+            unreachable!()
+        };
+        let spare = links.add_head(node);
+        all.push(spare).unwrap();
+        'heads: while let Some(node) = nodes.pop() {
+            let head = links.add_head(node);
+            heads.push(head).unwrap();
+            all.push(head).unwrap();
+        }
+        links.writes = 0;
+        Ok(Rings {
+            links,
+            spare,
+            heads,
+            all,
+            alloc,
+        })
+    }
+
+    /// Gives at least so many spare pages. It is refused where memory for them is wanting.
+    pub fn reserve(&mut self, pages: u32) -> Result<(), NoMemory>
+        ensures rings { self.new.rings ≡ self.old.rings }
+        ensures spare { OnOk result (self.new.spare ≡ max self.old.spare pages) }
+        ensures refused { OnErr result (self.new ≡ self.old) }
+    {
+        let have = self.spare(pages);
+        let missing = (pages - have) as usize;
+        let mut nodes = boxes(self.alloc, missing)?;
+        self.all.reserve(missing)?;
+        'pages: while let Some(node) = nodes.pop() {
+            let page = self.links.add(node, self.spare);
+            self.all.push(page).unwrap();
+        }
+        Ok(())
+    }
+
+    /// The number of spare pages, counted up to `most`.
+    pub fn spare(&self, most: u32) -> u32
+        ensures { result ≡ min self.now.spare most }
+    {
+        self.links.walk(self.spare, most).1
+    }
+
+    /// The bytes of the page at `index` of the ring, if it has so many.
+    pub fn page(&self, ring: u32, index: u32) -> Option<&[u8; 512]>
+        requires { ring < length self.now.rings }
+        ensures { MatchOption result (length (ring_at self.now.rings ring) ≤ index) (λ b. slice_get (map (λ g. g.bytes) (ring_at self.now.rings ring)) index ≡ Some b.now) }
+    {
+        let (at, _steps) = self.links.walk(self.heads[ring as usize], index);
+        if self.links.is_head(at) {
+            return None;
+        }
+        Some(self.links.bytes(at))
+    }
+
     /// Appends a page to the ring, in a spare page.
     pub fn put(&mut self, ring: u32, bytes: &[u8; 512]) -> Token
         requires ring { ring < length self.old.rings }
