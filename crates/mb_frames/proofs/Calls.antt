@@ -202,7 +202,11 @@ module _ (c : List Cell) (s : Ptr) (hs : List Ptr) (S : Shaped c (map (row_at c)
       spliced_others q =
           stays c s hs S c' spliced_shaped q
           (omega (
-            arith, ap (standing q) spliced_rings, standing_set q R a [] wr, stands_none q,
+            arith,
+            ap (standing q) spliced_rings,
+            standing_set q R a [] wr,
+            stands_none q,
             standing_set q (set R a []) b (ring_at R b ++ ring_at R a) (omega (arith, wb, length-map hs (pages_at c), length-set R a [])),
-            ap (stands_in q) (get_or-set_other R a b [] [] (λ e. ab (sym e))), stands_append q (ring_at R b) (ring_at R a),
+            ap (stands_in q) (get_or-set_other R a b [] [] (λ e. ab (sym e))),
+            stands_append q (ring_at R b) (ring_at R a),
           )) (whole_bytes c s hs S (suc a) (suc b) differ_two wi wt h t eh et f c' M q)

@@ -1,4 +1,5 @@
 pub mod Added
+pub mod Callers
 pub mod Calls
 pub mod Cells
 pub mod Chains

@@ -207,13 +207,22 @@ module _ (c : List Cell) (s : Ptr) (hs : List Ptr) (S : Shaped c (map (row_at c)
 
       pub one_spare : length (pages_at c' s) ≡ length (pages_at c s) + 1
       one_spare = let a : spots (pages_at c s) ++ p ∷ [] ≡ spots (pages_at c s) ++ p ∷ [] = refl in omega (
-        arith, ap (λ l. length (first_or l)) new_lists, length-map (spots (pages_at c s) ++ p ∷ []) (page_of c), length-append (spots (pages_at c s)) (p ∷ []), length-map (pages_at c s) (λ (g : Page). g.place),
+        arith,
+        ap (λ l. length (first_or l)) new_lists,
+        length-map (spots (pages_at c s) ++ p ∷ []) (page_of c),
+        length-append (spots (pages_at c s)) (p ∷ []),
+        length-map (pages_at c s) (λ (g : Page). g.place),
       )
 
       one_count : (q : Ptr) → standing q (map (pages_at c') hs) + one p q ≡ standing q rings
       one_count q = omega (
-        arith, ap (standing q) (ap tail_of new_lists ∙ ap (set rings k) (map-append (page_of c) P.before P.after)), standing_set q rings k (X ++ Y) L.within, ap (stands_in q) ring_k, stands_append q X Y,
-        stands_append q X (page_of c p ∷ Y), stands_cons q (page_of c p) Y,
+        arith,
+        ap (standing q) (ap tail_of new_lists ∙ ap (set rings k) (map-append (page_of c) P.before P.after)),
+        standing_set q rings k (X ++ Y) L.within,
+        ap (stands_in q) ring_k,
+        stands_append q X Y,
+        stands_append q X (page_of c p ∷ Y),
+        stands_cons q (page_of c p) Y,
       )
 
       pub one_gone : standing p (map (pages_at c') hs) ≡ 0

@@ -51,14 +51,22 @@ unfolding has node_at put_node
 found p [] t = absurd (subst T (sym t) tt)
 found p (c ∷ cs) t = (elim (same_ptr c.at p) as (λ y. same_ptr c.at p ≡ y → Found p (c ∷ cs)) [
   | true ↦ λ e. record {
-      before = []; here = c; after = cs; cut = refl; place = same_ptr_eq c.at p e;
-      put = λ w i. cond (e i) (cell c.at w ∷ cs) (c ∷ put_node p w cs);
-      got = λ d i. cond (e i) c.node (node_at p cs d);
-    }
+    before = [];
+    here = c;
+    after = cs;
+    cut = refl;
+    place = same_ptr_eq c.at p e;
+    put = λ w i. cond (e i) (cell c.at w ∷ cs) (c ∷ put_node p w cs);
+    got = λ d i. cond (e i) c.node (node_at p cs d);
+  }
   | false ↦ λ e.
       let f = found p cs (subst (λ y. IsTrue (y || is_at p cs)) e t) in
       record {
-        before = c ∷ f.before; here = f.here; after = f.after; cut = ap (λ l. c ∷ l) f.cut; place = f.place;
+        before = c ∷ f.before;
+        here = f.here;
+        after = f.after;
+        cut = ap (λ l. c ∷ l) f.cut;
+        place = f.place;
         put = λ w. (λ i. cond (e i) (cell c.at w ∷ cs) (c ∷ put_node p w cs)) ∙ ap (λ l. c ∷ l) (f.put w);
         got = λ d. (λ i. cond (e i) c.node (node_at p cs d)) ∙ f.got d;
       }

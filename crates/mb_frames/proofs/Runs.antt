@@ -35,8 +35,7 @@ module _ (h : Ptr) (xs : List Ptr) (u : Ptr) (us ys : List Ptr) (t : Ptr) (ts : 
     -- what the first link leaves: from the run's left neighbour to its right one
     left_out : (q : Ptr) → 1 ≤ one h q + times q xs → q ≡ last h xs → (times q (sources h xs) ≡ 0) × (times q (sources u us) ≡ 0) × (times q (sources o.z o.zs) ≡ 0) × (times q (sources t ts) ≡ 0)
     left_out q w e =
-        let all = whole q in let at : one (last h xs) q ≡ 1 = ap (λ r. one r q) (sym e) ∙ one_self q in
-        (
+        let all = whole q in let at : one (last h xs) q ≡ 1 = ap (λ r. one r q) (sym e) ∙ one_self q in (
           omega (arith, all, w, at, times_sources q h xs, times_cons q h xs),
           omega (arith, all, w, times_sources q u us),
           omega (arith, all, w, times_sources q o.z o.zs, opened_times q, ap (λ r. one r q) o.end),
@@ -45,8 +44,7 @@ module _ (h : Ptr) (xs : List Ptr) (u : Ptr) (us ys : List Ptr) (t : Ptr) (ts : 
 
     right_in : (times o.z xs ≡ 0) × (times o.z us ≡ 0) × (times o.z o.zs ≡ 0) × (times o.z ts ≡ 0)
     right_in =
-        let q = o.z in let all = whole q in let w = opened_times q in let c = times_cons q o.z o.zs in let s = one_self q in
-        (
+        let q = o.z in let all = whole q in let w = opened_times q in let c = times_cons q o.z o.zs in let s = one_self q in (
           omega (arith, all, w, c, s),
           omega (arith, all, w, c, s, times_cons q u us),
           omega (arith, all, w, c, s),
@@ -56,8 +54,7 @@ module _ (h : Ptr) (xs : List Ptr) (u : Ptr) (us ys : List Ptr) (t : Ptr) (ts : 
     -- the second: from the other row's last to the run's first
     tail_out : (q : Ptr) → 1 ≤ times q (t ∷ ts) → q ≡ last t ts → (times q (sources h (xs ++ o.z ∷ o.zs)) ≡ 0) × (times q (sources u us) ≡ 0) × (times q (sources t ts) ≡ 0)
     tail_out q w e =
-        let all = whole q in let at : one (last t ts) q ≡ 1 = ap (λ r. one r q) (sym e) ∙ one_self q in
-        (
+        let all = whole q in let at : one (last t ts) q ≡ 1 = ap (λ r. one r q) (sym e) ∙ one_self q in (
           omega (arith, all, w, times_sources q h (xs ++ o.z ∷ o.zs), times_cons q h (xs ++ o.z ∷ o.zs), times_append q xs (o.z ∷ o.zs), opened_times q, ap (λ r. one r q) (last_append h xs o.z o.zs ∙ o.end)),
           omega (arith, all, w, times_sources q u us),
           omega (arith, all, w, at, times_sources q t ts),
@@ -65,8 +62,7 @@ module _ (h : Ptr) (xs : List Ptr) (u : Ptr) (us ys : List Ptr) (t : Ptr) (ts : 
 
     first_in : (times u (xs ++ o.z ∷ o.zs) ≡ 0) × (times u us ≡ 0) × (times u ts ≡ 0)
     first_in =
-        let all = whole u in let s = one_self u in let c = times_cons u u us in
-        (
+        let all = whole u in let s = one_self u in let c = times_cons u u us in (
           omega (arith, all, s, c, times_append u xs (o.z ∷ o.zs), opened_times u),
           omega (arith, all, s, c),
           omega (arith, all, s, c, times_cons u t ts),
@@ -75,16 +71,14 @@ module _ (h : Ptr) (xs : List Ptr) (u : Ptr) (us ys : List Ptr) (t : Ptr) (ts : 
     -- the third: from the run's last to the other row's head
     last_out : (q : Ptr) → 1 ≤ times q (u ∷ us) → q ≡ last u us → (times q (sources h (xs ++ o.z ∷ o.zs)) ≡ 0) × (times q (sources t (ts ++ u ∷ us)) ≡ 0)
     last_out q w e =
-        let all = whole q in let at : one (last u us) q ≡ 1 = ap (λ r. one r q) (sym e) ∙ one_self q in
-        (
+        let all = whole q in let at : one (last u us) q ≡ 1 = ap (λ r. one r q) (sym e) ∙ one_self q in (
           omega (arith, all, w, times_sources q h (xs ++ o.z ∷ o.zs), times_cons q h (xs ++ o.z ∷ o.zs), times_append q xs (o.z ∷ o.zs), opened_times q, ap (λ r. one r q) (last_append h xs o.z o.zs ∙ o.end)),
           omega (arith, all, w, at, times_sources q t (ts ++ u ∷ us), ap (λ r. one r q) (last_append t ts u us), times_cons q t (ts ++ u ∷ us), times_append q ts (u ∷ us), times_cons q t ts),
         )
 
     head_in : (times t (xs ++ o.z ∷ o.zs) ≡ 0) × (times t (ts ++ u ∷ us) ≡ 0)
     head_in =
-        let all = whole t in let s = one_self t in let c = times_cons t t ts in
-        (
+        let all = whole t in let s = one_self t in let c = times_cons t t ts in (
           omega (arith, all, s, c, times_append t xs (o.z ∷ o.zs), opened_times t),
           omega (arith, all, s, c, times_append t ts (u ∷ us)),
         )

@@ -66,7 +66,11 @@ module _ (rows : List (List Ptr)) (i j : ℕ) (differ : i ≢ j) (wi : i < lengt
 
   pub moved_total : (f : List Ptr → ℕ) (A B : List Ptr) → f A + f B ≡ f (get_or rows i []) + f (get_or rows j []) → total f (moved_rows A B) ≡ total f rows
   moved_total f A B e = omega (
-    arith, e, total_set f [] rows i A wi, total_set f [] (set rows i A) j B (omega (arith, wj, length-set rows i A)), ap f (get_or-set_other rows i j A [] (λ s. differ (sym s))),
+    arith,
+    e,
+    total_set f [] rows i A wi,
+    total_set f [] (set rows i A) j B (omega (arith, wj, length-set rows i A)),
+    ap f (get_or-set_other rows i j A [] (λ s. differ (sym s))),
   )
 
 pub in_row : (cs : List Cell) (rows : List (List Ptr)) (s : Shaped cs rows) (k : ℕ) → k < length rows → (q : Ptr) → 1 ≤ times q (get_or rows k []) → IsTrue (is_at q cs)
@@ -87,8 +91,17 @@ module _ (rows : List (List Ptr)) (i j : ℕ) (differ : i ≢ j) (wi : i < lengt
   sum_times q =
       let a : times q (get_or rows i []) ≡ times q (h ∷ (xs ++ ((u ∷ us) ++ ys))) = ap (times q) ei in let b : times q (get_or rows j []) ≡ times q (t ∷ ts) = ap (times q) ej in
       omega (
-        arith, a, b, times_cons q h (xs ++ ((u ∷ us) ++ ys)), times_append q xs ((u ∷ us) ++ ys), times_append q (u ∷ us) ys, times_cons q h (xs ++ ys), times_append q xs ys, times_cons q t (ts ++ u ∷ us),
-        times_append q ts (u ∷ us), times_cons q t ts,
+        arith,
+        a,
+        b,
+        times_cons q h (xs ++ ((u ∷ us) ++ ys)),
+        times_append q xs ((u ∷ us) ++ ys),
+        times_append q (u ∷ us) ys,
+        times_cons q h (xs ++ ys),
+        times_append q xs ys,
+        times_cons q t (ts ++ u ∷ us),
+        times_append q ts (u ∷ us),
+        times_cons q t ts,
       )
 
   sum_length : length rest + length grown ≡ length (get_or rows i []) + length (get_or rows j [])
@@ -145,7 +158,13 @@ module _ (rows : List (List Ptr)) (i j : ℕ) (differ : i ≢ j) (wi : i < lengt
                 (rest3 h xs u us ys t ts D n0 p0 n1 p1 n2 p2 n3 p3 l1 l2 l3 round_i round_j)
                 (to3 h xs u us ys t ts D n0 p0 n1 p1 n2 p2 n3 p3 l1 l2 l3 round_i round_j)
                 (λ k w ni nj. others3 h xs u us ys t ts D n0 p0 n1 p1 n2 p2 n3 p3 l1 l2 l3 round_i round_j (get_or rows k []) (λ q one_in. omega (
-                  arith, one_in, s.apart q, total_two (times q) [] rows k i ni w wi, total_two (times q) [] rows k j nj w wj, ap (times q) ei, ap (times q) ej,
+                  arith,
+                  one_in,
+                  s.apart q,
+                  total_two (times q) [] rows k i ni w wi,
+                  total_two (times q) [] rows k j nj w wj,
+                  ap (times q) ei,
+                  ap (times q) ej,
                 )) (s.rounds k w));
             headed = moved_each rows i j differ wi wj rest grown (Headed new)
                 (headed_kept old new K.heads rest (hi.0, all_append Q xs ys a.0 b.1))

@@ -97,8 +97,8 @@ pub stocked_sound : (c new : List Cell) (s : Ptr) (hs : List Ptr) (all all' : Li
 stocked_sound c new s hs all all' p I B e = record {
   shaped = stocked_shaped c s hs I.shaped new p.ptr B;
   freed =
-    stocked_places c s hs I.shaped new p.ptr B ∙ ap (λ l. p.ptr ∷ l) I.freed
-    ∙ sym (ap reverse (ap (map (λ (n : NodePtr). n.ptr)) e ∙ map-append (λ (n : NodePtr). n.ptr) all (p ∷ [])) ∙ reverse-append (map (λ (n : NodePtr). n.ptr) all) (p.ptr ∷ []));
+      stocked_places c s hs I.shaped new p.ptr B ∙ ap (λ l. p.ptr ∷ l) I.freed
+      ∙ sym (ap reverse (ap (map (λ (n : NodePtr). n.ptr)) e ∙ map-append (λ (n : NodePtr). n.ptr) all (p ∷ [])) ∙ reverse-append (map (λ (n : NodePtr). n.ptr) all) (p.ptr ∷ []));
 }
 
 -- where a walk ended

@@ -58,8 +58,13 @@ module _ (cs : List Cell) (h : Ptr) (most : ℕ) (p : Ptr) (n : ℕ) (w : Walkin
       let whole : Linked (next_at cs) (prev_at cs) h ((w.before ++ y ∷ []) ++ (ys ++ h ∷ [])) = subst (Linked (next_at cs) (prev_at cs) h) (ap (λ l. l ++ h ∷ []) cut ∙ append_assoc (w.before ++ y ∷ []) ys (h ∷ [])) w.ring.round in
       let rest : Linked (next_at cs) (prev_at cs) y (ys ++ h ∷ []) = subst (λ k. Linked (next_at cs) (prev_at cs) k (ys ++ h ∷ [])) (last_append h w.before y [] ∙ last_one y) (cut_chain (next_at cs) (prev_at cs) h (w.before ++ y ∷ []) (ys ++ h ∷ []) whole).1 in
       record {
-        ring = w.ring; before = w.before ++ y ∷ []; after = ys; cut = cut; count = omega (arith, w.count, length-append w.before (y ∷ []));
-        there = ap (next_at cs) at ∙ next_link y ys rest; within = omega (arith, v);
+        ring = w.ring;
+        before = w.before ++ y ∷ [];
+        after = ys;
+        cut = cut;
+        count = omega (arith, w.count, length-append w.before (y ∷ []));
+        there = ap (next_at cs) at ∙ next_link y ys rest;
+        within = omega (arith, v);
       }
 
   pub walk_steps : head_at cs p ≡ false → n < most → Walking cs h most (next_at cs p) (n + 1)
@@ -73,8 +78,13 @@ module _ (cs : List Cell) (h : Ptr) (most : ℕ) (p : Ptr) (n : ℕ) (w : Walkin
 
   pub walk_ends : (n < most → head_at cs p ≡ true) → Walked cs h most p n
   walk_ends f = record {
-    before = w.before; after = w.after; cut = ap spots (pages_row cs h w.ring.pages w.ring.round w.ring.headed w.ring.bounded) ∙ map_places cs w.ring.pages ∙ w.cut;
-    count = w.count; there = w.there; within = w.within; stop = λ v. at_head w.after refl (f v);
+    before = w.before;
+    after = w.after;
+    cut = ap spots (pages_row cs h w.ring.pages w.ring.round w.ring.headed w.ring.bounded) ∙ map_places cs w.ring.pages ∙ w.cut;
+    count = w.count;
+    there = w.there;
+    within = w.within;
+    stop = λ v. at_head w.after refl (f v);
   }
 
 pub ring_head : (cs : List Cell) (h : Ptr) → IsRing cs h → IsTrue (is_at h cs)

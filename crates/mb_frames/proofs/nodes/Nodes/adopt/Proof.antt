@@ -64,9 +64,9 @@ adopt_spec {M} 𝓤 𝓛 𝓜 𝓡 wired =
     let k = triple_of 𝓛 (callee.signature T G ghosts dict dd dx) (callee.spec T G ghosts dict dd dx 𝓛 𝓜.mem 𝓡.returns) in
     let gone = code.calls-mb_frames::Destruct++none::drop 𝓡.env wired in
     let known = met 𝓤 𝓛 𝓜 𝓡 (code.calls-std_alloc::boxed::Box::into_raw 𝓡.env wired) T G element_laws heap_laws ghosts dict dd dx
-        (passed 𝓡.env (code.calls-std_heap::GlobalAllocator::allocate 𝓡.env wired) (code.calls-std_heap::GlobalAllocator::deallocate 𝓡.env wired) (code.calls-std_heap::GlobalAllocator::grow 𝓡.env wired) (code.calls-std_heap::GlobalAllocator::shrink 𝓡.env wired) M 𝓤 𝓛 𝓜 𝓡)
-        (glues "mb_frames::Destruct++none::drop" 𝓡.env gone G heap_laws M 𝓤 𝓛 𝓜 𝓡)
-        (glues "mb_frames::Destruct++none::drop" 𝓡.env gone T element_laws M 𝓤 𝓛 𝓜 𝓡) in
+    (passed 𝓡.env (code.calls-std_heap::GlobalAllocator::allocate 𝓡.env wired) (code.calls-std_heap::GlobalAllocator::deallocate 𝓡.env wired) (code.calls-std_heap::GlobalAllocator::grow 𝓡.env wired) (code.calls-std_heap::GlobalAllocator::shrink 𝓡.env wired) M 𝓤 𝓛 𝓜 𝓡)
+    (glues "mb_frames::Destruct++none::drop" 𝓡.env gone G heap_laws M 𝓤 𝓛 𝓜 𝓡)
+    (glues "mb_frames::Destruct++none::drop" 𝓡.env gone T element_laws M 𝓤 𝓛 𝓜 𝓡) in
     proved_at 𝓛 f.ended stayed c 𝓜 𝓡
     (Goes-ref 𝓛 1 0 tt (plain (λ _. Nr)), (Goes-dropped 𝓛 1 (slot_at 1 f.ended.signature.params) f.ended.kept.1.0 (λ κs x f. refl), tt))
     f.Key.name code.function (code.unfolded 𝓤 H 𝓜 𝓡 wired) (λ z are.

@@ -8,9 +8,12 @@ use Rattle.mb_frames.proofs.rings.Rings.reserve.Goals as goal
 
 pub pages-init : goal.pages-init
 pages-init c =
-    let spare : length (pages_at c.self.inside.links.nodes.cells c.self.inside.spare.ptr) ≡ c.args.self.now.spare = ap (λ (v : Shelf). v.spare) c.self.view_is in
-    (subst (λ (items : List NodePtr). Sound c.self.inside.links.nodes.cells c.self.inside.spare.ptr (map (λ n. n.ptr) c.self.inside.heads.items) (map (λ n. n.ptr) items)) (sym c.reserve.ensures.items) c.self.invariant,
-    ap (λ (v : Shelf). v.rings) c.self.view_is, search rules, search rules)
+    let spare : length (pages_at c.self.inside.links.nodes.cells c.self.inside.spare.ptr) ≡ c.args.self.now.spare = ap (λ (v : Shelf). v.spare) c.self.view_is in (
+      subst (λ (items : List NodePtr). Sound c.self.inside.links.nodes.cells c.self.inside.spare.ptr (map (λ n. n.ptr) c.self.inside.heads.items) (map (λ n. n.ptr) items)) (sym c.reserve.ensures.items) c.self.invariant,
+      ap (λ (v : Shelf). v.rings) c.self.view_is,
+      search rules,
+      search rules,
+    )
 
 pub add-page-requires : goal.add-page-requires
 add-page-requires c = spare_sides _ _ _ c.pages.invariant.0.shaped
