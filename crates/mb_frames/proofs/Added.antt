@@ -1,24 +1,18 @@
 -- A new node joins the rings.
-use Rattle.std.proofs.Common.{◌≡◌, ℕ, zero, suc, ◌+◌, ◌<◌, ◌≤◌, Bool, true, false, ◌||◌, cond, List, [], ◌∷◌, ◌++◌, length, get_or, map, reverse, replicate, refl, sym, ap, ◌∙◌, subst, arith, length-append, T}
-use Rattle.std.proofs.lemmas.List.{map-append, reverse-append, length-map}
+use Rattle.std.proofs.Common.{◌≡◌, ℕ, zero, suc, ◌+◌, ◌<◌, ◌≤◌, Bool, true, false, ◌||◌, cond, List, [], ◌∷◌, ◌++◌, length, get_or, refl, sym, ap, ◌∙◌, subst, arith, length-append, T}
 use Rattle.std.proofs.lemmas.Bool.{true≢false}
-use Rattle.std.specs.Prelude.{◌≢◌, IsTrue}
+use Rattle.std.specs.Prelude.{IsTrue}
 use Rattle.std.specs.List.{AllByRecursion}
 use denote.RawPtr.{Ptr}
 use Rattle.mb_frames.specs.declared.node.Node.{Node}
 use Rattle.mb_frames.specs.Pointers.{same_ptr}
 use Rattle.mb_frames.specs.Counts.{total, times}
-use Rattle.mb_frames.specs.Cells.{Cell, cell, places, IsFresh, has, is_at, read, next_at, prev_at, head_at, bytes_at, Links, Adopts, Adds, AddsHead}
-use Rattle.mb_frames.specs.Shape.{Linked, Round, Headed, first_of, Shaped}
-use Rattle.mb_frames.specs.Pages.{Page, page}
-use Rattle.mb_frames.specs.Walks.{page_of, pages_at, row_at, Sound}
+use Rattle.mb_frames.specs.Cells.{Cell, cell, places, IsFresh, has, is_at, read, next_at, prev_at, head_at, bytes_at, Adopts, Adds}
+use Rattle.mb_frames.specs.Shape.{Linked, Round, Headed, Shaped}
 use Rattle.mb_frames.proofs.Pointers.{same_ptr_eq, same_ptr_refl}
-use Rattle.mb_frames.proofs.Cells.{is_kept}
-use Rattle.mb_frames.proofs.Chains.{last, sources, one, one_self, times_none, times_cons, times_append, times_sources, times_last, last_append, cut_chain, join_chain, Relinks, new_link, kept_chain, kept_round}
+use Rattle.mb_frames.proofs.Chains.{last, one, one_self, times_none, times_cons, times_append, times_sources, times_last, last_append, cut_chain, join_chain, Relinks, new_link, kept_chain, kept_round}
 use Rattle.mb_frames.proofs.Shapes.{places_length, headed_kept, all_append}
 use Rattle.mb_frames.proofs.Sums.{total_at}
-use Rattle.mb_frames.proofs.Views.{rest_of, pages_of, seen, firsts}
-use Rattle.mb_frames.proofs.Moves.{tail_of, first_or}
 
 -- a new place is none of the old ones
 fresh_differs : (p q : Ptr) (ps : List Ptr) → IsFresh p ps → IsTrue (has q ps) → same_ptr p q ≡ false

@@ -1,5 +1,5 @@
 -- What callers cite to carry tokens through calls.
-use Rattle.std.proofs.Common.{◌≡◌, ℕ, List, sym, ap, ◌∙◌, arith}
+use Rattle.std.proofs.Common.{◌≡◌, List, sym, ap, ◌∙◌, arith}
 use Rattle.std.specs.Prelude.{◌≢◌}
 use denote.RawPtr.{Ptr}
 use Rattle.mb_frames.specs.Pages.{Page, standing, Stands, SameAt}

@@ -1,12 +1,12 @@
 -- What `put`, `splice` and `release` do to the rings.
-use Rattle.std.proofs.Common.{◌≡◌, ℕ, zero, suc, ◌+◌, ◌<◌, ◌≤◌, Bool, true, false, cond, List, [], ◌∷◌, ◌++◌, length, get_or, set, map, refl, sym, ap, ◌∙◌, subst, arith, append-nil, length-append, length-set, get_or-set_other}
+use Rattle.std.proofs.Common.{◌≡◌, ℕ, suc, ◌+◌, ◌<◌, ◌≤◌, true, false, cond, List, [], ◌∷◌, ◌++◌, length, get_or, set, map, refl, sym, ap, ◌∙◌, subst, arith, append-nil, length-append, length-set, get_or-set_other}
 use Rattle.std.proofs.lemmas.List.{length-map, map-append, set-get_or}
 use Rattle.std.specs.Prelude.{◌≢◌, IsTrue}
 use denote.RawPtr.{Ptr, null_ptr}
 use Rattle.mb_frames.specs.Counts.{times}
 use Rattle.mb_frames.specs.Cells.{Cell, is_at, next_at, prev_at, head_at, bytes_at, places, Moves, Writes}
 use Rattle.mb_frames.specs.Shape.{Shaped}
-use Rattle.mb_frames.specs.Pages.{Page, page, stands_in, standing, bytes_of, any, ring_at, with_ring, rewritten, SameAt}
+use Rattle.mb_frames.specs.Pages.{Page, page, stands_in, standing, bytes_of, any, ring_at, with_ring, SameAt}
 use Rattle.mb_frames.specs.Walks.{page_of, pages_at, row_at}
 use Rattle.mb_frames.proofs.Pointers.{same_ptr_refl}
 use Rattle.mb_frames.proofs.Chains.{last, one, one_self, times_cons}

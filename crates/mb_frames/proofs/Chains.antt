@@ -1,10 +1,10 @@
 -- Chains of links, and what a change of one link leaves of them.
-use Rattle.std.proofs.Common.{◌≡◌, ℕ, ◌+◌, ◌<◌, ◌≤◌, Bool, true, false, cond, List, [], ◌∷◌, ◌++◌, refl, sym, ap, ◌∙◌, subst, arith, append_assoc, T}
+use Rattle.std.proofs.Common.{◌≡◌, ℕ, ◌+◌, ◌≤◌, true, false, cond, List, [], ◌∷◌, ◌++◌, refl, ap, ◌∙◌, arith}
 use denote.RawPtr.{Ptr}
 use Rattle.mb_frames.specs.Pointers.{same_ptr}
 use Rattle.mb_frames.specs.Counts.{times}
 use Rattle.mb_frames.specs.Shape.{Linked, Round}
-use Rattle.mb_frames.proofs.Pointers.{same_ptr_refl, same_ptr_eq, same_ptr_symm}
+use Rattle.mb_frames.proofs.Pointers.{same_ptr_refl, same_ptr_symm}
 
 unfoldable pub last : Ptr → List Ptr → Ptr
 last a [] = a

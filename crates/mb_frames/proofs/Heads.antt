@@ -1,13 +1,12 @@
 -- The rings as they are made: a head each, and no page.
-use Rattle.std.proofs.Common.{◌≡◌, ℕ, zero, suc, ◌+◌, ◌<◌, ◌≤◌, Bool, true, false, cond, List, [], ◌∷◌, ◌++◌, length, get_or, map, reverse, replicate, refl, sym, ap, ◌∙◌, subst, arith, length-append}
+use Rattle.std.proofs.Common.{◌≡◌, ℕ, zero, suc, ◌+◌, ◌<◌, ◌≤◌, true, false, cond, List, [], ◌∷◌, ◌++◌, length, get_or, map, reverse, replicate, refl, sym, ap, ◌∙◌, subst, arith}
 use Rattle.std.proofs.lemmas.List.{map-append, reverse-append, length-map}
 use Rattle.std.specs.Prelude.{IsTrue}
 use denote.RawPtr.{Ptr}
 use Rattle.mb_frames.specs.Pointers.{same_ptr}
 use Rattle.mb_frames.specs.Counts.{total, times}
-use Rattle.mb_frames.specs.Cells.{Cell, places, has, is_at, next_at, prev_at, head_at, Adopts, AddsHead}
+use Rattle.mb_frames.specs.Cells.{Cell, places, has, is_at, next_at, prev_at, AddsHead}
 use Rattle.mb_frames.specs.Shape.{Round, Headed, first_of, Shaped}
-use Rattle.mb_frames.specs.Pages.{Page}
 use Rattle.mb_frames.specs.Walks.{pages_at, row_at, Sound}
 use Rattle.mb_frames.proofs.Pointers.{same_ptr_eq}
 use Rattle.mb_frames.proofs.Chains.{one, times_none, times_cons, new_link, kept_round, Relinks}

@@ -1,19 +1,19 @@
 -- What each call does to the rings, where the links did their part.
-use Rattle.std.proofs.Common.{◌≡◌, ℕ, zero, suc, ◌+◌, ◌<◌, ◌≤◌, Bool, true, false, cond, List, [], ◌∷◌, ◌++◌, length, get_or, set, map, refl, sym, ap, ◌∙◌, subst, arith, append-nil, length-append, get_or-set_other}
-use Rattle.std.proofs.lemmas.List.{length-map, map-append, set-get_or}
+use Rattle.std.proofs.Common.{◌≡◌, ℕ, suc, ◌+◌, ◌<◌, ◌≤◌, true, false, cond, List, [], ◌∷◌, ◌++◌, length, get_or, set, map, refl, sym, ap, ◌∙◌, subst, arith, append-nil, length-append}
+use Rattle.std.proofs.lemmas.List.{length-map, map-append}
 use Rattle.std.proofs.lemmas.Bool.{true≢false}
 use Rattle.std.specs.Prelude.{◌≢◌, IsTrue}
 use denote.RawPtr.{Ptr, null_ptr}
 use Rattle.mb_frames.specs.Counts.{times}
 use Rattle.mb_frames.specs.Cells.{Cell, is_at, next_at, prev_at, head_at, bytes_at, places, Moves, Writes}
-use Rattle.mb_frames.specs.Shape.{Linked, Round, Headed, Shaped}
-use Rattle.mb_frames.specs.Pages.{Page, page, stands_in, standing, bytes_of, any, without, rewritten, SameAt}
+use Rattle.mb_frames.specs.Shape.{Round, Headed, Shaped}
+use Rattle.mb_frames.specs.Pages.{Page, stands_in, standing, bytes_of, any, without, rewritten, SameAt}
 use Rattle.mb_frames.specs.Walks.{page_of, pages_at, row_at}
 use Rattle.mb_frames.proofs.Pointers.{same_ptr_refl}
 use Rattle.mb_frames.proofs.Chains.{last, one, one_self, times_cons}
-use Rattle.mb_frames.proofs.Shapes.{in_row, bytes_all}
-use Rattle.mb_frames.proofs.Views.{rest_of, map_places}
-use Rattle.mb_frames.proofs.Pages.{one_other, stands_append, stands_none, stands_cons, stands_pages, standing_cons, standing_set, standing_at, Told, bytes_told, same_at, without_here, without_set, Located, located, Split, split_at, other_ptr, places_rewritten, standing_rewritten, rewritten_all}
+use Rattle.mb_frames.proofs.Shapes.{bytes_all}
+use Rattle.mb_frames.proofs.Views.{rest_of}
+use Rattle.mb_frames.proofs.Pages.{one_other, stands_append, stands_cons, stands_pages, standing_cons, standing_set, standing_at, Told, bytes_told, same_at, without_here, without_set, Located, located, Split, split_at, other_ptr, standing_rewritten}
 use Rattle.mb_frames.proofs.Steps.{spots, lists, once, row_is, round_is, within_rows, list_is, told_list, head_there, page_there, first_is, last_is, step_ends, step_sides, step_shaped, step_lists, step_places, write_shaped, write_lists, told_are}
 
 abbrev pub tail_of : {X : Type 0} → List X → List X

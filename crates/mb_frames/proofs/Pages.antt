@@ -1,5 +1,5 @@
 -- What the lists of pages tell of a token, as they change.
-use Rattle.std.proofs.Common.{◌≡◌, ℕ, zero, suc, ◌+◌, ◌<◌, ◌≤◌, Bool, true, false, cond, List, [], ◌∷◌, ◌++◌, length, get_or, set, map, refl, sym, ap, ◌∙◌, subst, arith}
+use Rattle.std.proofs.Common.{◌≡◌, ℕ, zero, suc, ◌+◌, ◌<◌, ◌≤◌, true, false, cond, List, [], ◌∷◌, ◌++◌, length, get_or, set, map, refl, sym, ap, ◌∙◌, subst, arith}
 use Rattle.std.proofs.lemmas.List.{map-append}
 use Rattle.std.specs.Prelude.{◌≢◌}
 use denote.RawPtr.{Ptr}
@@ -9,7 +9,7 @@ use Rattle.mb_frames.specs.Cells.{Cell, bytes_at}
 use Rattle.mb_frames.specs.Pages.{Page, page, stands_in, standing, bytes_in, any, bytes_of, without, rewritten, SameAt}
 use Rattle.mb_frames.specs.Walks.{page_of}
 use Rattle.mb_frames.proofs.Pointers.{same_ptr_refl, same_ptr_eq, same_ptr_symm}
-use Rattle.mb_frames.proofs.Sums.{total_at, total_set, total_two}
+use Rattle.mb_frames.proofs.Sums.{total_at, total_set}
 use Rattle.mb_frames.proofs.Chains.{one, one_self, times_none, times_cons, times_append}
 use Rattle.mb_frames.proofs.Views.{map_places}
 

@@ -1,7 +1,6 @@
 -- A run is taken out of one row, and linked in at the end of another.
-use Rattle.std.proofs.Common.{◌≡◌, ℕ, ◌+◌, ◌<◌, ◌≤◌, Bool, cond, List, [], ◌∷◌, ◌++◌, refl, sym, ap, ◌∙◌, subst, arith, append_assoc}
+use Rattle.std.proofs.Common.{◌≡◌, ◌+◌, ◌≤◌, List, [], ◌∷◌, ◌++◌, refl, sym, ap, ◌∙◌, subst, arith, append_assoc}
 use denote.RawPtr.{Ptr}
-use Rattle.mb_frames.specs.Pointers.{same_ptr}
 use Rattle.mb_frames.specs.Counts.{times}
 use Rattle.mb_frames.specs.Shape.{Linked, Round}
 use Rattle.mb_frames.proofs.Chains.{last, sources, one, one_self, times_none, times_cons, times_append, times_sources, times_last, last_append, cut_chain, join_chain, Relinks, new_link, kept_chain, kept_round}

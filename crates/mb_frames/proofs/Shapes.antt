@@ -1,17 +1,16 @@
 -- The rows of all rings, after a run has moved from one to another.
-use Rattle.std.proofs.Common.{◌≡◌, ℕ, ◌+◌, ◌<◌, ◌≤◌, Bool, true, false, cond, List, [], ◌∷◌, ◌++◌, length, get_or, set, refl, sym, ap, ◌∙◌, subst, arith, inl, inr, length-set, length-append, get_or-set_same, get_or-set_other}
+use Rattle.std.proofs.Common.{◌≡◌, ℕ, ◌+◌, ◌<◌, ◌≤◌, false, List, [], ◌∷◌, ◌++◌, length, get_or, set, refl, sym, ap, ◌∙◌, subst, arith, inl, inr, length-set, length-append, get_or-set_same, get_or-set_other}
 use Rattle.std.specs.Prelude.{◌≢◌, IsTrue}
 use Rattle.std.specs.List.{AllByRecursion}
 use Rattle.std.proofs.lemmas.Bool.Decides.{eqb_tells}
 use denote.RawPtr.{Ptr}
-use Rattle.mb_frames.specs.Pointers.{same_ptr}
 use Rattle.mb_frames.specs.Cells.{Cell, is_at, next_at, prev_at, head_at, bytes_at, places, Keeps, Links, Moves, Writes}
 use Rattle.mb_frames.specs.Counts.{times, total}
-use Rattle.mb_frames.specs.Shape.{Linked, Round, Headed, Shaped}
+use Rattle.mb_frames.specs.Shape.{Round, Headed, Shaped}
 use Rattle.mb_frames.proofs.Cells.{is_kept}
 use Rattle.mb_frames.proofs.Sums.{total_at, total_set, total_two}
-use Rattle.mb_frames.proofs.Chains.{last, one, one_self, times_none, times_cons, times_append, times_last, Relinks}
-use Rattle.mb_frames.proofs.Runs.{from_row, rest3, to3, others3, left_in_row, right_in_row, tail_in_row, run_in_row}
+use Rattle.mb_frames.proofs.Chains.{last, one_self, times_cons, times_append, times_last, Relinks}
+use Rattle.mb_frames.proofs.Runs.{rest3, to3, others3, left_in_row, right_in_row, tail_in_row, run_in_row}
 
 pub all_append : (P : Ptr → Type 0) (xs ys : List Ptr) → AllByRecursion P xs → AllByRecursion P ys → AllByRecursion P (xs ++ ys)
 all_append P [] ys a b = b

@@ -4,12 +4,10 @@ use base.Fml.{Lft, ftrue, Incl}
 use base.Fraction.{full_share}
 use seplogic.Ra.Ura.{Ura}
 use types.Logic.{Logic}
-use denote.RattleType.{RattleType}
 use denote.RawPtr.{lies_at}
 use denote.Sharing.{ShrLaws}
 use denote.SharingLaws.{beside_shr_laws, nothing_shr_laws}
 use denote.Shares.{Shares-less}
-use denote.Param.Laws.{Laws}
 use denote.Struct.Lending.{Lends, lent_at, lent_at_shr_laws, Lends-lies, Lends-first, Lends-both, Lends-nothing}
 use denote.Memory.{lone}
 use mir.Raw.{raw as bare}

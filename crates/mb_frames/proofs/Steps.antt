@@ -1,19 +1,18 @@
 -- One move of a run, or one write of bytes, as the rings' lists of pages see it.
-use Rattle.std.proofs.Common.{◌≡◌, ℕ, zero, suc, ◌+◌, ◌<◌, ◌≤◌, Bool, true, false, cond, List, [], ◌∷◌, ◌++◌, length, get_or, set, map, refl, sym, ap, ◌∙◌, subst, arith}
+use Rattle.std.proofs.Common.{◌≡◌, ℕ, ◌<◌, ◌≤◌, true, false, cond, List, [], ◌∷◌, ◌++◌, length, get_or, set, map, refl, sym, ap, ◌∙◌, subst, arith}
 use Rattle.std.proofs.lemmas.List.{get_or-map, length-map}
 use Rattle.std.specs.Prelude.{◌≢◌, IsTrue}
 use denote.RawPtr.{Ptr, null_ptr}
 use Rattle.mb_frames.specs.Pointers.{same_ptr}
 use Rattle.mb_frames.specs.Counts.{total, times}
 use Rattle.mb_frames.specs.Cells.{Cell, is_at, next_at, prev_at, bytes_at, places, Moves, Writes}
-use Rattle.mb_frames.specs.Shape.{Linked, Round, first_of, Shaped}
-use Rattle.mb_frames.specs.Pages.{Page, page, stands_in, standing, rewritten}
+use Rattle.mb_frames.specs.Shape.{Linked, Round, Shaped}
+use Rattle.mb_frames.specs.Pages.{Page, page, standing, rewritten}
 use Rattle.mb_frames.specs.Walks.{page_of, pages_at, row_at}
-use Rattle.mb_frames.proofs.Pointers.{same_ptr_refl}
-use Rattle.mb_frames.proofs.Chains.{last, one, one_self, times_cons}
+use Rattle.mb_frames.proofs.Chains.{last, one_self, times_cons}
 use Rattle.mb_frames.proofs.Shapes.{in_row, wrote, ends_at, sides_at}
-use Rattle.mb_frames.proofs.Views.{rest_of, pages_of, map_places, seen, firsts, moved_shaped, moved_pages, moved_places}
-use Rattle.mb_frames.proofs.Pages.{stands_pages, stands_cons, standing_cons}
+use Rattle.mb_frames.proofs.Views.{rest_of, pages_of, seen, firsts, moved_shaped, moved_pages, moved_places}
+use Rattle.mb_frames.proofs.Pages.{stands_pages}
 
 abbrev pub spots : List Page → List Ptr
 spots = map (λ g. g.place)

@@ -1,5 +1,5 @@
 -- The rings, as spare pages are added.
-use Rattle.std.proofs.Common.{◌≡◌, ℕ, zero, suc, ◌+◌, ◌<◌, ◌≤◌, min, true, false, inl, inr, List, [], ◌∷◌, ◌++◌, length, get_or, map, reverse, refl, sym, ap, ◌∙◌, subst, arith, length-append}
+use Rattle.std.proofs.Common.{◌≡◌, ℕ, ◌+◌, ◌<◌, ◌≤◌, min, true, false, inl, inr, List, [], ◌∷◌, ◌++◌, length, get_or, map, reverse, refl, sym, ap, ◌∙◌, subst, arith, length-append}
 use Rattle.std.proofs.lemmas.List.{map-append, reverse-append, length-map}
 use Rattle.std.specs.Prelude.{IsTrue, slice_get, Some}
 use Rattle.std.specs.List.{AllByRecursion}
@@ -7,7 +7,7 @@ use Rattle.std.proofs.lemmas.Bool.{true≢false}
 use Rattle.std.proofs.lemmas.Bool.Decides.{leb_tells}
 use denote.RawPtr.{Ptr, null_ptr}
 use Rattle.mb_frames.specs.Counts.{total, times}
-use Rattle.mb_frames.specs.Cells.{Cell, is_at, next_at, prev_at, head_at, bytes_at, places, Adds}
+use Rattle.mb_frames.specs.Cells.{Cell, is_at, prev_at, head_at, bytes_at, places, Adds}
 use Rattle.mb_frames.specs.Shape.{Headed, first_of, Shaped}
 use Rattle.mb_frames.specs.Pages.{Page, page}
 use Rattle.mb_frames.specs.Walks.{page_of, pages_at, row_at, Sound, IsRing, Walked, first_or_head}
@@ -15,10 +15,10 @@ use Rattle.mb_frames.specs.declared.node.NodePtr.{NodePtr}
 use Rattle.mb_frames.proofs.Chains.{last, one_self, times_cons, times_append, times_last}
 use Rattle.mb_frames.proofs.Shapes.{all_cut, in_row}
 use Rattle.mb_frames.proofs.Sums.{total_at}
-use Rattle.mb_frames.proofs.Views.{rest_of, pages_of, map_places, pages_row, seen, firsts}
+use Rattle.mb_frames.proofs.Views.{pages_of, map_places, pages_row, seen, firsts}
 use Rattle.mb_frames.proofs.Moves.{tail_of, first_or, spare_there}
 use Rattle.mb_frames.proofs.Added.{added, added_places, added_bytes}
-use Rattle.mb_frames.proofs.Steps.{spots, row_is, round_is, within_rows, list_is, told_list, last_is}
+use Rattle.mb_frames.proofs.Steps.{spots, row_is, round_is, within_rows, last_is}
 
 times_here : (p : Ptr) (ps : List Ptr) → 1 ≤ times p (p ∷ ps)
 times_here p ps = omega (arith, times_cons p p ps, one_self p)

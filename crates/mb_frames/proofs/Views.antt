@@ -1,18 +1,17 @@
 -- The pages that a walk along the links meets are those of the row.
-use Rattle.std.proofs.Common.{◌≡◌, ℕ, zero, suc, ◌+◌, ◌<◌, ◌≤◌, Bool, true, false, cond, List, [], ◌∷◌, ◌++◌, length, get_or, set, map, refl, sym, ap, ◌∙◌, subst, arith, length-set, length-append, get_or-set_same, get_or-set_other}
+use Rattle.std.proofs.Common.{◌≡◌, ℕ, zero, suc, ◌<◌, ◌≤◌, true, false, cond, List, [], ◌∷◌, ◌++◌, length, get_or, set, map, refl, sym, ap, ◌∙◌, subst, arith, get_or-set_other}
 use Rattle.std.proofs.Math.Seq.{map-set_same}
-use Rattle.std.proofs.lemmas.List.{map-append, map-set, get_or-map, length-map}
-use Rattle.std.specs.Prelude.{◌≢◌, IsTrue}
+use Rattle.std.proofs.lemmas.List.{map-set}
+use Rattle.std.specs.Prelude.{◌≢◌}
 use Rattle.std.specs.List.{AllByRecursion}
-use denote.RawPtr.{Ptr, null_ptr}
-use Rattle.mb_frames.specs.Counts.{total, times}
-use Rattle.mb_frames.specs.Cells.{Cell, is_at, next_at, prev_at, head_at, bytes_at, places, Keeps, Moves}
+use denote.RawPtr.{Ptr}
+use Rattle.mb_frames.specs.Cells.{Cell, next_at, prev_at, head_at, places, Moves}
 use Rattle.mb_frames.specs.Shape.{Linked, Round, Headed, first_of, Shaped}
 use Rattle.mb_frames.specs.Pages.{Page, page}
 use Rattle.mb_frames.specs.Walks.{page_of, follow, pages_at, row_at}
 use Rattle.mb_frames.proofs.Sums.{total_at}
 use Rattle.mb_frames.proofs.Chains.{last}
-use Rattle.mb_frames.proofs.Shapes.{moved_rows, moved, rest, grown, keeps_all, bytes_all}
+use Rattle.mb_frames.proofs.Shapes.{moved_rows, moved, keeps_all, bytes_all}
 
 abbrev pub rest_of : List Ptr → List Ptr
 rest_of [] = []

@@ -1,19 +1,17 @@
 -- A walk along the links of a ring.
-use Rattle.std.proofs.Common.{◌≡◌, ℕ, zero, suc, ◌+◌, ◌<◌, ◌≤◌, min, Bool, true, false, List, [], ◌∷◌, ◌++◌, length, map, refl, sym, ap, ◌∙◌, subst, arith, append_assoc, length-append}
-use Rattle.std.proofs.lemmas.List.{length-map}
+use Rattle.std.proofs.Common.{◌≡◌, ℕ, ◌+◌, ◌<◌, ◌≤◌, true, false, List, [], ◌∷◌, ◌++◌, length, refl, sym, ap, ◌∙◌, subst, arith, append_assoc, length-append}
 use Rattle.std.proofs.lemmas.Bool.{true≢false}
 use Rattle.std.specs.Prelude.{IsTrue}
 use Rattle.std.specs.List.{AllByRecursion}
 use denote.RawPtr.{Ptr}
 use Rattle.mb_frames.specs.Counts.{times}
 use Rattle.mb_frames.specs.Cells.{Cell, is_at, next_at, prev_at, head_at}
-use Rattle.mb_frames.specs.Shape.{Linked, Round, Headed, Shaped}
-use Rattle.mb_frames.specs.Pages.{Page}
-use Rattle.mb_frames.specs.Walks.{pages_at, row_at, IsRing, Walked, first_or_head}
+use Rattle.mb_frames.specs.Shape.{Linked, Round}
+use Rattle.mb_frames.specs.Walks.{IsRing, Walked, first_or_head}
 use Rattle.mb_frames.proofs.Chains.{last, last_append, one_self, times_cons, times_append, cut_chain}
 use Rattle.mb_frames.proofs.Shapes.{all_cut}
 use Rattle.mb_frames.proofs.Views.{pages_row, map_places}
-use Rattle.mb_frames.proofs.Steps.{spots, row_is, round_is, within_rows, head_there, page_there}
+use Rattle.mb_frames.proofs.Steps.{spots}
 
 -- on the way
 pub record Walking (cs : List Cell) (h : Ptr) (most : ℕ) (p : Ptr) (n : ℕ) : Type 0 where

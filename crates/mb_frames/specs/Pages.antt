@@ -1,5 +1,5 @@
 -- The rings as callers see them: lists of pages.
-use Rattle.std.specs.Prelude.{◌≡◌, ℕ, zero, suc, ◌+◌, Bool, true, false, cond, List, [], ◌∷◌, ◌++◌, length, map, get_or, slice_set}
+use Rattle.std.specs.Prelude.{◌≡◌, ℕ, zero, suc, Bool, true, false, cond, List, [], ◌∷◌, map, get_or, slice_set}
 use denote.RawPtr.{Ptr}
 use Rattle.mb_frames.specs.Pointers.{same_ptr}
 use Rattle.mb_frames.specs.Counts.{total, times}

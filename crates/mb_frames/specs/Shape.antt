@@ -1,5 +1,5 @@
 -- How links make rings. A row is a ring's head and the pages after it, by their places.
-use Rattle.std.specs.Prelude.{◌≡◌, ℕ, zero, suc, ◌+◌, ◌<◌, ◌≤◌, Bool, true, false, cond, List, [], ◌∷◌, ◌++◌, length, map, get_or, IsTrue, ⊤}
+use Rattle.std.specs.Prelude.{◌≡◌, ℕ, ◌<◌, ◌≤◌, true, false, List, [], ◌∷◌, ◌++◌, length, get_or, IsTrue, ⊤}
 use Rattle.std.specs.List.{AllByRecursion}
 use denote.RawPtr.{Ptr, null_ptr}
 use Rattle.mb_frames.specs.Counts.{total, times}

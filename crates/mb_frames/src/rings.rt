@@ -121,7 +121,7 @@ impl Rings {
         Some(self.links.bytes(at))
     }
 
-    /// Appends a page to the ring, in a spare page.
+    /// Appends a page to the ring, in a spare page, in at most eight link writes.
     pub fn put(&mut self, ring: u32, bytes: &[u8; 512]) -> Token
         requires ring { ring < length self.old.rings }
         requires spare { 0 < self.old.spare }
@@ -130,6 +130,7 @@ impl Rings {
         ensures fresh { standing result self.old.rings ≡ 0 }
         ensures token { Stands self.new.rings result × (bytes_of result self.new.rings ≡ bytes.now) }
         ensures others { (p : Ptr) → p ≢ result → SameAt self.old.rings self.new.rings p }
+        ensures writes { (self.old.writes ≤ self.new.writes) × (self.new.writes ≤ self.old.writes + 8) }
     {
         let head = self.heads[ring as usize];
         let first = self.links.next(self.spare);

@@ -1,5 +1,5 @@
 -- `adopt` takes the box apart, and owns the node from then on. Assumes `Logic`.
-use Rattle.std.proofs.Common.{◌≡◌, ℕ, List, [], ◌∷◌, ◌++◌, refl, sym, ap, ◌∙◌, subst}
+use Rattle.std.proofs.Common.{◌≡◌, List, [], ◌∷◌, ◌++◌, refl, sym, ap, ◌∙◌, subst}
 use mir.Raw.{raw as bare}
 use mir.Syntax.{named}
 use mir.Val.{Val, vptr}
@@ -9,7 +9,7 @@ use base.Fraction.{full_share}
 use prog.Wp.{WpFn}
 use types.Logic.{sem}
 use types.Tokens.{lft_new}
-use types.Kit.{‵, raw, ◌⊛◌, some, later, await, pick, ◌$◌, ◌∵◌, !, qed, by, move, keep, drop, use0, use1, split, join, rewrite, fsplit, fsplit3, fjoin, fjoin3, feq_i, feq_l, suffices, done}
+use types.Kit.{‵, raw, ◌⊛◌, some, later, await, pick, ◌$◌, ◌∵◌, !, qed, by, move, keep, drop, use0, use1, split, join, fsplit, fsplit3, fjoin, fjoin3, feq_i, feq_l, suffices}
 use types.Part.{agg}
 use types.Run.{of_opd, and_then, no_more, returns, enter}
 use types.ByLocal.{alloc_all, pass_all, free_all, look_at, get, sets, lands_as}
@@ -19,10 +19,10 @@ use contract.Monad.{fact, fact_i}
 use contract.Running.{tables}
 use denote.RattleType.{RattleType, owns}
 use denote.Param.NoDrop.{glues}
-use denote.RawPtr.{Ptr, RawPtr, block_ptr, null_ptr, ptr_val, lies_at, in_a_block}
+use denote.RawPtr.{Ptr, RawPtr, block_ptr, null_ptr, ptr_val, in_a_block}
 use denote.Ref.{MutBor, MutRef, mut_vals}
 use denote.Signature.{plain}
-use denote.Steps.{nothing, only, heard, opens, closes}
+use denote.Steps.{nothing, only, opens, closes}
 use denote.Triple.Call.{calls_at}
 use denote.Triple.Clauses.{Lasts, lasts}
 use denote.Triple.Spec.{triple_of}
@@ -31,18 +31,16 @@ use Rattle.core.proofs.atomic.Steps.{fm}
 use Rattle.std.proofs.raw_atomic.Walks.{proved_at, leaves}
 use Rattle.std.proofs.impls.GlobalAllocator.TheImpl.Met.{passed}
 use Rattle.std.specs.contracts.impls.GlobalAllocator.TheImpl.{ghosts, dict}
-use Rattle.std.specs.Box.Ownership.{box_owns}
 use Rattle.std_alloc.proofs.BoxSteps.Form as box
 use Rattle.std_alloc.proofs.BoxSteps.Steps.{box_out, box_in}
-use Rattle.std_alloc.proofs.RcSteps.{word, word-Good}
+use Rattle.std_alloc.proofs.RcSteps.{word}
 use Rattle.std_alloc.specs.contracts.boxed.Box.into_raw as callee
 use Rattle.std_alloc.proofs.boxed.Box.into_raw.Met.{met}
 use Rattle.libc.specs.Heap.{chunk}
-use Rattle.mb_frames.specs.Cells.{Cell, cell, places, IsFresh}
-use Rattle.mb_frames.specs.Ownership.{cell_owns, cells_own}
+use Rattle.mb_frames.specs.Cells.{cell, places, IsFresh}
+use Rattle.mb_frames.specs.Ownership.{cell_owns}
 use Rattle.mb_frames.specs.contracts.nodes.Nodes.{the_row as Nr}
 use Rattle.mb_frames.specs.contracts.node.Node.{the_row as R}
-use Rattle.mb_frames.specs.contracts.node.NodePtr.{the_row as Np}
 use Rattle.mb_frames.proofs.node.Node.TheLaws as node_laws
 use Rattle.std.proofs.alloc.Global.TheLaws as global_laws
 use denote.Memory.{lone}

@@ -1,5 +1,5 @@
 -- `node_mut` lends one node, and the owner follows it. Assumes `Logic`.
-use Rattle.std.proofs.Common.{◌≡◌, ℕ, List, [], ◌∷◌, ◌++◌, refl, sym, ap, ◌∙◌, subst}
+use Rattle.std.proofs.Common.{◌≡◌, ℕ, List, [], ◌∷◌, ◌++◌, refl, sym, ◌∙◌, subst}
 use Rattle.std.specs.Prelude.{IsTrue}
 use seplogic.Ra.Ura.{Ura}
 use mir.Raw.{raw as bare}
@@ -10,13 +10,13 @@ use base.Fml.{GName, Fml, ftrue, fsep, fat, flft}
 use base.Fraction.{full_share}
 use prog.Wp.{WpFn}
 use types.Logic.{Logic, sem}
-use types.Kit.{‵, raw, ◌⊛◌, some, later, await, pick, at_ret, ◌$◌, ◌∵◌, !, qed, by, move, keep, drop, use0, use1, use2, split, split3, join, group, rewrite, fsplit, fsplit3, fjoin, fpack, feq_i, feq_l, suffices, done}
+use types.Kit.{‵, raw, ◌⊛◌, some, later, await, pick, at_ret, ◌$◌, ◌∵◌, !, qed, by, move, keep, drop, use0, use1, use2, split, split3, join, group, rewrite, fsplit, fsplit3, fjoin, fpack, feq_l, suffices, done}
 use types.Part.{whole, sub}
 use types.Run.{stop, hop, fld, from, of_opd, addr, first, blocks, exec, returns, enter}
 use types.ByLocal.{alloc_all, pass_all, free_all, look_at, look_in_at, get, sets, sets_last, take_at, give_at, env}
 use contract.Monad.{fact, fact_i}
 use contract.Running.{tables}
-use denote.RattleType.{RattleType, owns}
+use denote.RattleType.{owns}
 use denote.Memory.{mem, lone, cell_at, part_at, part_of}
 use denote.Param.{layout}
 use denote.RawPtr.{Ptr, block_ptr, lies_at, in_a_block}
@@ -29,7 +29,7 @@ use Rattle.std.proofs.raw_atomic.Walks.{proved_at, leaves}
 use Rattle.std_alloc.proofs.VecSteps.Shapes.{after}
 use Rattle.std_alloc.proofs.RcSteps.{word, word-Good}
 use Rattle.libc.specs.Heap.{chunk}
-use Rattle.mb_frames.specs.Cells.{Cell, cell, is_at, node_at, put_node}
+use Rattle.mb_frames.specs.Cells.{Cell, cell, is_at, node_at}
 use Rattle.mb_frames.specs.Ownership.{cell_owns, cells_own}
 use Rattle.mb_frames.specs.Lends.{with_node}
 use Rattle.mb_frames.specs.declared.node.Node.{Node}

@@ -1,5 +1,4 @@
-use Rattle.std.proofs.Common.{rules, refl, ◌≡◌, List, [], ◌∷◌, ◌++◌}
-use Rattle.mb_frames.specs.declared.node.NodePtr.{NodePtr}
+use Rattle.std.proofs.Common.{rules, refl, ◌≡◌, [], ◌∷◌, ◌++◌}
 use Rattle.mb_frames.proofs.Heads.{made_start, made_next, made_sound, made_rings}
 use Rattle.mb_frames.proofs.rings.Rings.new.Goals as goal
 

@@ -1,5 +1,4 @@
-use Rattle.std.proofs.Common.{rules, arith, sym, ap, ◌∙◌, subst, ◌≡◌, ◌+◌, ◌≤◌, ◌++◌, ◌∷◌, [], List, length, map, max}
-use Rattle.std.specs.Prelude.{vec_len, vec_capacity}
+use Rattle.std.proofs.Common.{rules, sym, ap, ◌∙◌, subst, ◌≡◌, ◌++◌, ◌∷◌, [], List, length, map}
 use Rattle.mb_frames.specs.Pages.{Shelf}
 use Rattle.mb_frames.specs.Walks.{pages_at, Sound}
 use Rattle.mb_frames.specs.declared.node.NodePtr.{NodePtr}

@@ -1,5 +1,5 @@
 use Rattle.std.proofs.Common.{refl, arith}
-use Rattle.mb_frames.proofs.Stock.{ring_of, walked_count}
+use Rattle.mb_frames.proofs.Stock.{ring_of}
 use Rattle.mb_frames.proofs.rings.Rings.spare.Goals as goal
 
 pub walk-requires : goal.walk-requires
