@@ -4,6 +4,7 @@ use Rattle.std.proofs.lemmas.Bool.{true≢false}
 use Rattle.std.specs.Prelude.{IsTrue}
 use Rattle.std.specs.List.{AllByRecursion}
 use denote.RawPtr.{Ptr}
+use Rattle.std.specs.Global.{Global}
 use Rattle.mb_frames.specs.declared.node.Node.{Node}
 use Rattle.mb_frames.specs.Pointers.{same_ptr}
 use Rattle.mb_frames.specs.Counts.{total, times}
@@ -26,8 +27,8 @@ fresh_differs p q (r ∷ rs) f t = (elim (same_ptr r q) as (λ y. same_ptr r q �
 fresh_none : (p : Ptr) (ps : List Ptr) → IsFresh p ps → IsTrue (has p ps) → ⊥
 fresh_none p ps f t = true≢false (sym (same_ptr_refl p) ∙ fresh_differs p p ps f t)
 
-pub adopts : (old new : List Cell) (p : Ptr) (n : Node) (h : Bool) → new ≡ cell p n ∷ old → n.is_head ≡ h → IsFresh p (places old) → Adopts old new p h
-adopts old new p n h is e f = record { node = n; is = is; head = e; fresh = f }
+pub adopts : (old new : List Cell) (p : Ptr) (a : Global) (n : Node) (h : Bool) → new ≡ cell a p n ∷ old → n.is_head ≡ h → IsFresh p (places old) → Adopts old new p h
+adopts old new p a n h is e f = record { alloc = a; node = n; is = is; head = e; fresh = f }
 
 module _ (old one_ : List Cell) (p : Ptr) (h : Bool) (A : Adopts old one_ p h) where
   read_old : {X : Type 0} (f : Node → X) (d : X) (q : Ptr) → same_ptr p q ≡ false → read f d one_ q ≡ read f d old q

@@ -43,7 +43,7 @@ pub record Found (p : Ptr) (cs : List Cell) : Type 0 where
   pub after : List Cell
   pub cut : cs ≡ before ++ here ∷ after
   pub place : here.at ≡ p
-  pub put : (w : Node) → put_node p w cs ≡ before ++ cell here.at w ∷ after
+  pub put : (w : Node) → put_node p w cs ≡ before ++ cell here.alloc here.at w ∷ after
   pub got : (d : Node) → node_at p cs d ≡ here.node
 
 pub found : (p : Ptr) (cs : List Cell) → IsTrue (is_at p cs) → Found p cs
@@ -56,7 +56,7 @@ found p (c ∷ cs) t = (elim (same_ptr c.at p) as (λ y. same_ptr c.at p ≡ y �
     after = cs;
     cut = refl;
     place = same_ptr_eq c.at p e;
-    put = λ w i. cond (e i) (cell c.at w ∷ cs) (c ∷ put_node p w cs);
+    put = λ w i. cond (e i) (cell c.alloc c.at w ∷ cs) (c ∷ put_node p w cs);
     got = λ d i. cond (e i) c.node (node_at p cs d);
   }
   | false ↦ λ e.
@@ -67,7 +67,7 @@ found p (c ∷ cs) t = (elim (same_ptr c.at p) as (λ y. same_ptr c.at p ≡ y �
         after = f.after;
         cut = ap (λ l. c ∷ l) f.cut;
         place = f.place;
-        put = λ w. (λ i. cond (e i) (cell c.at w ∷ cs) (c ∷ put_node p w cs)) ∙ ap (λ l. c ∷ l) (f.put w);
+        put = λ w. (λ i. cond (e i) (cell c.alloc c.at w ∷ cs) (c ∷ put_node p w cs)) ∙ ap (λ l. c ∷ l) (f.put w);
         got = λ d. (λ i. cond (e i) c.node (node_at p cs d)) ∙ f.got d;
       }
 ]) refl

@@ -36,7 +36,6 @@ use Rattle.std_alloc.proofs.BoxSteps.Steps.{box_out, box_in}
 use Rattle.std_alloc.proofs.RcSteps.{word}
 use Rattle.std_alloc.specs.contracts.boxed.Box.into_raw as callee
 use Rattle.std_alloc.proofs.boxed.Box.into_raw.Met.{met}
-use Rattle.libc.specs.Heap.{chunk}
 use Rattle.mb_frames.specs.Cells.{cell, places, IsFresh}
 use Rattle.mb_frames.specs.Ownership.{cell_owns}
 use Rattle.mb_frames.specs.contracts.nodes.Nodes.{the_row as Nr}
@@ -86,10 +85,10 @@ adopt_spec {M} 𝓤 𝓛 𝓜 𝓡 wired =
     nothing ! $ use0 𝓛 (raw (fact 𝓤 inG)) (fact_i 𝓤 inG (emp 𝓤) (global_laws.the_within (β ∷ []))) $ join ! $ use0 𝓛 (raw (fact 𝓤 inT)) (fact_i 𝓤 inT (emp 𝓤) (node_laws.the_within (α ∷ []))) $ join ! $
     move ! (1 ∷ 0 ∷ []) $ join ! $ use1 𝓛 (raw (k.pre y)) (id⊢ 𝓤 _) $
     calls_at ! (fm 𝓛 𝓜 𝓡) k known y (and_then ! (get ! refl) (no_more !)) (λ u.
-    use1 𝓛 (later (some (λ (r : Ptr). (toks ⊛ ‵ (RawPtr.own_val r (u ∷ []))) ⊛ some (λ (ls : Lasts called κs y.0.3). ‵ (lasts called κs y.0.3 ls) ⊛ ‵ (cell_owns (cell r v.value)))))) (id⊢ 𝓤 (k.post y u)) $
+    use1 𝓛 (later (some (λ (r : Ptr). (toks ⊛ ‵ (RawPtr.own_val r (u ∷ []))) ⊛ some (λ (ls : Lasts called κs y.0.3). ‵ (lasts called κs y.0.3 ls) ⊛ ‵ (cell_owns (cell v.alloc r v.value)))))) (id⊢ 𝓤 (k.post y u)) $
     await ! tt $ pick ! (λ r. split ! $ move ! (1 ∷ []) $ pick ! (λ ls. split ! $ drop ! $
-    in_a_block ! r (λ p. cell_owns (cell p v.value)) (fst∗ 𝓤 (never 𝓤) (sem 𝓛 (chunk (bare (lone R.mir)) null_ptr))) (λ b' o' e'.
-    let p : Ptr = block_ptr b' o' in let made : Nr.Denot = record { mark = d.mark; cells = cell p v.value ∷ d.cells } in
+    in_a_block ! r (λ p. cell_owns (cell v.alloc p v.value)) (fst∗ 𝓤 (never 𝓤) (sem 𝓛 (ghosts.dealloc_token v.alloc (bare (lone R.mir)) null_ptr))) (λ b' o' e'.
+    let p : Ptr = block_ptr b' o' in let made : Nr.Denot = record { mark = d.mark; cells = cell v.alloc p v.value ∷ d.cells } in
     move ! (1 ∷ []) $ split ! $ move ! (1 ∷ []) $ feq_l ! (λ eu. drop ! $
     lands_as ! (ap only eu ∙ ap ptr_val e') refl (tt, tt) $ sets ! (agg ! (and_then ! (get ! refl) (no_more !))) refl (tt, (tt, tt)) $
     -- [the cell; nothing; obs; open; tokens]

@@ -36,7 +36,6 @@ use Rattle.std_alloc.proofs.BoxSteps.Steps.{box_out, box_in}
 use Rattle.std_alloc.proofs.RcSteps.{word, word-Good}
 use Rattle.std_alloc.specs.contracts.boxed.Box.from_raw as callee
 use Rattle.std_alloc.proofs.boxed.Box.from_raw.Met.{met}
-use Rattle.libc.specs.Heap.{chunk}
 use Rattle.mb_frames.specs.Cells.{Cell, cell, places}
 use Rattle.mb_frames.specs.Ownership.{cell_owns, cells_own}
 use Rattle.mb_frames.specs.contracts.nodes.Nodes.{the_row as Nr}
@@ -88,7 +87,7 @@ give_back_spec {M} 𝓤 𝓛 𝓜 𝓡 wired =
     move ! (3 ∷ []) $ split ! $ move ! (3 ∷ 4 ∷ 0 ∷ []) $ opens ! tt Nr {h = d} rb ro (λ vs. move ! (1 ∷ []) $ fsplit ! $ move ! (1 ∷ []) $
     rewrite ! 0 (λ (l : List Cell). ‵ (cells_own l)) n.cut refl $ fsplit ! $ move ! (2 ∷ 1 ∷ []) $ fjoin ! $ move ! (2 ∷ 0 ∷ 3 ∷ 4 ∷ 5 ∷ []) $ closes ! tt Nr made vs rb ro $
     -- [obs; open; the token; the cell; nothing; the handle]
-    move ! (3 ∷ []) $ in_a_block ! n.here.at (λ r. cell_owns (cell r x)) (fst∗ 𝓤 (never 𝓤) (sem 𝓛 (chunk (bare (lone R.mir)) null_ptr))) (λ pb po e.
+    move ! (3 ∷ []) $ in_a_block ! n.here.at (λ r. cell_owns (cell n.here.alloc r x)) (fst∗ 𝓤 (never 𝓤) (sem 𝓛 (ghosts.dealloc_token n.here.alloc (bare (lone R.mir)) null_ptr))) (λ pb po e.
     let ep : p ≡ block_ptr pb po = sym n.place ∙ e in
     take_at ! 3 $ rewrite ! 0 (λ (r : Ptr). ‵ (fat full_share (layout Np) (l 3) 0 (word r))) ep refl $ give_at ! 3 $
     lft_new ! tt (λ α. lft_new ! tt (λ β.

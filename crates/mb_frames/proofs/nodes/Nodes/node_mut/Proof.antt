@@ -28,7 +28,7 @@ use denote.Signature.{plain}
 use Rattle.std.proofs.raw_atomic.Walks.{proved_at, leaves}
 use Rattle.std_alloc.proofs.VecSteps.Shapes.{after}
 use Rattle.std_alloc.proofs.RcSteps.{word, word-Good}
-use Rattle.libc.specs.Heap.{chunk}
+use Rattle.std.specs.contracts.impls.GlobalAllocator.TheImpl.{ghosts}
 use Rattle.mb_frames.specs.Cells.{Cell, cell, is_at, node_at}
 use Rattle.mb_frames.specs.Ownership.{cell_owns, cells_own}
 use Rattle.mb_frames.specs.Lends.{with_node}
@@ -49,12 +49,12 @@ stayed = (stay_dropped (slot_at 0 f.ended.signature.params) f.ended.kept.0, (sta
 module _ {M : Type 1} {𝓤 : Ura M} (𝓛 : Logic 𝓤) (rb ro : ℕ) (d : Nr.Denot) (p : Ptr) (n : Found p d.cells) (vs : List Val) (b o : ℕ) where
   -- all but the node
   abbrev Rest : Fml
-  Rest = fsep (chunk (bare (lone R.mir)) n.here.at) (fsep (cells_own (n.before ++ n.after)) (fsep (Mark.own_val (tt, tt) vs) (cell_at full_share Nr.mir vs rb ro)))
+  Rest = fsep (ghosts.dealloc_token n.here.alloc (bare (lone R.mir)) n.here.at) (fsep (cells_own (n.before ++ n.after)) (fsep (Mark.own_val (tt, tt) vs) (cell_at full_share Nr.mir vs rb ro)))
 
   back : n.here.at ≡ block_ptr b o → (w : Node) → ent 𝓤 (sep 𝓤 (sem 𝓛 ((mem R).own_at w b o)) (sem 𝓛 Rest)) (sem 𝓛 ((mem Nr).own_at (with_node d p w) rb ro))
   unfolding part_of
   back e w =
-      let m : Cell = cell n.here.at w in
+      let m : Cell = cell n.here.alloc n.here.at w in
       qed 𝓛 (‵ (part_at R full_share w b o) ∷ ‵ Rest ∷ []) ∵ rewrite ! 0 (λ (r : Ptr). ‵ (lies_at R full_share r w)) (sym e) refl $
       move ! (1 ∷ []) $ fsplit3 ! $ move ! (2 ∷ []) $ fsplit ! $ move ! (4 ∷ 2 ∷ []) $ fjoin ! $ move ! (0 ∷ 3 ∷ []) $
       use2 𝓛 (‵ (cells_own (n.before ++ m ∷ n.after))) (cells_glue 𝓛 n.before m n.after) $ rewrite ! 0 (λ (cs : List Cell). ‵ (cells_own cs)) (sym (n.put w)) refl $
