@@ -4,7 +4,8 @@ use Rattle.std.specs.Prelude.{IsTrue}
 use denote.RawPtr.{Ptr}
 use Rattle.mb_frames.specs.declared.node.Node.{Node}
 use Rattle.mb_frames.specs.declared.node.NodePtr.{NodePtr}
-use Rattle.mb_frames.specs.Cells.{same_ptr, has, Cell, cell, is_at, node_at, put_node, places, read, next_at, prev_at, head_at, bytes_at, Keeps, Links, Writes}
+use Rattle.mb_frames.specs.Pointers.{same_ptr}
+use Rattle.mb_frames.specs.Cells.{has, Cell, cell, is_at, node_at, put_node, places, read, next_at, prev_at, head_at, bytes_at, Keeps, Links, Writes}
 use Rattle.mb_frames.proofs.Pointers.{same_ptr_refl, same_ptr_eq}
 
 module _ {X : Type 0} (f : Node → X) where
@@ -33,7 +34,7 @@ module _ {X : Type 0} (f : Node → X) where
   pub read_put : (d : X) (p : Ptr) (w : Node) (cs : List Cell) → IsTrue (is_at p cs) → (q : Ptr) → read f d (put_node p w cs) q ≡ cond (same_ptr p q) (f w) (read f d cs q)
   unfolding has read put_node
   read_put d p w [] t q = absurd (subst T (sym t) tt)
-  read_put d p w (c ∷ cs) t q = (elim (same_ptr c.at p) as (λ y. same_ptr c.at p ≡ y → read f d (cond y (cell c.at w ∷ cs) (c ∷ put_node p w cs)) q ≡ cond (same_ptr p q) (f w) (read f d (c ∷ cs) q)) [
+  read_put d p w (c ∷ cs) t q = (elim (same_ptr c.at p) as (λ y. same_ptr c.at p ≡ y → read f d (cond y (cell c.alloc c.at w ∷ cs) (c ∷ put_node p w cs)) q ≡ cond (same_ptr p q) (f w) (read f d (c ∷ cs) q)) [
     | true ↦ λ s. subst (λ r. cond (same_ptr r q) (f w) (read f d cs q) ≡ cond (same_ptr p q) (f w) (cond (same_ptr r q) (f c.node) (read f d cs q))) (sym (same_ptr_eq c.at p s)) (twice (same_ptr p q) (f w) (f c.node) (read f d cs q))
     | false ↦ λ s. ap (λ v. cond (same_ptr c.at q) (f c.node) v) (read_put d p w cs (subst (λ y. IsTrue (y || is_at p cs)) s t) q) ∙ apart (f w) (f c.node) (read f d cs q) p q c.at s
   ]) refl
@@ -41,7 +42,7 @@ module _ {X : Type 0} (f : Node → X) where
 pub places_put : (p : Ptr) (w : Node) (cs : List Cell) → places (put_node p w cs) ≡ places cs
 unfolding put_node
 places_put p w [] = refl
-places_put p w (c ∷ cs) = (elim (same_ptr c.at p) as (λ y. places (cond y (cell c.at w ∷ cs) (c ∷ put_node p w cs)) ≡ places (c ∷ cs)) [
+places_put p w (c ∷ cs) = (elim (same_ptr c.at p) as (λ y. places (cond y (cell c.alloc c.at w ∷ cs) (c ∷ put_node p w cs)) ≡ places (c ∷ cs)) [
   | true ↦ refl
   | false ↦ ap (λ l. c.at ∷ l) (places_put p w cs)
 ])

@@ -6,7 +6,7 @@ use denote.Memory.{lone}
 use denote.Struct.Struct.{exits_of}
 use denote.Struct.Owning.{shape, fields, to}
 use denote.Param.Send.{IsSend, AllSend, owning_send, struct_send, sendable}
-use Rattle.libc.specs.Heap.{chunk-Keyless}
+use Rattle.std.proofs.Crossing.{frees}
 use Rattle.std_alloc.proofs.SendSync.{quiet, lies}
 use Rattle.mb_frames.specs.Cells.{Cell}
 use Rattle.mb_frames.specs.Ownership.{cells_own}
@@ -18,7 +18,7 @@ node_send = search sendable depth 40
 
 cells-Keyless : (cs : List Cell) → Keyless (cells_own cs)
 cells-Keyless [] = tt
-cells-Keyless (c ∷ cs) = ((lies R node_send c.at c.node, chunk-Keyless (raw (lone R.mir)) c.at), cells-Keyless cs)
+cells-Keyless (c ∷ cs) = ((lies R node_send c.at c.node, frees.frees c.alloc (raw (lone R.mir)) c.at), cells-Keyless cs)
 
 pub Nodes-send : IsSend Nodes.the_row
 Nodes-send =

@@ -1,11 +1,11 @@
 -- What the walks of the pointer functions share. Assumes `Logic`.
-use Rattle.std.proofs.Common.{◌≡◌, ℕ, zero, suc, ◌+◌, true, false, List, [], ◌∷◌, ◌++◌, refl, sym, subst, arith}
+use Rattle.std.proofs.Common.{◌≡◌, ℕ, zero, suc, true, false, List, [], ◌∷◌, ◌++◌, refl, subst, arith}
 use seplogic.Ra.Ura.{Ura}
 use base.Fraction.{full_share}
 use mir.Syntax.{Ty}
 use mir.Val.{Val, vstruct, of_list}
 use base.Logic.{SProp, ent, sep, emp, never, never_e, id⊢, via, fst∗, snd∗}
-use base.Fml.{Lft, Fml, ftrue, fat, froom}
+use base.Fml.{Lft, fat, froom}
 use borrow.Table.OneValue.{part_out}
 use denote.Param.{layout}
 use Rattle.mb_frames.specs.declared.node.Node.{Node}
@@ -20,10 +20,11 @@ use denote.Signature.{Slot, plain}
 use denote.RattleType.{RattleType, Valss}
 use denote.Struct.Struct.{Shape, Struct, within}
 use Rattle.std_alloc.proofs.RcSteps.{word}
-use denote.Memory.{part_at, cell_at}
+use denote.Memory.{part_at}
 use denote.RawPtr.{Ptr, block_ptr, null_ptr, lies_at}
 use denote.Struct.Lending.{lent_at}
-use Rattle.mb_frames.specs.Cells.{same_ptr, Cell, places, IsFresh}
+use Rattle.mb_frames.specs.Pointers.{same_ptr}
+use Rattle.mb_frames.specs.Cells.{Cell, places, IsFresh}
 use Rattle.mb_frames.specs.Ownership.{cell_owns, cells_own, cells_lent}
 use Rattle.mb_frames.specs.contracts.node.Node.{the_row as R}
 use Rattle.mb_frames.proofs.Pointers.{same_ptr_eq}

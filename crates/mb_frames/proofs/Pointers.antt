@@ -5,7 +5,8 @@ use Rattle.std.proofs.lemmas.Option.{none-some}
 use lib.Dec.{eqb_refl}
 use denote.RawPtr.{Ptr, block_ptr, null_ptr}
 use Rattle.mb_frames.specs.declared.node.Node.{Node}
-use Rattle.mb_frames.specs.Cells.{same_ptr, has, Cell, cell, is_at, node_at, put_node, places}
+use Rattle.mb_frames.specs.Pointers.{same_ptr}
+use Rattle.mb_frames.specs.Cells.{has, Cell, cell, is_at, node_at, put_node, places}
 
 true_of : (b : Bool) → T b → b ≡ true
 true_of true t = refl
@@ -42,7 +43,7 @@ pub record Found (p : Ptr) (cs : List Cell) : Type 0 where
   pub after : List Cell
   pub cut : cs ≡ before ++ here ∷ after
   pub place : here.at ≡ p
-  pub put : (w : Node) → put_node p w cs ≡ before ++ cell here.at w ∷ after
+  pub put : (w : Node) → put_node p w cs ≡ before ++ cell here.alloc here.at w ∷ after
   pub got : (d : Node) → node_at p cs d ≡ here.node
 
 pub found : (p : Ptr) (cs : List Cell) → IsTrue (is_at p cs) → Found p cs
@@ -50,15 +51,23 @@ unfolding has node_at put_node
 found p [] t = absurd (subst T (sym t) tt)
 found p (c ∷ cs) t = (elim (same_ptr c.at p) as (λ y. same_ptr c.at p ≡ y → Found p (c ∷ cs)) [
   | true ↦ λ e. record {
-      before = []; here = c; after = cs; cut = refl; place = same_ptr_eq c.at p e;
-      put = λ w i. cond (e i) (cell c.at w ∷ cs) (c ∷ put_node p w cs);
-      got = λ d i. cond (e i) c.node (node_at p cs d);
-    }
+    before = [];
+    here = c;
+    after = cs;
+    cut = refl;
+    place = same_ptr_eq c.at p e;
+    put = λ w i. cond (e i) (cell c.alloc c.at w ∷ cs) (c ∷ put_node p w cs);
+    got = λ d i. cond (e i) c.node (node_at p cs d);
+  }
   | false ↦ λ e.
       let f = found p cs (subst (λ y. IsTrue (y || is_at p cs)) e t) in
       record {
-        before = c ∷ f.before; here = f.here; after = f.after; cut = ap (λ l. c ∷ l) f.cut; place = f.place;
-        put = λ w. (λ i. cond (e i) (cell c.at w ∷ cs) (c ∷ put_node p w cs)) ∙ ap (λ l. c ∷ l) (f.put w);
+        before = c ∷ f.before;
+        here = f.here;
+        after = f.after;
+        cut = ap (λ l. c ∷ l) f.cut;
+        place = f.place;
+        put = λ w. (λ i. cond (e i) (cell c.alloc c.at w ∷ cs) (c ∷ put_node p w cs)) ∙ ap (λ l. c ∷ l) (f.put w);
         got = λ d. (λ i. cond (e i) c.node (node_at p cs d)) ∙ f.got d;
       }
 ]) refl

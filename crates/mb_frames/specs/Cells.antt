@@ -1,22 +1,18 @@
--- The nodes as the proofs see them: each with the place where it lies.
-use Rattle.std.specs.Prelude.{◌≡◌, ℕ, Bool, true, false, ◌&&◌, ◌||◌, ◌==◌, cond, List, [], ◌∷◌, map}
+-- The nodes as the proofs see them: each with the place where it lies, and the allocator that frees its block.
+use Rattle.std.specs.Prelude.{◌≡◌, ℕ, Bool, true, false, ◌||◌, cond, List, [], ◌∷◌, map}
 use Rattle.std.specs.List.{AllByRecursion}
-use denote.RawPtr.{Ptr, block_ptr, null_ptr}
+use denote.RawPtr.{Ptr}
+use Rattle.std.specs.Global.{Global}
+use Rattle.mb_frames.specs.Pointers.{same_ptr}
 use Rattle.mb_frames.specs.declared.node.Node.{Node}
 
--- whether two pointers are the same
-abbrev pub same_ptr : Ptr → Ptr → Bool
-same_ptr (block_ptr b o) (block_ptr c p) = (b == c) && (o == p)
-same_ptr (block_ptr b o) null_ptr = false
-same_ptr null_ptr (block_ptr c p) = false
-same_ptr null_ptr null_ptr = true
-
 pub record Cell : Type 0 where
+  pub alloc : Global
   pub at : Ptr
   pub node : Node
 
-abbrev pub cell : Ptr → Node → Cell
-cell p n = record { at = p; node = n }
+abbrev pub cell : Global → Ptr → Node → Cell
+cell a p n = record { alloc = a; at = p; node = n }
 
 abbrev pub places : List Cell → List Ptr
 places = map (λ c. c.at)
@@ -42,7 +38,7 @@ node_at p (c ∷ cs) d = cond (same_ptr c.at p) c.node (node_at p cs d)
 -- the cells with w as the node at p
 unfoldable pub put_node : Ptr → Node → List Cell → List Cell
 put_node p w [] = []
-put_node p w (c ∷ cs) = cond (same_ptr c.at p) (cell c.at w ∷ cs) (c ∷ put_node p w cs)
+put_node p w (c ∷ cs) = cond (same_ptr c.at p) (cell c.alloc c.at w ∷ cs) (c ∷ put_node p w cs)
 
 -- what f reads of the node at p, or else d
 unfoldable pub read : {X : Type 0} → (Node → X) → X → List Cell → Ptr → X
@@ -87,3 +83,25 @@ pub record Writes (old new : List Cell) (p : Ptr) (content : List ℕ) : Type 0 
   pub bytes : (q : Ptr) → bytes_at new q ≡ cond (same_ptr p q) content (bytes_at old q)
   pub next : (q : Ptr) → next_at new q ≡ next_at old q
   pub prev : (q : Ptr) → prev_at new q ≡ prev_at old q
+
+-- a node came in at p, which was no node's place
+pub record Adopts (old new : List Cell) (p : Ptr) (is_head : Bool) : Type 0 where
+  pub alloc : Global
+  pub node : Node
+  pub is : new ≡ cell alloc p node ∷ old
+  pub head : node.is_head ≡ is_head
+  pub fresh : IsFresh p (places old)
+
+-- a page came in at p, and was linked in before target
+pub record Adds (old new : List Cell) (p target : Ptr) : Type 0 where
+  pub one : List Cell
+  pub two : List Cell
+  pub adopted : Adopts old one p false
+  pub begins : Links one two (prev_at old target) p
+  pub ends : Links two new p target
+
+-- a head came in at p, with nothing in its ring
+pub record AddsHead (old new : List Cell) (p : Ptr) : Type 0 where
+  pub one : List Cell
+  pub adopted : Adopts old one p true
+  pub loops : Links one new p p

@@ -1,3 +1,8 @@
 pub mod Cells
+pub mod Counts
 pub mod Lends
 pub mod Ownership
+pub mod Pages
+pub mod Pointers
+pub mod Walks
+pub mod Shape

@@ -1,8 +1,9 @@
 //! Changes of links, counted.
-ghost use Rattle.std.specs.Prelude.{◌≡◌, ◌+◌, ◌-◌, ◌^◌, min, IsTrue};
-ghost use Rattle.mb_frames.specs.Cells.{is_at, next_at, prev_at, head_at, bytes_at, Links as LinksBy, Moves, Writes};
+ghost use Rattle.std.specs.Prelude.{◌≡◌, ◌+◌, ◌-◌, ◌^◌, [], min, IsTrue};
+ghost use Rattle.mb_frames.specs.Cells.{is_at, next_at, prev_at, head_at, bytes_at, Links as LinksBy, Moves, Writes, Adds, AddsHead};
+ghost use Rattle.mb_frames.specs.Walks.{IsRing, Walked};
 
-use crate::node::NodePtr;
+use crate::node::{Node, NodePtr};
 use crate::nodes::Nodes;
 
 /// The nodes, and how often a link of one was written. At its greatest value the count stands still.
@@ -12,6 +13,16 @@ pub(crate) struct Links {
 }
 
 impl Links {
+    pub(crate) fn new() -> Links
+        ensures cells { result.nodes.cells ≡ [] }
+        ensures writes { result.writes ≡ 0 }
+    {
+        Links {
+            nodes: Nodes::new(),
+            writes: 0,
+        }
+    }
+
     #[tactic(auto, using(crate::proofs::Cells::next_read))]
     pub(crate) fn next(&self, at: NodePtr) -> NodePtr
         requires { IsTrue (is_at at.ptr self.now.nodes.cells) }
@@ -42,6 +53,21 @@ impl Links {
         ensures { result.now ≡ bytes_at self.now.nodes.cells at.ptr }
     {
         &self.nodes.node(at).bytes
+    }
+
+    /// Goes from the first node after the head to the one that comes `most` steps later, or else to the head. Returns
+    /// that node and the number of steps.
+    pub(crate) fn walk(&self, head: NodePtr, most: u32) -> (NodePtr, u32)
+        requires { IsRing self.now.nodes.cells head.ptr }
+        ensures { Walked self.now.nodes.cells head.ptr most result.0.ptr result.1 }
+    {
+        let mut at = self.next(head);
+        let mut steps = 0;
+        'steps: while steps < most && !self.is_head(at) {
+            at = self.next(at);
+            steps += 1;
+        }
+        (at, steps)
     }
 
     pub(crate) fn write(&mut self, at: NodePtr, bytes: &[u8; 512])
@@ -76,5 +102,29 @@ impl Links {
         self.link(before, after);
         self.link(tail, first);
         self.link(last, target);
+    }
+
+    /// Takes a page in, and links it in before `target`.
+    pub(crate) fn add(&mut self, mut node: Box<Node>, target: NodePtr) -> NodePtr
+        requires { IsTrue (is_at target.ptr self.old.nodes.cells) × IsTrue (is_at (prev_at self.old.nodes.cells target.ptr) self.old.nodes.cells) }
+        ensures cells { Adds self.old.nodes.cells self.new.nodes.cells result.ptr target.ptr }
+        ensures writes { self.new.writes ≡ min (self.old.writes + 4) (2 ^ 64 - 1) }
+    {
+        node.is_head = false;
+        let tail = self.prev(target);
+        let at = self.nodes.adopt(node);
+        self.link(tail, at);
+        self.link(at, target);
+        at
+    }
+
+    /// Takes a head in, whose ring is empty.
+    pub(crate) fn add_head(&mut self, mut node: Box<Node>) -> NodePtr
+        ensures { AddsHead self.old.nodes.cells self.new.nodes.cells result.ptr }
+    {
+        node.is_head = true;
+        let at = self.nodes.adopt(node);
+        self.link(at, at);
+        at
     }
 }

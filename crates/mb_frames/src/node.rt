@@ -22,6 +22,18 @@ pub(crate) struct NodePtr {
 
 unsafe impl Send for NodePtr {}
 
+impl Node {
+    /// A node that is linked to none, with zeros.
+    pub(crate) fn unlinked() -> Node {
+        Node {
+            next: NodePtr::nowhere(),
+            prev: NodePtr::nowhere(),
+            is_head: false,
+            bytes: [0; 512],
+        }
+    }
+}
+
 impl NodePtr {
     /// The address of no node.
     pub(crate) fn nowhere() -> NodePtr

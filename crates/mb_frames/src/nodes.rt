@@ -1,6 +1,7 @@
 //! The nodes' memory. Each node lies in a block of its own, and links name it by its address.
 ghost use Rattle.std.specs.Prelude.{◌≡◌, [], ◌∷◌, List, IsTrue, Some, slice_get, drop};
 ghost use Rattle.std.specs.Borrow.{sem};
+ghost use Rattle.std.specs.Box.{box_allocator};
 ghost use Rattle.mb_frames.specs.Cells.{Cell, cell, is_at, node_at, places, IsFresh};
 
 use crate::node::{Node, NodePtr};
@@ -41,7 +42,7 @@ impl Nodes {
 
     /// Takes a node in.
     pub(crate) fn adopt(&mut self, node: Box<Node>) -> NodePtr
-        ensures cells { self.new.cells ≡ cell result.ptr node.value ∷ self.old.cells }
+        ensures cells { self.new.cells ≡ cell (box_allocator node) result.ptr node.value ∷ self.old.cells }
         ensures fresh { IsFresh result.ptr (places self.old.cells) }
     {
         NodePtr {

@@ -1,5 +1,5 @@
 -- `adopt` takes the box apart, and owns the node from then on. Assumes `Logic`.
-use Rattle.std.proofs.Common.{◌≡◌, ℕ, List, [], ◌∷◌, ◌++◌, refl, sym, ap, ◌∙◌, subst}
+use Rattle.std.proofs.Common.{◌≡◌, List, [], ◌∷◌, ◌++◌, refl, sym, ap, ◌∙◌, subst}
 use mir.Raw.{raw as bare}
 use mir.Syntax.{named}
 use mir.Val.{Val, vptr}
@@ -9,7 +9,7 @@ use base.Fraction.{full_share}
 use prog.Wp.{WpFn}
 use types.Logic.{sem}
 use types.Tokens.{lft_new}
-use types.Kit.{‵, raw, ◌⊛◌, some, later, await, pick, ◌$◌, ◌∵◌, !, qed, by, move, keep, drop, use0, use1, split, join, rewrite, fsplit, fsplit3, fjoin, fjoin3, feq_i, feq_l, suffices, done}
+use types.Kit.{‵, raw, ◌⊛◌, some, later, await, pick, ◌$◌, ◌∵◌, !, qed, by, move, keep, drop, use0, use1, split, join, fsplit, fsplit3, fjoin, fjoin3, feq_i, feq_l, suffices}
 use types.Part.{agg}
 use types.Run.{of_opd, and_then, no_more, returns, enter}
 use types.ByLocal.{alloc_all, pass_all, free_all, look_at, get, sets, lands_as}
@@ -19,10 +19,10 @@ use contract.Monad.{fact, fact_i}
 use contract.Running.{tables}
 use denote.RattleType.{RattleType, owns}
 use denote.Param.NoDrop.{glues}
-use denote.RawPtr.{Ptr, RawPtr, block_ptr, null_ptr, ptr_val, lies_at, in_a_block}
+use denote.RawPtr.{Ptr, RawPtr, block_ptr, null_ptr, ptr_val, in_a_block}
 use denote.Ref.{MutBor, MutRef, mut_vals}
 use denote.Signature.{plain}
-use denote.Steps.{nothing, only, heard, opens, closes}
+use denote.Steps.{nothing, only, opens, closes}
 use denote.Triple.Call.{calls_at}
 use denote.Triple.Clauses.{Lasts, lasts}
 use denote.Triple.Spec.{triple_of}
@@ -31,18 +31,15 @@ use Rattle.core.proofs.atomic.Steps.{fm}
 use Rattle.std.proofs.raw_atomic.Walks.{proved_at, leaves}
 use Rattle.std.proofs.impls.GlobalAllocator.TheImpl.Met.{passed}
 use Rattle.std.specs.contracts.impls.GlobalAllocator.TheImpl.{ghosts, dict}
-use Rattle.std.specs.Box.Ownership.{box_owns}
 use Rattle.std_alloc.proofs.BoxSteps.Form as box
 use Rattle.std_alloc.proofs.BoxSteps.Steps.{box_out, box_in}
-use Rattle.std_alloc.proofs.RcSteps.{word, word-Good}
+use Rattle.std_alloc.proofs.RcSteps.{word}
 use Rattle.std_alloc.specs.contracts.boxed.Box.into_raw as callee
 use Rattle.std_alloc.proofs.boxed.Box.into_raw.Met.{met}
-use Rattle.libc.specs.Heap.{chunk}
-use Rattle.mb_frames.specs.Cells.{Cell, cell, places, IsFresh}
-use Rattle.mb_frames.specs.Ownership.{cell_owns, cells_own}
+use Rattle.mb_frames.specs.Cells.{cell, places, IsFresh}
+use Rattle.mb_frames.specs.Ownership.{cell_owns}
 use Rattle.mb_frames.specs.contracts.nodes.Nodes.{the_row as Nr}
 use Rattle.mb_frames.specs.contracts.node.Node.{the_row as R}
-use Rattle.mb_frames.specs.contracts.node.NodePtr.{the_row as Np}
 use Rattle.mb_frames.proofs.node.Node.TheLaws as node_laws
 use Rattle.std.proofs.alloc.Global.TheLaws as global_laws
 use denote.Memory.{lone}
@@ -64,9 +61,9 @@ adopt_spec {M} 𝓤 𝓛 𝓜 𝓡 wired =
     let k = triple_of 𝓛 (callee.signature T G ghosts dict dd dx) (callee.spec T G ghosts dict dd dx 𝓛 𝓜.mem 𝓡.returns) in
     let gone = code.calls-mb_frames::Destruct++none::drop 𝓡.env wired in
     let known = met 𝓤 𝓛 𝓜 𝓡 (code.calls-std_alloc::boxed::Box::into_raw 𝓡.env wired) T G element_laws heap_laws ghosts dict dd dx
-        (passed 𝓡.env (code.calls-std_heap::GlobalAllocator::allocate 𝓡.env wired) (code.calls-std_heap::GlobalAllocator::deallocate 𝓡.env wired) (code.calls-std_heap::GlobalAllocator::grow 𝓡.env wired) (code.calls-std_heap::GlobalAllocator::shrink 𝓡.env wired) M 𝓤 𝓛 𝓜 𝓡)
-        (glues "mb_frames::Destruct++none::drop" 𝓡.env gone G heap_laws M 𝓤 𝓛 𝓜 𝓡)
-        (glues "mb_frames::Destruct++none::drop" 𝓡.env gone T element_laws M 𝓤 𝓛 𝓜 𝓡) in
+    (passed 𝓡.env (code.calls-std_heap::GlobalAllocator::allocate 𝓡.env wired) (code.calls-std_heap::GlobalAllocator::deallocate 𝓡.env wired) (code.calls-std_heap::GlobalAllocator::grow 𝓡.env wired) (code.calls-std_heap::GlobalAllocator::shrink 𝓡.env wired) M 𝓤 𝓛 𝓜 𝓡)
+    (glues "mb_frames::Destruct++none::drop" 𝓡.env gone G heap_laws M 𝓤 𝓛 𝓜 𝓡)
+    (glues "mb_frames::Destruct++none::drop" 𝓡.env gone T element_laws M 𝓤 𝓛 𝓜 𝓡) in
     proved_at 𝓛 f.ended stayed c 𝓜 𝓡
     (Goes-ref 𝓛 1 0 tt (plain (λ _. Nr)), (Goes-dropped 𝓛 1 (slot_at 1 f.ended.signature.params) f.ended.kept.1.0 (λ κs x f. refl), tt))
     f.Key.name code.function (code.unfolded 𝓤 H 𝓜 𝓡 wired) (λ z are.
@@ -88,10 +85,10 @@ adopt_spec {M} 𝓤 𝓛 𝓜 𝓡 wired =
     nothing ! $ use0 𝓛 (raw (fact 𝓤 inG)) (fact_i 𝓤 inG (emp 𝓤) (global_laws.the_within (β ∷ []))) $ join ! $ use0 𝓛 (raw (fact 𝓤 inT)) (fact_i 𝓤 inT (emp 𝓤) (node_laws.the_within (α ∷ []))) $ join ! $
     move ! (1 ∷ 0 ∷ []) $ join ! $ use1 𝓛 (raw (k.pre y)) (id⊢ 𝓤 _) $
     calls_at ! (fm 𝓛 𝓜 𝓡) k known y (and_then ! (get ! refl) (no_more !)) (λ u.
-    use1 𝓛 (later (some (λ (r : Ptr). (toks ⊛ ‵ (RawPtr.own_val r (u ∷ []))) ⊛ some (λ (ls : Lasts called κs y.0.3). ‵ (lasts called κs y.0.3 ls) ⊛ ‵ (cell_owns (cell r v.value)))))) (id⊢ 𝓤 (k.post y u)) $
+    use1 𝓛 (later (some (λ (r : Ptr). (toks ⊛ ‵ (RawPtr.own_val r (u ∷ []))) ⊛ some (λ (ls : Lasts called κs y.0.3). ‵ (lasts called κs y.0.3 ls) ⊛ ‵ (cell_owns (cell v.alloc r v.value)))))) (id⊢ 𝓤 (k.post y u)) $
     await ! tt $ pick ! (λ r. split ! $ move ! (1 ∷ []) $ pick ! (λ ls. split ! $ drop ! $
-    in_a_block ! r (λ p. cell_owns (cell p v.value)) (fst∗ 𝓤 (never 𝓤) (sem 𝓛 (chunk (bare (lone R.mir)) null_ptr))) (λ b' o' e'.
-    let p : Ptr = block_ptr b' o' in let made : Nr.Denot = record { mark = d.mark; cells = cell p v.value ∷ d.cells } in
+    in_a_block ! r (λ p. cell_owns (cell v.alloc p v.value)) (fst∗ 𝓤 (never 𝓤) (sem 𝓛 (ghosts.dealloc_token v.alloc (bare (lone R.mir)) null_ptr))) (λ b' o' e'.
+    let p : Ptr = block_ptr b' o' in let made : Nr.Denot = record { mark = d.mark; cells = cell v.alloc p v.value ∷ d.cells } in
     move ! (1 ∷ []) $ split ! $ move ! (1 ∷ []) $ feq_l ! (λ eu. drop ! $
     lands_as ! (ap only eu ∙ ap ptr_val e') refl (tt, tt) $ sets ! (agg ! (and_then ! (get ! refl) (no_more !))) refl (tt, (tt, tt)) $
     -- [the cell; nothing; obs; open; tokens]

@@ -1,5 +1,5 @@
 -- `give_back` hands the first node to a box. Assumes `Logic`.
-use Rattle.std.proofs.Common.{◌≡◌, ℕ, List, [], ◌∷◌, ◌++◌, refl, sym, ap, ◌∙◌, subst}
+use Rattle.std.proofs.Common.{◌≡◌, List, [], ◌∷◌, ◌++◌, refl, sym, ap, ◌∙◌, subst}
 use mir.Raw.{raw as bare}
 use mir.Syntax.{named}
 use mir.Val.{Val, vptr}
@@ -9,7 +9,7 @@ use base.Fraction.{full_share}
 use prog.Wp.{WpFn}
 use types.Logic.{sem}
 use types.Tokens.{lft_new}
-use types.Kit.{at_ret, ‵, raw, ◌⊛◌, some, later, await, pick, ◌$◌, ◌∵◌, !, qed, by, move, keep, drop, use0, use1, split, split3, join, rewrite, fsplit, fsplit3, fjoin, fjoin3, feq_i, feq_l, suffices, done}
+use types.Kit.{at_ret, ‵, raw, ◌⊛◌, some, later, await, pick, ◌$◌, ◌∵◌, !, qed, by, move, keep, drop, use0, use1, split, split3, join, rewrite, fsplit, fsplit3, fjoin, fjoin3, feq_i, feq_l, suffices}
 use types.Part.{sub, whole}
 use types.Run.{stop, fld, of_opd, and_then, no_more, first, blocks, exec, returns, enter}
 use types.ByLocal.{alloc_all, pass_all, free_all, look_at, get, get_in, sets, lands_last, take_at, give_at, env}
@@ -19,7 +19,7 @@ use contract.Monad.{fact, fact_i}
 use contract.Running.{tables}
 use denote.RattleType.{RattleType, owns}
 use denote.Param.NoDrop.{glues}
-use denote.RawPtr.{Ptr, RawPtr, block_ptr, null_ptr, ptr_val, lies_at, in_a_block}
+use denote.RawPtr.{Ptr, block_ptr, null_ptr, in_a_block}
 use denote.Ref.{MutBor, MutRef, mut_vals}
 use denote.Signature.{plain}
 use denote.Steps.{nothing, only, heard, opens, closes}
@@ -31,13 +31,11 @@ use Rattle.core.proofs.atomic.Steps.{fm}
 use Rattle.std.proofs.raw_atomic.Walks.{proved_at, leaves}
 use Rattle.std.proofs.impls.GlobalAllocator.TheImpl.Met.{passed}
 use Rattle.std.specs.contracts.impls.GlobalAllocator.TheImpl.{ghosts, dict}
-use Rattle.std.specs.Box.Ownership.{box_owns}
 use Rattle.std_alloc.proofs.BoxSteps.Form as box
 use Rattle.std_alloc.proofs.BoxSteps.Steps.{box_out, box_in}
 use Rattle.std_alloc.proofs.RcSteps.{word, word-Good}
 use Rattle.std_alloc.specs.contracts.boxed.Box.from_raw as callee
 use Rattle.std_alloc.proofs.boxed.Box.from_raw.Met.{met}
-use Rattle.libc.specs.Heap.{chunk}
 use Rattle.mb_frames.specs.Cells.{Cell, cell, places}
 use Rattle.mb_frames.specs.Ownership.{cell_owns, cells_own}
 use Rattle.mb_frames.specs.contracts.nodes.Nodes.{the_row as Nr}
@@ -52,7 +50,6 @@ use Rattle.mb_frames.proofs.Boxed.{E, no_drop, Element, element_laws, Heap, heap
 use Rattle.mb_frames.proofs.Memory.{slot_at, word_had}
 use Rattle.mb_frames.proofs.nodes.Nodes.give_back.Statement.{statement}
 use Rattle.mb_frames.proofs.nodes.Nodes.give_back.Code as code
-
 use denote.Param.{layout}
 use Rattle.std.specs.Prelude.{slice_get, drop as drop_list, Some}
 use Rattle.core.proofs.cell.Inside.{Good}
@@ -71,8 +68,8 @@ give_back_spec {M} 𝓤 𝓛 𝓜 𝓡 wired =
     let k = triple_of 𝓛 (callee.signature T G ghosts dict dd) (callee.spec T G ghosts dict dd 𝓛 𝓜.mem 𝓡.returns) in
     let gone = code.calls-mb_frames::Destruct++none::drop 𝓡.env wired in
     let known = met 𝓤 𝓛 𝓜 𝓡 (code.calls-std_alloc::boxed::Box::from_raw 𝓡.env wired) T G element_laws heap_laws ghosts dict dd
-        (passed 𝓡.env (code.calls-std_heap::GlobalAllocator::allocate 𝓡.env wired) (code.calls-std_heap::GlobalAllocator::deallocate 𝓡.env wired) (code.calls-std_heap::GlobalAllocator::grow 𝓡.env wired) (code.calls-std_heap::GlobalAllocator::shrink 𝓡.env wired) M 𝓤 𝓛 𝓜 𝓡)
-        (glues "mb_frames::Destruct++none::drop" 𝓡.env gone G heap_laws M 𝓤 𝓛 𝓜 𝓡) in
+    (passed 𝓡.env (code.calls-std_heap::GlobalAllocator::allocate 𝓡.env wired) (code.calls-std_heap::GlobalAllocator::deallocate 𝓡.env wired) (code.calls-std_heap::GlobalAllocator::grow 𝓡.env wired) (code.calls-std_heap::GlobalAllocator::shrink 𝓡.env wired) M 𝓤 𝓛 𝓜 𝓡)
+    (glues "mb_frames::Destruct++none::drop" 𝓡.env gone G heap_laws M 𝓤 𝓛 𝓜 𝓡) in
     proved_at 𝓛 f.ended stayed c 𝓜 𝓡
     (Goes-ref 𝓛 1 0 tt (plain (λ _. Nr)), (Goes-dropped 𝓛 1 (slot_at 1 f.ended.signature.params) f.ended.kept.1.0 (λ κs x f. refl), (Goes-dropped 𝓛 1 (slot_at 2 f.ended.signature.params) f.ended.kept.1.1.0 (λ κs x f. refl), tt)))
     f.Key.name code.function (code.unfolded 𝓤 H 𝓜 𝓡 wired) (λ z are.
@@ -90,7 +87,7 @@ give_back_spec {M} 𝓤 𝓛 𝓜 𝓡 wired =
     move ! (3 ∷ []) $ split ! $ move ! (3 ∷ 4 ∷ 0 ∷ []) $ opens ! tt Nr {h = d} rb ro (λ vs. move ! (1 ∷ []) $ fsplit ! $ move ! (1 ∷ []) $
     rewrite ! 0 (λ (l : List Cell). ‵ (cells_own l)) n.cut refl $ fsplit ! $ move ! (2 ∷ 1 ∷ []) $ fjoin ! $ move ! (2 ∷ 0 ∷ 3 ∷ 4 ∷ 5 ∷ []) $ closes ! tt Nr made vs rb ro $
     -- [obs; open; the token; the cell; nothing; the handle]
-    move ! (3 ∷ []) $ in_a_block ! n.here.at (λ r. cell_owns (cell r x)) (fst∗ 𝓤 (never 𝓤) (sem 𝓛 (chunk (bare (lone R.mir)) null_ptr))) (λ pb po e.
+    move ! (3 ∷ []) $ in_a_block ! n.here.at (λ r. cell_owns (cell n.here.alloc r x)) (fst∗ 𝓤 (never 𝓤) (sem 𝓛 (ghosts.dealloc_token n.here.alloc (bare (lone R.mir)) null_ptr))) (λ pb po e.
     let ep : p ≡ block_ptr pb po = sym n.place ∙ e in
     take_at ! 3 $ rewrite ! 0 (λ (r : Ptr). ‵ (fat full_share (layout Np) (l 3) 0 (word r))) ep refl $ give_at ! 3 $
     lft_new ! tt (λ α. lft_new ! tt (λ β.

@@ -1,10 +1,8 @@
 -- `new` owns no node. Assumes `Logic`.
-use Rattle.std.proofs.Common.{◌≡◌, List, [], ◌∷◌, refl}
-use mir.Val.{Val, vstruct, vcons, vnil}
+use Rattle.std.proofs.Common.{◌≡◌, [], ◌∷◌, refl}
+use mir.Val.{Val}
 use base.Logic.{SProp, emp}
-use base.Fml.{ftrue}
-use prog.Wp.{WpFn}
-use types.Kit.{‵, raw, ◌$◌, ◌∵◌, !, qed, by, move, keep, drop, use0, split, fjoin}
+use types.Kit.{‵, raw, ◌$◌, ◌∵◌, !, qed, by, move, drop, use0, fjoin}
 use types.Part.{agg}
 use types.Run.{and_then, no_more, returns, enter}
 use types.ByLocal.{alloc_all, pass_all, free_all, look_at, get, sets}
@@ -12,8 +10,7 @@ use contract.Monad.{fact, fact_i}
 use contract.Running.{tables}
 use denote.Steps.{nothing}
 use denote.Triple.Entry.{on_entry}
-use denote.Triple.Walked.{Stays, walk_of}
-use denote.Shadow.{makes_shadow}
+use denote.Triple.Walked.{walk_of}
 use Rattle.std.proofs.raw_atomic.Walks.{proved_at, leaves}
 use Rattle.mb_frames.specs.contracts.nodes.Nodes.{the_row}
 use Rattle.mb_frames.specs.contracts.nodes.Nodes.new as f

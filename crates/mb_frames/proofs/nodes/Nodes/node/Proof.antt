@@ -1,20 +1,19 @@
 -- `node` shows a node that the owner lends. Assumes `Logic`.
-use Rattle.std.proofs.Common.{◌≡◌, List, [], ◌∷◌, ◌++◌, refl, sym, ap, ◌∙◌, subst}
+use Rattle.std.proofs.Common.{◌≡◌, List, [], ◌∷◌, ◌++◌, refl, sym, ◌∙◌, subst}
 use Rattle.std.specs.Prelude.{IsTrue}
 use mir.Syntax.{named}
 use mir.Val.{Val, vptr}
 use base.Logic.{SProp, ent, emp, id⊢}
-use base.Fml.{Fml, ftrue, fat, flft}
+use base.Fml.{ftrue, fat, flft}
 use base.Fraction.{full_share}
 use prog.Wp.{WpFn}
-use types.Kit.{‵, raw, ◌⊛◌, at_ret, ◌$◌, ◌∵◌, !, qed, by, move, keep, drop, use0, use1, split, join, rewrite, fsplit, fjoin, feq_i, feq_l, suffices, done}
+use types.Kit.{‵, raw, ◌⊛◌, at_ret, ◌$◌, ◌∵◌, !, qed, by, move, keep, drop, use0, use1, split, rewrite, fsplit, fjoin, feq_i, feq_l, suffices, done}
 use types.Part.{whole, sub}
 use types.Run.{stop, hop, fld, from, of_opd, addr, first, blocks, exec, returns, enter}
 use types.ByLocal.{alloc_all, pass_all, free_all, look_at, look_in_at, get, sets, sets_last, take_at, give_at, env}
 use contract.Monad.{fact, fact_i}
 use contract.Running.{tables}
-use denote.RattleType.{RattleType, owns}
-use denote.Memory.{hidden_shr}
+use denote.RattleType.{owns}
 use denote.Param.{layout}
 use denote.RawPtr.{Ptr, block_ptr, null_ptr, in_a_block}
 use denote.Ref.{Bor, ShrRef}

@@ -1,5 +1,5 @@
 -- `node_mut` lends one node, and the owner follows it. Assumes `Logic`.
-use Rattle.std.proofs.Common.{◌≡◌, ℕ, List, [], ◌∷◌, ◌++◌, refl, sym, ap, ◌∙◌, subst}
+use Rattle.std.proofs.Common.{◌≡◌, ℕ, List, [], ◌∷◌, ◌++◌, refl, sym, ◌∙◌, subst}
 use Rattle.std.specs.Prelude.{IsTrue}
 use seplogic.Ra.Ura.{Ura}
 use mir.Raw.{raw as bare}
@@ -10,13 +10,13 @@ use base.Fml.{GName, Fml, ftrue, fsep, fat, flft}
 use base.Fraction.{full_share}
 use prog.Wp.{WpFn}
 use types.Logic.{Logic, sem}
-use types.Kit.{‵, raw, ◌⊛◌, some, later, await, pick, at_ret, ◌$◌, ◌∵◌, !, qed, by, move, keep, drop, use0, use1, use2, split, split3, join, group, rewrite, fsplit, fsplit3, fjoin, fpack, feq_i, feq_l, suffices, done}
+use types.Kit.{‵, raw, ◌⊛◌, some, later, await, pick, at_ret, ◌$◌, ◌∵◌, !, qed, by, move, keep, drop, use0, use1, use2, split, split3, join, group, rewrite, fsplit, fsplit3, fjoin, fpack, feq_l, suffices, done}
 use types.Part.{whole, sub}
 use types.Run.{stop, hop, fld, from, of_opd, addr, first, blocks, exec, returns, enter}
 use types.ByLocal.{alloc_all, pass_all, free_all, look_at, look_in_at, get, sets, sets_last, take_at, give_at, env}
 use contract.Monad.{fact, fact_i}
 use contract.Running.{tables}
-use denote.RattleType.{RattleType, owns}
+use denote.RattleType.{owns}
 use denote.Memory.{mem, lone, cell_at, part_at, part_of}
 use denote.Param.{layout}
 use denote.RawPtr.{Ptr, block_ptr, lies_at, in_a_block}
@@ -28,8 +28,8 @@ use denote.Signature.{plain}
 use Rattle.std.proofs.raw_atomic.Walks.{proved_at, leaves}
 use Rattle.std_alloc.proofs.VecSteps.Shapes.{after}
 use Rattle.std_alloc.proofs.RcSteps.{word, word-Good}
-use Rattle.libc.specs.Heap.{chunk}
-use Rattle.mb_frames.specs.Cells.{Cell, cell, is_at, node_at, put_node}
+use Rattle.std.specs.contracts.impls.GlobalAllocator.TheImpl.{ghosts}
+use Rattle.mb_frames.specs.Cells.{Cell, cell, is_at, node_at}
 use Rattle.mb_frames.specs.Ownership.{cell_owns, cells_own}
 use Rattle.mb_frames.specs.Lends.{with_node}
 use Rattle.mb_frames.specs.declared.node.Node.{Node}
@@ -49,12 +49,12 @@ stayed = (stay_dropped (slot_at 0 f.ended.signature.params) f.ended.kept.0, (sta
 module _ {M : Type 1} {𝓤 : Ura M} (𝓛 : Logic 𝓤) (rb ro : ℕ) (d : Nr.Denot) (p : Ptr) (n : Found p d.cells) (vs : List Val) (b o : ℕ) where
   -- all but the node
   abbrev Rest : Fml
-  Rest = fsep (chunk (bare (lone R.mir)) n.here.at) (fsep (cells_own (n.before ++ n.after)) (fsep (Mark.own_val (tt, tt) vs) (cell_at full_share Nr.mir vs rb ro)))
+  Rest = fsep (ghosts.dealloc_token n.here.alloc (bare (lone R.mir)) n.here.at) (fsep (cells_own (n.before ++ n.after)) (fsep (Mark.own_val (tt, tt) vs) (cell_at full_share Nr.mir vs rb ro)))
 
   back : n.here.at ≡ block_ptr b o → (w : Node) → ent 𝓤 (sep 𝓤 (sem 𝓛 ((mem R).own_at w b o)) (sem 𝓛 Rest)) (sem 𝓛 ((mem Nr).own_at (with_node d p w) rb ro))
   unfolding part_of
   back e w =
-      let m : Cell = cell n.here.at w in
+      let m : Cell = cell n.here.alloc n.here.at w in
       qed 𝓛 (‵ (part_at R full_share w b o) ∷ ‵ Rest ∷ []) ∵ rewrite ! 0 (λ (r : Ptr). ‵ (lies_at R full_share r w)) (sym e) refl $
       move ! (1 ∷ []) $ fsplit3 ! $ move ! (2 ∷ []) $ fsplit ! $ move ! (4 ∷ 2 ∷ []) $ fjoin ! $ move ! (0 ∷ 3 ∷ []) $
       use2 𝓛 (‵ (cells_own (n.before ++ m ∷ n.after))) (cells_glue 𝓛 n.before m n.after) $ rewrite ! 0 (λ (cs : List Cell). ‵ (cells_own cs)) (sym (n.put w)) refl $

@@ -1,0 +1,148 @@
+//! Examples, and moves against plain lists.
+ghost use Rattle.std.specs.Prelude.{◌≡◌, ◌<◌, length};
+
+use crate::{NoMemory, Rings};
+use rand_core::utils::NextWord;
+use rand_pcg::Pcg32;
+use std::alloc::Global;
+use std::marker::Send;
+
+// A page whose first bytes are the number.
+fn numbered(number: u32) -> [u8; 512] {
+    let mut bytes = [0; 512];
+    bytes[..4].copy_from_slice(&number.to_le_bytes());
+    bytes
+}
+
+#[test]
+fn pages_move_between_rings(rt: HostRuntime) -> Result<(), NoMemory> {
+    let mut rings = Rings::new(rt.alloc(), 2)?;
+    rings.reserve(4)?;
+    let a = rings.put(0, &numbered(1));
+    let b = rings.put(0, &numbered(2));
+    let c = rings.put(0, &numbered(3));
+    let d = rings.put(1, &numbered(4));
+    rings.unlink(b);
+    rings.splice(0, 1);
+    assert!(rt; rings.page(0, 0).is_none());
+    assert_eq!(rt; rings.page(1, 0), Some(&numbered(4)));
+    assert_eq!(rt; rings.page(1, 1), Some(&numbered(1)));
+    assert_eq!(rt; rings.page(1, 2), Some(&numbered(3)));
+    assert!(rt; rings.page(1, 3).is_none());
+    assert_eq!(rt; rings.spare(9), 1);
+    rings.write(&c, &numbered(5));
+    assert_eq!(rt; rings.get(&a), &numbered(1));
+    assert_eq!(rt; rings.get(&c), &numbered(5));
+    assert_eq!(rt; rings.get(&d), &numbered(4));
+    rings.release(1);
+    assert!(rt; rings.page(0, 0).is_none());
+    assert!(rt; rings.page(1, 0).is_none());
+    assert_eq!(rt; rings.spare(9), 4);
+    Ok(())
+}
+
+fn is_numbered(bytes: Option<&[u8; 512]>, number: u32) -> bool {
+    match bytes {
+        Some(bytes) => *bytes == numbered(number),
+        None => false,
+    }
+}
+
+// Whether the ring holds the pages with these numbers.
+fn agrees(rings: &Rings, ring: u32, numbers: &[u32]) -> bool
+    requires { ring < length rings.now.rings }
+{
+    let mut index = 0;
+    for number in numbers {
+        if index == u32::MAX || !is_numbered(rings.page(ring, index), *number) {
+            return false;
+        }
+        index += 1;
+    }
+    rings.page(ring, index).is_none()
+}
+
+// One move, of the rings and of the lists that stand for them.
+fn step(
+    alloc: Global,
+    rings: &mut Rings,
+    lists: &mut [Vec<u32>],
+    random: &mut Pcg32,
+    number: u32,
+) -> Result<(), NoMemory>
+    requires { length rings.old.rings ≡ 3 }
+    ensures { length rings.new.rings ≡ 3 }
+{
+    rings.reserve(2)?;
+    let ring = random.next_word() % 3;
+    let other = random.next_word() % 3;
+    let Some(list) = lists.get_mut(ring as usize) else {
+        return Ok(());
+    };
+    match random.next_word() % 8 {
+        0 => {
+            rings.release(ring);
+            list.clear();
+        }
+        1 => {
+            if ring != other {
+                rings.splice(ring, other);
+                let moved = Vec::from_slice(alloc, list.as_slice())?;
+                list.clear();
+                if let Some(target) = lists.get_mut(other as usize) {
+                    target.extend_from_slice(moved.as_slice())?;
+                }
+            }
+        }
+        2 | 3 => {
+            let first = rings.put(ring, &numbered(number));
+            let second = rings.put(ring, &numbered(0));
+            rings.unlink(first);
+            rings.write(&second, &numbered(number));
+            list.push(number)?;
+        }
+        _ => {
+            let _token = rings.put(ring, &numbered(number));
+            list.push(number)?;
+        }
+    }
+    Ok(())
+}
+
+#[test]
+fn moves_agree_with_plain_lists(rt: HostRuntime) -> Result<(), NoMemory> {
+    let alloc = rt.alloc();
+    let mut rings = Rings::new(alloc, 3)?;
+    let mut lists = vec![in alloc; Vec::new(alloc), Vec::new(alloc), Vec::new(alloc)]?;
+    let mut random = Pcg32::new(42, 54);
+    for number in 1..4000 {
+        step(alloc, &mut rings, lists.as_mut_slice(), &mut random, number)?;
+        if number % 40 == 0 {
+            for ring in 0..3 {
+                let list = lists.get(ring as usize);
+                let is_same = match list {
+                    Some(list) => agrees(&rings, ring, list.as_slice()),
+                    None => false,
+                };
+                assert!(rt; is_same, "ring {ring} after move {number}");
+            }
+        }
+    }
+    Ok(())
+}
+
+fn may_cross<T: Send>(value: T) -> T
+    ensures { result ≡ value }
+{
+    value
+}
+
+#[test]
+fn rings_and_tokens_may_cross_threads(rt: HostRuntime) -> Result<(), NoMemory> {
+    let mut rings = Rings::new(rt.alloc(), 1)?;
+    rings.reserve(1)?;
+    let token = may_cross(rings.put(0, &numbered(1)));
+    let rings = may_cross(rings);
+    assert_eq!(rt; rings.get(&token), &numbered(1));
+    Ok(())
+}
