@@ -139,22 +139,28 @@ less_name nodes opens moment ino =
 abbrev pub less_open : Numbered Node → Counts → List ℕ → Numbered Node
 less_open nodes opens inos = fin.retain_keys nodes (λ ino. not (list_any (nat_eq ino) inos && is_lost opens ino (fin.get nodes ino)))
 
+-- one inode changed by what needs no block
+abbrev pub on_node : Tree → ℕ → (Node → Node) → Tree
+on_node tree ino f = record tree { nodes = changed_at tree.nodes ino f }
+
 -- ---- the operations
 
--- a regular file with the picked number, which is held
-abbrev pub create : Tree → Counts → ℕ → List ℕ → ℕ → ℕ → ℕ → ℕ → Option ℕ → Answer Held
-create tree opens dir name mode uid gid moment pick = do
+-- a regular file with the picked number
+abbrev pub create : Tree → ℕ → List ℕ → ℕ → ℕ → ℕ → ℕ → Option ℕ → Answer Tree
+create tree dir name mode uid gid moment pick = do
   ino ← some pick ENOSPC
-  next ← fitting tree (changed_at (fin.insert tree.nodes ino (made (bit_or 0x8000 mode) 1 uid gid moment (Regular 0 fin.empty))) dir (with_name moment name ino))
-  Ok (record { tree = next; opens = hold opens ino })
+  fitting tree (changed_at (fin.insert tree.nodes ino (made (bit_or 0x8000 mode) 1 uid gid moment (Regular 0 fin.empty))) dir (with_name moment name ino))
+
+-- a file without its bytes
+abbrev pub empty : Tree → ℕ → ℕ → Tree
+empty tree ino moment = on_node tree ino (λ node. record (touched moment node) { body = cleared node.body })
 
 -- a directory with the picked number; 32767 is the greatest link count, this project's choice
-abbrev pub make_dir : Tree → Counts → ℕ → List ℕ → ℕ → ℕ → ℕ → ℕ → Option ℕ → Answer Held
-make_dir tree opens dir name mode uid gid moment pick = do
+abbrev pub make_dir : Tree → ℕ → List ℕ → ℕ → ℕ → ℕ → ℕ → Option ℕ → Answer Tree
+make_dir tree dir name mode uid gid moment pick = do
   need (nat_lt (nlink_in tree.nodes dir) 32767) EMLINK
   ino ← some pick ENOSPC
-  next ← fitting tree (changed_at (fin.insert tree.nodes ino (made (bit_or 0x4000 mode) 2 uid gid moment (Directory (first_slots ino dir)))) dir (λ node. more_links (with_name moment name ino node)))
-  Ok (record { tree = next; opens = opens })
+  fitting tree (changed_at (fin.insert tree.nodes ino (made (bit_or 0x4000 mode) 2 uid gid moment (Directory (first_slots ino dir)))) dir (λ node. more_links (with_name moment name ino node)))
 
 -- the directory that a name leads to, dropped
 abbrev pub remove_dir : Tree → ℕ → List ℕ → ℕ → Option ℕ → Tree
@@ -162,11 +168,10 @@ remove_dir tree dir name moment None = tree
 remove_dir tree dir name moment (Some ino) = record tree { nodes = changed_at (fin.remove tree.nodes ino) dir (λ node. less_links (without_name moment name node)) }
 
 -- one name more
-abbrev pub enlink : Tree → Counts → ℕ → List ℕ → ℕ → ℕ → Answer Held
-enlink tree opens dir name ino moment = do
+abbrev pub enlink : Tree → ℕ → List ℕ → ℕ → ℕ → Answer Tree
+enlink tree dir name ino moment = do
   need (nat_lt (nlink_in tree.nodes ino) 32767) EMLINK
-  next ← fitting tree (changed_at (changed_at tree.nodes ino (linked moment)) dir (with_name moment name ino))
-  Ok (record { tree = next; opens = opens })
+  fitting tree (changed_at (changed_at tree.nodes ino (linked moment)) dir (with_name moment name ino))
 
 -- one name less
 abbrev pub delink : Tree → Counts → ℕ → List ℕ → ℕ → Option ℕ → Tree
@@ -174,26 +179,52 @@ delink tree opens dir name moment None = tree
 delink tree opens dir name moment (Some ino) = record tree { nodes = less_name (changed_at tree.nodes dir (without_name moment name)) opens moment ino }
 
 -- bytes put; a file has at most 1082201088 bytes
-abbrev pub put : Tree → Counts → ℕ → ℕ → List ℕ → ℕ → Answer Held
-put tree opens ino offset bytes moment = do
+abbrev pub put : Tree → ℕ → ℕ → List ℕ → ℕ → Answer Tree
+put tree ino offset bytes moment = do
   need (nat_le (offset + length bytes) 1082201088) EFBIG
-  next ← fitting tree (changed_at tree.nodes ino (λ node. record (touched moment node) { body = written offset bytes node.body }))
-  Ok (record { tree = next; opens = opens })
+  fitting tree (changed_at tree.nodes ino (λ node. record (touched moment node) { body = written offset bytes node.body }))
 
--- one inode changed by what needs no block
-abbrev pub on_node : Tree → ℕ → (Node → Node) → Tree
-on_node tree ino f = record tree { nodes = changed_at tree.nodes ino f }
+-- the fields of an inode set; its kind stays
+abbrev pub set_mode : Tree → ℕ → ℕ → ℕ → Tree
+set_mode tree ino mode moment = on_node tree ino (λ node. record node { mode = bit_or (kind_of node.mode) mode; ctime = moment })
+abbrev pub set_owner : Tree → ℕ → ℕ → ℕ → ℕ → Tree
+set_owner tree ino uid gid moment = on_node tree ino (λ node. record node { uid = uid; gid = gid; ctime = moment })
+abbrev pub set_times : Tree → ℕ → ℕ → ℕ → ℕ → Tree
+set_times tree ino atime mtime moment = on_node tree ino (λ node. record node { atime = atime; mtime = mtime; ctime = moment })
 
+-- what an operation does to the tree
+abbrev pub tree_after : Tree → Counts → FsOp → Option ℕ → Answer Tree
+tree_after tree opens (Create dir name mode uid gid moment) pick = create tree dir name mode uid gid moment pick
+tree_after tree opens (Empty ino moment) pick = Ok (empty tree ino moment)
+tree_after tree opens (MakeDir dir name mode uid gid moment) pick = make_dir tree dir name mode uid gid moment pick
+tree_after tree opens (RemoveDir dir name moment) pick = Ok (remove_dir tree dir name moment (number_in tree.nodes dir name))
+tree_after tree opens (Enlink dir name ino moment) pick = enlink tree dir name ino moment
+tree_after tree opens (Delink dir name moment) pick = Ok (delink tree opens dir name moment (number_in tree.nodes dir name))
+tree_after tree opens (Put ino offset bytes moment) pick = put tree ino offset bytes moment
+tree_after tree opens (SetMode ino mode moment) pick = Ok (set_mode tree ino mode moment)
+tree_after tree opens (SetOwner ino uid gid moment) pick = Ok (set_owner tree ino uid gid moment)
+tree_after tree opens (SetTimes ino atime mtime moment) pick = Ok (set_times tree ino atime mtime moment)
+tree_after tree opens (Hold ino) pick = Ok tree
+tree_after tree opens (Release inos) pick = Ok (record tree { nodes = less_open tree.nodes (release opens inos) inos })
+
+-- and to the counts: a file that was created or emptied is open
+abbrev pub opens_after : Counts → FsOp → Option ℕ → Counts
+opens_after opens (Create dir name mode uid gid moment) None = opens
+opens_after opens (Create dir name mode uid gid moment) (Some ino) = hold opens ino
+opens_after opens (Empty ino moment) pick = hold opens ino
+opens_after opens (MakeDir dir name mode uid gid moment) pick = opens
+opens_after opens (RemoveDir dir name moment) pick = opens
+opens_after opens (Enlink dir name ino moment) pick = opens
+opens_after opens (Delink dir name moment) pick = opens
+opens_after opens (Put ino offset bytes moment) pick = opens
+opens_after opens (SetMode ino mode moment) pick = opens
+opens_after opens (SetOwner ino uid gid moment) pick = opens
+opens_after opens (SetTimes ino atime mtime moment) pick = opens
+opens_after opens (Hold ino) pick = hold opens ino
+opens_after opens (Release inos) pick = release opens inos
+
+-- both; refused with ENOSPC, EFBIG or EMLINK alone
 abbrev pub effect : Tree → Counts → FsOp → Option ℕ → Answer Held
-effect tree opens (Create dir name mode uid gid moment) pick = create tree opens dir name mode uid gid moment pick
-effect tree opens (Empty ino moment) pick = Ok (record { tree = on_node tree ino (λ node. record (touched moment node) { body = cleared node.body }); opens = hold opens ino })
-effect tree opens (MakeDir dir name mode uid gid moment) pick = make_dir tree opens dir name mode uid gid moment pick
-effect tree opens (RemoveDir dir name moment) pick = Ok (record { tree = remove_dir tree dir name moment (number_in tree.nodes dir name); opens = opens })
-effect tree opens (Enlink dir name ino moment) pick = enlink tree opens dir name ino moment
-effect tree opens (Delink dir name moment) pick = Ok (record { tree = delink tree opens dir name moment (number_in tree.nodes dir name); opens = opens })
-effect tree opens (Put ino offset bytes moment) pick = put tree opens ino offset bytes moment
-effect tree opens (SetMode ino mode moment) pick = Ok (record { tree = on_node tree ino (λ node. record node { mode = bit_or (kind_of node.mode) mode; ctime = moment }); opens = opens })
-effect tree opens (SetOwner ino uid gid moment) pick = Ok (record { tree = on_node tree ino (λ node. record node { uid = uid; gid = gid; ctime = moment }); opens = opens })
-effect tree opens (SetTimes ino atime mtime moment) pick = Ok (record { tree = on_node tree ino (λ node. record node { atime = atime; mtime = mtime; ctime = moment }); opens = opens })
-effect tree opens (Hold ino) pick = Ok (record { tree = tree; opens = hold opens ino })
-effect tree opens (Release inos) pick = Ok (record { tree = record tree { nodes = less_open tree.nodes (release opens inos) inos }; opens = release opens inos })
+effect tree opens op pick = do
+  next ← tree_after tree opens op pick
+  Ok (record { tree = next; opens = opens_after opens op pick })

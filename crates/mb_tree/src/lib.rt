@@ -3,6 +3,10 @@
 //! restartable file system.
 #![tactic(auto)]
 
+mod changes;
+mod contents;
+mod costs;
+mod effects;
 mod inodes;
 mod lookups;
 mod machines;
