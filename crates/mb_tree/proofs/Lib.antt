@@ -4,5 +4,6 @@ pub mod FiniteMaps
 pub mod Groups
 pub mod MapCopies
 pub mod Padding
+pub mod Released
 pub mod Searches
 pub mod Swaps

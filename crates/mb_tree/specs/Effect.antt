@@ -77,12 +77,11 @@ with_name moment name ino node = record (touched moment node) { body = on_slots 
 abbrev pub without_name : ℕ → List ℕ → Node → Node
 without_name moment name node = record (touched moment node) { body = on_slots (emptied name) node.body }
 
--- the link count of a directory that gets or loses the `..` of a directory below it
-abbrev pub more_links : Node → Node
-more_links node = record node { nlink = node.nlink + 1 }
-
-abbrev pub less_links : Node → Node
-less_links node = record node { nlink = node.nlink - 1 }
+-- the same for a name of a directory, whose `..` is a name of its parent
+abbrev pub with_link : ℕ → List ℕ → ℕ → Node → Node
+with_link moment name ino node = record (with_name moment name ino node) { nlink = node.nlink + 1 }
+abbrev pub without_link : ℕ → List ℕ → Node → Node
+without_link moment name node = record (without_name moment name node) { nlink = node.nlink - 1 }
 
 -- dir(5): the first two slots of a directory, `.` and `..`
 abbrev pub dot : List ℕ
@@ -143,29 +142,43 @@ less_open nodes opens inos = fin.retain_keys nodes (λ ino. not (list_any (nat_e
 abbrev pub on_node : Tree → ℕ → (Node → Node) → Tree
 on_node tree ino f = record tree { nodes = changed_at tree.nodes ino f }
 
+-- bytes written, bytes dropped
+abbrev pub wrote : ℕ → ℕ → List ℕ → Node → Node
+wrote moment offset bytes node = record (touched moment node) { body = written offset bytes node.body }
+abbrev pub blanked : ℕ → Node → Node
+blanked moment node = record (touched moment node) { body = cleared node.body }
+
+-- fields set; the kind of an inode stays
+abbrev pub with_mode : ℕ → ℕ → Node → Node
+with_mode mode moment node = record node { mode = bit_or (kind_of node.mode) mode; ctime = moment }
+abbrev pub with_owner : ℕ → ℕ → ℕ → Node → Node
+with_owner uid gid moment node = record node { uid = uid; gid = gid; ctime = moment }
+abbrev pub with_times : ℕ → ℕ → ℕ → Node → Node
+with_times atime mtime moment node = record node { atime = atime; mtime = mtime; ctime = moment }
+
 -- ---- the operations
 
 -- a regular file with the picked number
 abbrev pub create : Tree → ℕ → List ℕ → ℕ → ℕ → ℕ → ℕ → Option ℕ → Answer Tree
 create tree dir name mode uid gid moment pick = do
   ino ← some pick ENOSPC
-  fitting tree (changed_at (fin.insert tree.nodes ino (made (bit_or 0x8000 mode) 1 uid gid moment (Regular 0 fin.empty))) dir (with_name moment name ino))
+  fitting tree (fin.insert (changed_at tree.nodes dir (with_name moment name ino)) ino (made (bit_or 0x8000 mode) 1 uid gid moment (Regular 0 fin.empty)))
 
 -- a file without its bytes
 abbrev pub empty : Tree → ℕ → ℕ → Tree
-empty tree ino moment = on_node tree ino (λ node. record (touched moment node) { body = cleared node.body })
+empty tree ino moment = on_node tree ino (blanked moment)
 
 -- a directory with the picked number; 32767 is the greatest link count, this project's choice
 abbrev pub make_dir : Tree → ℕ → List ℕ → ℕ → ℕ → ℕ → ℕ → Option ℕ → Answer Tree
 make_dir tree dir name mode uid gid moment pick = do
   need (nat_lt (nlink_in tree.nodes dir) 32767) EMLINK
   ino ← some pick ENOSPC
-  fitting tree (changed_at (fin.insert tree.nodes ino (made (bit_or 0x4000 mode) 2 uid gid moment (Directory (first_slots ino dir)))) dir (λ node. more_links (with_name moment name ino node)))
+  fitting tree (fin.insert (changed_at tree.nodes dir (with_link moment name ino)) ino (made (bit_or 0x4000 mode) 2 uid gid moment (Directory (first_slots ino dir))))
 
 -- the directory that a name leads to, dropped
 abbrev pub remove_dir : Tree → ℕ → List ℕ → ℕ → Option ℕ → Tree
 remove_dir tree dir name moment None = tree
-remove_dir tree dir name moment (Some ino) = record tree { nodes = changed_at (fin.remove tree.nodes ino) dir (λ node. less_links (without_name moment name node)) }
+remove_dir tree dir name moment (Some ino) = record tree { nodes = changed_at (fin.remove tree.nodes ino) dir (without_link moment name) }
 
 -- one name more
 abbrev pub enlink : Tree → ℕ → List ℕ → ℕ → ℕ → Answer Tree
@@ -182,15 +195,15 @@ delink tree opens dir name moment (Some ino) = record tree { nodes = less_name (
 abbrev pub put : Tree → ℕ → ℕ → List ℕ → ℕ → Answer Tree
 put tree ino offset bytes moment = do
   need (nat_le (offset + length bytes) 1082201088) EFBIG
-  fitting tree (changed_at tree.nodes ino (λ node. record (touched moment node) { body = written offset bytes node.body }))
+  fitting tree (changed_at tree.nodes ino (wrote moment offset bytes))
 
--- the fields of an inode set; its kind stays
+-- the fields of an inode set
 abbrev pub set_mode : Tree → ℕ → ℕ → ℕ → Tree
-set_mode tree ino mode moment = on_node tree ino (λ node. record node { mode = bit_or (kind_of node.mode) mode; ctime = moment })
+set_mode tree ino mode moment = on_node tree ino (with_mode mode moment)
 abbrev pub set_owner : Tree → ℕ → ℕ → ℕ → ℕ → Tree
-set_owner tree ino uid gid moment = on_node tree ino (λ node. record node { uid = uid; gid = gid; ctime = moment })
+set_owner tree ino uid gid moment = on_node tree ino (with_owner uid gid moment)
 abbrev pub set_times : Tree → ℕ → ℕ → ℕ → ℕ → Tree
-set_times tree ino atime mtime moment = on_node tree ino (λ node. record node { atime = atime; mtime = mtime; ctime = moment })
+set_times tree ino atime mtime moment = on_node tree ino (with_times atime mtime moment)
 
 -- what an operation does to the tree
 abbrev pub tree_after : Tree → Counts → FsOp → Option ℕ → Answer Tree

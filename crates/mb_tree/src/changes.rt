@@ -1,10 +1,10 @@
 ghost use Rattle.std.specs.Prelude.{◌≡◌, IfOk, IfSome, not, position};
 ghost use Rattle.mb_tree.specs.Lookup.{is_used, is_named};
-ghost use Rattle.mb_tree.specs.Effect.{touched, linked, unlinked, made, entered, emptied, with_name, without_name, more_links, less_links, on_slots, first_slots, cleared, written};
+ghost use Rattle.mb_tree.specs.Effect.{touched, linked, unlinked, made, entered, emptied, with_name, without_name, on_slots, with_link, without_link, wrote, blanked, with_mode, with_owner, with_times, first_slots, cleared, written};
 ghost use Rattle.std.specs.Prelude.{◌<◌, ◌≤◌, ◌+◌, ◌^◌, length};
 
 use crate::contents::put_bytes;
-use crate::inodes::is_used;
+use crate::inodes::{KIND, is_used};
 use crate::lookups::is_named;
 use crate::maps::Map;
 use crate::nodes::{Body, Node, PlainSlot, PlainSlots};
@@ -129,8 +129,54 @@ pub fn without_name(node: Node, moment: u32, name: &Name) -> Node
     }
 }
 
+/// The same with one link more, for a name of a directory.
+pub fn with_link(node: Node, moment: u32, name: Name, ino: u16) -> Result<Node, AllocError>
+    requires { node.nlink < 65535 }
+    ensures { IfOk result (λ next. next ≡ with_link moment name ino node) }
+{
+    let nlink = node.nlink + 1;
+    Ok(Node {
+        nlink,
+        ..with_name(node, moment, name, ino)?
+    })
+}
+
+/// The same with one link less, for a name of a directory.
+pub fn without_link(node: Node, moment: u32, name: &Name) -> Node
+    ensures { result ≡ without_link moment name.now node }
+{
+    let nlink = node.nlink.saturating_sub(1);
+    Node {
+        nlink,
+        ..without_name(node, moment, name)
+    }
+}
+
+/// An inode with one name more.
+pub fn linked(node: Node, moment: u32) -> Node
+    requires { node.nlink < 65535 }
+    ensures { result ≡ linked moment node }
+{
+    Node {
+        nlink: node.nlink + 1,
+        ctime: moment,
+        ..node
+    }
+}
+
+/// An inode with one name less.
+pub fn unlinked(node: Node, moment: u32) -> Node
+    ensures { result ≡ unlinked moment node }
+{
+    Node {
+        nlink: node.nlink.saturating_sub(1),
+        ctime: moment,
+        ..node
+    }
+}
+
 /// A file without its bytes.
-pub fn cleared(alloc: Global, body: Body) -> Body
+fn cleared(alloc: Global, body: Body) -> Body
     ensures { result ≡ cleared body }
 {
     match body {
@@ -143,7 +189,7 @@ pub fn cleared(alloc: Global, body: Body) -> Body
 }
 
 /// A file with bytes put at an offset.
-pub fn written(body: Body, offset: u32, bytes: &[u8]) -> Result<Body, AllocError>
+fn written(body: Body, offset: u32, bytes: &[u8]) -> Result<Body, AllocError>
     requires { offset + length bytes.now < 2 ^ 32 }
     ensures { IfOk result (λ next. next ≡ written offset bytes.now body) }
 {
@@ -156,5 +202,65 @@ pub fn written(body: Body, offset: u32, bytes: &[u8]) -> Result<Body, AllocError
             })
         }
         body => Ok(body),
+    }
+}
+
+/// A file with its bytes dropped.
+pub fn blanked(alloc: Global, node: Node, moment: u32) -> Node
+    ensures { result ≡ blanked moment node }
+{
+    Node {
+        mtime: moment,
+        ctime: moment,
+        body: cleared(alloc, node.body),
+        ..node
+    }
+}
+
+/// A file with bytes written.
+pub fn wrote(node: Node, moment: u32, offset: u32, bytes: &[u8]) -> Result<Node, AllocError>
+    requires { offset + length bytes.now < 2 ^ 32 }
+    ensures { IfOk result (λ next. next ≡ wrote moment offset bytes.now node) }
+{
+    Ok(Node {
+        mtime: moment,
+        ctime: moment,
+        body: written(node.body, offset, bytes)?,
+        ..node
+    })
+}
+
+/// An inode with a mode of its kind.
+pub fn with_mode(node: Node, mode: u16, moment: u32) -> Node
+    ensures { result ≡ with_mode mode moment node }
+{
+    Node {
+        mode: node.mode & KIND | mode,
+        ctime: moment,
+        ..node
+    }
+}
+
+/// An inode with an owner.
+pub fn with_owner(node: Node, uid: u16, gid: u16, moment: u32) -> Node
+    ensures { result ≡ with_owner uid gid moment node }
+{
+    Node {
+        uid,
+        gid,
+        ctime: moment,
+        ..node
+    }
+}
+
+/// An inode with times.
+pub fn with_times(node: Node, atime: u32, mtime: u32, moment: u32) -> Node
+    ensures { result ≡ with_times atime mtime moment node }
+{
+    Node {
+        atime,
+        mtime,
+        ctime: moment,
+        ..node
     }
 }

@@ -56,7 +56,8 @@ impl Body {
     /// So many bytes from an index on.
     fn bytes(&self, alloc: Global, index: u32, count: u16) -> Result<Octets, AllocError>
         requires { index + count < 2 ^ 32 }
-        ensures { IfOk result (λ bytes. bytes ≡ bytes_from self.now index count) }
+        ensures bytes { IfOk result (λ bytes. bytes ≡ bytes_from self.now index count) }
+        ensures many { IfOk result (λ bytes. length bytes ≡ count) }
     {
         let mut bytes = Vec::new(alloc);
         let mut done = 0;
@@ -69,7 +70,8 @@ impl Body {
 
     /// What a read of so many bytes at an offset gets: none at or past the size.
     pub fn read(&self, alloc: Global, offset: u32, count: u16) -> Result<Octets, AllocError>
-        ensures { IfOk result (λ bytes. bytes ≡ read_at self.now offset count) }
+        ensures bytes { IfOk result (λ bytes. bytes ≡ read_at self.now offset count) }
+        ensures within { IfOk result (λ bytes. offset + length bytes < 2 ^ 32) }
     {
         let left = self.size().saturating_sub(offset);
         let most = u16::try_from(left).map_or(count, |left| left.min(count));

@@ -11,5 +11,5 @@ turns-preserved c = record {
       (c.in_ok-push.ensures.items ∙ ap (λ b. c.turns.bytes.items ++ b ∷ []) (c.byte.ensures ∙ ap (λ n. byte_at c.args.self.now (c.args.index + n)) c.from.ensures)) c.turns.invariant.so_far;
 }
 
-pub returns : goal.returns
-returns c = c.from_vec.ensures ∙ bytes_end c.args.self.now c.args.index c.turns.done c.args.count c.turns.bytes.items c.turns-test.false c.turns.invariant.so_far
+pub returns-clause-bytes : goal.returns-clause-bytes
+returns-clause-bytes c = c.from_vec.ensures ∙ bytes_end c.args.self.now c.args.index c.turns.done c.args.count c.turns.bytes.items c.turns-test.false c.turns.invariant.so_far
