@@ -1,3 +1,4 @@
+pub mod Arms
 pub mod CellMaps
 pub mod Changed
 pub mod FiniteMaps
