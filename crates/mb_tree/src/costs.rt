@@ -85,7 +85,7 @@ fn index_blocks(parts: &[u32]) -> u128
 }
 
 /// How many blocks these parts and their index blocks are.
-fn blocks(parts: &[u32]) -> u128
+pub fn blocks(parts: &[u32]) -> u128
     ensures count { result ≡ length parts.now + index_blocks parts.now }
     ensures few { result < 2 ^ 67 }
 {
@@ -93,7 +93,7 @@ fn blocks(parts: &[u32]) -> u128
 }
 
 /// The numbers below a count, falling.
-fn first_parts(alloc: Global, count: u32) -> Result<Vec<u32>, AllocError>
+pub fn first_parts(alloc: Global, count: u32) -> Result<Vec<u32>, AllocError>
     ensures { IfOk result (λ parts. parts.items ≡ first_parts count) }
 {
     let mut parts = Vec::new(alloc);

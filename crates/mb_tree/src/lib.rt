@@ -19,6 +19,8 @@ mod plans;
 mod seats;
 mod stops;
 mod tables;
+#[cfg(test)]
+mod tests;
 mod trees;
 
 pub use lookups::Placed;
