@@ -9,6 +9,7 @@ mod costs;
 mod effects;
 mod file_rows;
 mod inodes;
+mod laws;
 mod lookups;
 mod machines;
 mod maps;
@@ -23,6 +24,7 @@ mod tables;
 mod tests;
 mod trees;
 
+pub use laws::{after_appends, cost_kept, legal_appends, legal_grows, legal_splits, refused_stays, served_by_effect};
 pub use lookups::Placed;
 pub use machines::Machine;
 pub use maps::Map;
