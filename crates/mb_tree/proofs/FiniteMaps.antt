@@ -73,7 +73,7 @@ module _ {X : Type 0} where
   no_entries [] h = refl
   no_entries (e ∷ es) h = absurd (omega arith)
 
-  entries_none : fin.entries (fin.empty {X = X} {R = nat_cmp}) ≡ []
+  pub entries_none : fin.entries (fin.empty {X = X} {R = nat_cmp}) ≡ []
   entries_none = no_entries _ (sym (len-entries fin.empty) ∙ len-empty nat_cmp X)
 
   put_first : (e : ℕ × X) (es : List (ℕ × X)) → AllByRecursion (λ key. nat_cmp e.0 key ≡ Less) (map (λ e. e.0) es) → put nat_cmp e.0 e.1 es ≡ e ∷ es

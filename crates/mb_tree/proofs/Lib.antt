@@ -1,6 +1,15 @@
+pub mod Always
+pub mod Arms
 pub mod CellMaps
+pub mod Changed
+pub mod Cheaper
 pub mod FiniteMaps
+pub mod Groups
+pub mod Histories
 pub mod MapCopies
 pub mod Padding
+pub mod Released
+pub mod Rows
 pub mod Searches
+pub mod Served
 pub mod Swaps

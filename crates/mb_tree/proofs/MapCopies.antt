@@ -10,7 +10,7 @@ use Rattle.std.specs.Cmp.{unsigned_tied}
 use Rattle.std.specs.Ordering.{nat_cmp, eq_by_cmp}
 use Rattle.mb_tree.proofs.FiniteMaps.{Numbered, same, get_here, get_there, one_or_not, entries_view}
 
-any_more : (p : ℕ → Bool) (ks : List ℕ) (i d : ℕ) → i < length ks → list_any p (take (suc i) ks) ≡ (list_any p (take i ks) || p (get_or ks i d))
+pub any_more : (p : ℕ → Bool) (ks : List ℕ) (i d : ℕ) → i < length ks → list_any p (take (suc i) ks) ≡ (list_any p (take i ks) || p (get_or ks i d))
 any_more p [] i d h = absurd (omega arith)
 any_more p (k ∷ ks) zero d h = elim (p k) as (λ b. (b || false) ≡ b) [ true ↦ refl | false ↦ refl ]
 any_more p (k ∷ ks) (suc i) d h = elim (p k) as (λ b. (b || list_any p (take (suc i) ks)) ≡ ((b || list_any p (take i ks)) || p (get_or ks i d))) [ true ↦ refl | false ↦ any_more p ks i d (omega arith) ]
@@ -19,11 +19,11 @@ any_tied : (q : ℕ) (ks : List ℕ) → list_any (eq_by_cmp nat_cmp q) ks ≡ l
 any_tied q [] = refl
 any_tied q (k ∷ ks) = λ i. unsigned_tied q k i || any_tied q ks i
 
-or_true : (b : Bool) → (b || true) ≡ true
+pub or_true : (b : Bool) → (b || true) ≡ true
 or_true true = refl
 or_true false = refl
 
-or_false : (b : Bool) → (b || false) ≡ b
+pub or_false : (b : Bool) → (b || false) ≡ b
 or_false true = refl
 or_false false = refl
 

@@ -1,5 +1,8 @@
 -- Searches and sums over numbers in a row, one number further.
-use Rattle.std.proofs.Common.{◌≡◌, ℕ, zero, suc, ◌+◌, ◌-◌, ◌<◌, ◌≤◌, Bool, true, false, if◌then◌else◌, cond, Option, Some, None, is_some, refl, sym, ap, ◌∙◌, arith, add-one}
+use Rattle.std.proofs.Common.{◌≡◌, ℕ, zero, suc, ◌+◌, ◌-◌, ◌<◌, ◌≤◌, Bool, true, false, if◌then◌else◌, cond, Option, Some, None, is_some, refl, sym, ap, ◌∙◌, arith, add-one, List, [], ◌∷◌, ◌++◌, append_assoc}
+use Rattle.std.proofs.lemmas.List.{append-nil}
+use Rattle.mb_tree.specs.Inodes.{byte_at, bytes_from}
+use Rattle.mb_tree.specs.declared.nodes.Body.{Body}
 use Rattle.mb_tree.specs.Counting.{sum_below, first_from}
 
 module _ (p : ℕ → Bool) where
@@ -31,3 +34,29 @@ sum_more g n = rw add-one (omega arith)
 pub sum_none : (g : ℕ → ℕ) → sum_below g 0 ≡ 0
 unfolding sum_below
 sum_none g = refl
+
+-- ---- bytes in a row
+
+pub bytes_more : (body : Body) (index done count : ℕ) → done < count → bytes_from body (index + done) (count - done) ≡ byte_at body (index + done) ∷ bytes_from body (index + (done + 1)) (count - (done + 1))
+unfolding bytes_from
+bytes_more body index done count h =
+    let n : count - done ≡ suc (count - (done + 1)) = omega arith in
+    let a : index + (done + 1) ≡ index + done + 1 = omega arith in
+    rw (n, a) refl
+
+pub bytes_none : (body : Body) (index count : ℕ) → count ≡ 0 → bytes_from body index count ≡ []
+unfolding bytes_from
+bytes_none body index count e = rw e refl
+
+-- the bytes so far, one byte further, and all of them
+pub bytes_step : (body : Body) (index done count : ℕ) (bytes more : List ℕ) → done < count → more ≡ bytes ++ byte_at body (index + done) ∷ []
+  → bytes ++ bytes_from body (index + done) (count - done) ≡ bytes_from body index count
+  → more ++ bytes_from body (index + (done + 1)) (count - (done + 1)) ≡ bytes_from body index count
+bytes_step body index done count bytes more h e inv =
+    ap (λ xs. xs ++ bytes_from body (index + (done + 1)) (count - (done + 1))) e
+    ∙ append_assoc bytes (byte_at body (index + done) ∷ []) (bytes_from body (index + (done + 1)) (count - (done + 1)))
+    ∙ ap (λ xs. bytes ++ xs) (sym (bytes_more body index done count h)) ∙ inv
+
+pub bytes_end : (body : Body) (index done count : ℕ) (bytes : List ℕ) → count ≤ done
+  → bytes ++ bytes_from body (index + done) (count - done) ≡ bytes_from body index count → bytes ≡ bytes_from body index count
+bytes_end body index done count bytes h inv = sym (append-nil bytes) ∙ ap (λ xs. bytes ++ xs) (sym (bytes_none body (index + done) (count - done) (omega arith))) ∙ inv

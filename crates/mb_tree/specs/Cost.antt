@@ -1,7 +1,8 @@
 -- How many blocks the files of a tree hold: their parts and the index blocks that lead to them. Of the 13
 -- addresses of an inode, 10 are direct, and one each is single, double and triple indirect; an index block
 -- has 128 addresses (V7 filsys(5)).
-use Rattle.std.specs.Prelude.{List, [], ◌∷◌, ℕ, zero, suc, ◌+◌, ◌-◌, ◌*◌, ◌/◌, ◌^◌, Bool, ◌&&◌, nat_le, nat_lt, length, map, filter, Option, Some, None}
+use Rattle.std.specs.Prelude.{List, [], ◌∷◌, ℕ, zero, suc, ◌+◌, ◌-◌, ◌*◌, ◌/◌, ◌^◌, Bool, not, ◌&&◌, nat_eq, nat_le, nat_lt, length, map, filter, Option, Some, None}
+use Rattle.std.specs.List.{list_any}
 use Rattle.std.specs.FinMap as fin
 use Rattle.std.specs.FinSet as set
 use Rattle.std.specs.Ordering.{nat_cmp}
@@ -19,6 +20,14 @@ is_within low high part = nat_le low part && nat_lt part high
 -- the groups of so many parts in a row, counted from low, that hold one of these part numbers below high
 abbrev pub touched : ℕ → ℕ → ℕ → List ℕ → set.FinSet nat_cmp
 touched low high size parts = set.from_list (map (λ part. (part - low) / size) (filter (is_within low high) parts))
+
+-- another part of the same group
+abbrev pub is_near : ℕ → ℕ → ℕ → ℕ → ℕ → Bool
+is_near low high size part other = is_within low high other && nat_eq ((other - low) / size) ((part - low) / size)
+
+-- the last of its group in a list, where rest are the parts that follow it
+abbrev pub is_last : ℕ → ℕ → ℕ → ℕ → List ℕ → Bool
+is_last low high size part rest = is_within low high part && not (list_any (is_near low high size part) rest)
 
 -- the first part under the single, the double and the triple indirect address, and the first part past them
 abbrev pub single : ℕ
@@ -45,9 +54,9 @@ abbrev pub first_parts : ℕ → List ℕ
 first_parts zero = []
 first_parts (suc count) = count ∷ first_parts count
 
--- the parts that lie below a directory's size, at 16 bytes a slot
+-- the parts that lie below a directory's size: 32 slots of 16 bytes fill one
 abbrev pub parts_for : ℕ → ℕ
-parts_for slots = (16 * slots + 511) / 512
+parts_for slots = (slots + 31) / 32
 
 -- the numbers of the parts that a body has, each once
 abbrev pub parts_of : Body → List ℕ

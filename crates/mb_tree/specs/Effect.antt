@@ -23,12 +23,16 @@ pub record Held : Type 0 where
   pub tree : Tree
   pub opens : Counts
 
+-- ---- counts
+
 abbrev pub hold : Counts → ℕ → Counts
 hold opens ino = λ other. if other == ino then opens other + 1 else opens other
 
 -- one open file less for each time that an inode's number stands in the list
 abbrev pub release : Counts → List ℕ → Counts
 release opens inos = λ other. opens other - count_by (nat_eq other) inos
+
+-- ---- one inode
 
 -- content changed
 abbrev pub touched : ℕ → Node → Node
@@ -48,6 +52,8 @@ made mode nlink uid gid moment body = record { mode = mode; nlink = nlink; uid =
 -- the link count of the inode with a number, 0 where there is none
 abbrev pub nlink_in : Numbered Node → ℕ → ℕ
 nlink_in nodes ino = unwrap_or (option_map (λ (node : Node). node.nlink) (fin.get nodes ino)) 0
+
+-- ---- slots
 
 abbrev pub on_slots : (List PlainSlot → List PlainSlot) → Body → Body
 on_slots f (Regular size parts) = Regular size parts
@@ -71,12 +77,11 @@ with_name moment name ino node = record (touched moment node) { body = on_slots 
 abbrev pub without_name : ℕ → List ℕ → Node → Node
 without_name moment name node = record (touched moment node) { body = on_slots (emptied name) node.body }
 
--- the link count of a directory that gets or loses the `..` of a directory below it
-abbrev pub more_links : Node → Node
-more_links node = record node { nlink = node.nlink + 1 }
-
-abbrev pub less_links : Node → Node
-less_links node = record node { nlink = node.nlink - 1 }
+-- the same for a name of a directory, whose `..` is a name of its parent
+abbrev pub with_link : ℕ → List ℕ → ℕ → Node → Node
+with_link moment name ino node = record (with_name moment name ino node) { nlink = node.nlink + 1 }
+abbrev pub without_link : ℕ → List ℕ → Node → Node
+without_link moment name node = record (without_name moment name node) { nlink = node.nlink - 1 }
 
 -- dir(5): the first two slots of a directory, `.` and `..`
 abbrev pub dot : List ℕ
@@ -87,6 +92,8 @@ dot_dot = 46 ∷ 46 ∷ 0 ∷ 0 ∷ 0 ∷ 0 ∷ 0 ∷ 0 ∷ 0 ∷ 0 ∷ 0 ∷ 0 
 
 abbrev pub first_slots : ℕ → ℕ → List PlainSlot
 first_slots ino parent = (record { ino = ino; name = dot }) ∷ (record { ino = parent; name = dot_dot }) ∷ []
+
+-- ---- bytes
 
 -- one byte put at its place, in a part that was zeros where it was missing
 abbrev pub put_byte : Numbered (List ℕ) → ℕ → ℕ → Numbered (List ℕ)
@@ -107,6 +114,8 @@ abbrev pub cleared : Body → Body
 cleared (Regular size parts) = Regular 0 fin.empty
 cleared (Directory slots) = Directory slots
 cleared (Special size area) = Special size area
+
+-- ---- the tree
 
 -- refused where the files would hold more blocks than the volume has for them
 abbrev pub fitting : Tree → Numbered Node → Answer Tree
@@ -129,32 +138,53 @@ less_name nodes opens moment ino =
 abbrev pub less_open : Numbered Node → Counts → List ℕ → Numbered Node
 less_open nodes opens inos = fin.retain_keys nodes (λ ino. not (list_any (nat_eq ino) inos && is_lost opens ino (fin.get nodes ino)))
 
--- a regular file with the picked number, which is held
-abbrev pub create : Tree → Counts → ℕ → List ℕ → ℕ → ℕ → ℕ → ℕ → Option ℕ → Answer Held
-create tree opens dir name mode uid gid moment pick = do
+-- one inode changed by what needs no block
+abbrev pub on_node : Tree → ℕ → (Node → Node) → Tree
+on_node tree ino f = record tree { nodes = changed_at tree.nodes ino f }
+
+-- bytes written, bytes dropped
+abbrev pub wrote : ℕ → ℕ → List ℕ → Node → Node
+wrote moment offset bytes node = record (touched moment node) { body = written offset bytes node.body }
+abbrev pub blanked : ℕ → Node → Node
+blanked moment node = record (touched moment node) { body = cleared node.body }
+
+-- fields set; the kind of an inode stays
+abbrev pub with_mode : ℕ → ℕ → Node → Node
+with_mode mode moment node = record node { mode = bit_or (kind_of node.mode) mode; ctime = moment }
+abbrev pub with_owner : ℕ → ℕ → ℕ → Node → Node
+with_owner uid gid moment node = record node { uid = uid; gid = gid; ctime = moment }
+abbrev pub with_times : ℕ → ℕ → ℕ → Node → Node
+with_times atime mtime moment node = record node { atime = atime; mtime = mtime; ctime = moment }
+
+-- ---- the operations
+
+-- a regular file with the picked number
+abbrev pub create : Tree → ℕ → List ℕ → ℕ → ℕ → ℕ → ℕ → Option ℕ → Answer Tree
+create tree dir name mode uid gid moment pick = do
   ino ← some pick ENOSPC
-  next ← fitting tree (changed_at (fin.insert tree.nodes ino (made (bit_or 0x8000 mode) 1 uid gid moment (Regular 0 fin.empty))) dir (with_name moment name ino))
-  Ok (record { tree = next; opens = hold opens ino })
+  fitting tree (fin.insert (changed_at tree.nodes dir (with_name moment name ino)) ino (made (bit_or 0x8000 mode) 1 uid gid moment (Regular 0 fin.empty)))
+
+-- a file without its bytes
+abbrev pub empty : Tree → ℕ → ℕ → Tree
+empty tree ino moment = on_node tree ino (blanked moment)
 
 -- a directory with the picked number; 32767 is the greatest link count, this project's choice
-abbrev pub make_dir : Tree → Counts → ℕ → List ℕ → ℕ → ℕ → ℕ → ℕ → Option ℕ → Answer Held
-make_dir tree opens dir name mode uid gid moment pick = do
+abbrev pub make_dir : Tree → ℕ → List ℕ → ℕ → ℕ → ℕ → ℕ → Option ℕ → Answer Tree
+make_dir tree dir name mode uid gid moment pick = do
   need (nat_lt (nlink_in tree.nodes dir) 32767) EMLINK
   ino ← some pick ENOSPC
-  next ← fitting tree (changed_at (fin.insert tree.nodes ino (made (bit_or 0x4000 mode) 2 uid gid moment (Directory (first_slots ino dir)))) dir (λ node. more_links (with_name moment name ino node)))
-  Ok (record { tree = next; opens = opens })
+  fitting tree (fin.insert (changed_at tree.nodes dir (with_link moment name ino)) ino (made (bit_or 0x4000 mode) 2 uid gid moment (Directory (first_slots ino dir))))
 
 -- the directory that a name leads to, dropped
 abbrev pub remove_dir : Tree → ℕ → List ℕ → ℕ → Option ℕ → Tree
 remove_dir tree dir name moment None = tree
-remove_dir tree dir name moment (Some ino) = record tree { nodes = changed_at (fin.remove tree.nodes ino) dir (λ node. less_links (without_name moment name node)) }
+remove_dir tree dir name moment (Some ino) = record tree { nodes = changed_at (fin.remove tree.nodes ino) dir (without_link moment name) }
 
 -- one name more
-abbrev pub enlink : Tree → Counts → ℕ → List ℕ → ℕ → ℕ → Answer Held
-enlink tree opens dir name ino moment = do
+abbrev pub enlink : Tree → ℕ → List ℕ → ℕ → ℕ → Answer Tree
+enlink tree dir name ino moment = do
   need (nat_lt (nlink_in tree.nodes ino) 32767) EMLINK
-  next ← fitting tree (changed_at (changed_at tree.nodes ino (linked moment)) dir (with_name moment name ino))
-  Ok (record { tree = next; opens = opens })
+  fitting tree (changed_at (changed_at tree.nodes ino (linked moment)) dir (with_name moment name ino))
 
 -- one name less
 abbrev pub delink : Tree → Counts → ℕ → List ℕ → ℕ → Option ℕ → Tree
@@ -162,26 +192,52 @@ delink tree opens dir name moment None = tree
 delink tree opens dir name moment (Some ino) = record tree { nodes = less_name (changed_at tree.nodes dir (without_name moment name)) opens moment ino }
 
 -- bytes put; a file has at most 1082201088 bytes
-abbrev pub put : Tree → Counts → ℕ → ℕ → List ℕ → ℕ → Answer Held
-put tree opens ino offset bytes moment = do
+abbrev pub put : Tree → ℕ → ℕ → List ℕ → ℕ → Answer Tree
+put tree ino offset bytes moment = do
   need (nat_le (offset + length bytes) 1082201088) EFBIG
-  next ← fitting tree (changed_at tree.nodes ino (λ node. record (touched moment node) { body = written offset bytes node.body }))
-  Ok (record { tree = next; opens = opens })
+  fitting tree (changed_at tree.nodes ino (wrote moment offset bytes))
 
--- one inode changed by what needs no block
-abbrev pub on_node : Tree → ℕ → (Node → Node) → Tree
-on_node tree ino f = record tree { nodes = changed_at tree.nodes ino f }
+-- the fields of an inode set
+abbrev pub set_mode : Tree → ℕ → ℕ → ℕ → Tree
+set_mode tree ino mode moment = on_node tree ino (with_mode mode moment)
+abbrev pub set_owner : Tree → ℕ → ℕ → ℕ → ℕ → Tree
+set_owner tree ino uid gid moment = on_node tree ino (with_owner uid gid moment)
+abbrev pub set_times : Tree → ℕ → ℕ → ℕ → ℕ → Tree
+set_times tree ino atime mtime moment = on_node tree ino (with_times atime mtime moment)
 
+-- what an operation does to the tree
+abbrev pub tree_after : Tree → Counts → FsOp → Option ℕ → Answer Tree
+tree_after tree opens (Create dir name mode uid gid moment) pick = create tree dir name mode uid gid moment pick
+tree_after tree opens (Empty ino moment) pick = Ok (empty tree ino moment)
+tree_after tree opens (MakeDir dir name mode uid gid moment) pick = make_dir tree dir name mode uid gid moment pick
+tree_after tree opens (RemoveDir dir name moment) pick = Ok (remove_dir tree dir name moment (number_in tree.nodes dir name))
+tree_after tree opens (Enlink dir name ino moment) pick = enlink tree dir name ino moment
+tree_after tree opens (Delink dir name moment) pick = Ok (delink tree opens dir name moment (number_in tree.nodes dir name))
+tree_after tree opens (Put ino offset bytes moment) pick = put tree ino offset bytes moment
+tree_after tree opens (SetMode ino mode moment) pick = Ok (set_mode tree ino mode moment)
+tree_after tree opens (SetOwner ino uid gid moment) pick = Ok (set_owner tree ino uid gid moment)
+tree_after tree opens (SetTimes ino atime mtime moment) pick = Ok (set_times tree ino atime mtime moment)
+tree_after tree opens (Hold ino) pick = Ok tree
+tree_after tree opens (Release inos) pick = Ok (record tree { nodes = less_open tree.nodes (release opens inos) inos })
+
+-- and to the counts: a file that was created or emptied is open
+abbrev pub opens_after : Counts → FsOp → Option ℕ → Counts
+opens_after opens (Create dir name mode uid gid moment) None = opens
+opens_after opens (Create dir name mode uid gid moment) (Some ino) = hold opens ino
+opens_after opens (Empty ino moment) pick = hold opens ino
+opens_after opens (MakeDir dir name mode uid gid moment) pick = opens
+opens_after opens (RemoveDir dir name moment) pick = opens
+opens_after opens (Enlink dir name ino moment) pick = opens
+opens_after opens (Delink dir name moment) pick = opens
+opens_after opens (Put ino offset bytes moment) pick = opens
+opens_after opens (SetMode ino mode moment) pick = opens
+opens_after opens (SetOwner ino uid gid moment) pick = opens
+opens_after opens (SetTimes ino atime mtime moment) pick = opens
+opens_after opens (Hold ino) pick = hold opens ino
+opens_after opens (Release inos) pick = release opens inos
+
+-- both; refused with ENOSPC, EFBIG or EMLINK alone
 abbrev pub effect : Tree → Counts → FsOp → Option ℕ → Answer Held
-effect tree opens (Create dir name mode uid gid moment) pick = create tree opens dir name mode uid gid moment pick
-effect tree opens (Empty ino moment) pick = Ok (record { tree = on_node tree ino (λ node. record (touched moment node) { body = cleared node.body }); opens = hold opens ino })
-effect tree opens (MakeDir dir name mode uid gid moment) pick = make_dir tree opens dir name mode uid gid moment pick
-effect tree opens (RemoveDir dir name moment) pick = Ok (record { tree = remove_dir tree dir name moment (number_in tree.nodes dir name); opens = opens })
-effect tree opens (Enlink dir name ino moment) pick = enlink tree opens dir name ino moment
-effect tree opens (Delink dir name moment) pick = Ok (record { tree = delink tree opens dir name moment (number_in tree.nodes dir name); opens = opens })
-effect tree opens (Put ino offset bytes moment) pick = put tree opens ino offset bytes moment
-effect tree opens (SetMode ino mode moment) pick = Ok (record { tree = on_node tree ino (λ node. record node { mode = bit_or (kind_of node.mode) mode; ctime = moment }); opens = opens })
-effect tree opens (SetOwner ino uid gid moment) pick = Ok (record { tree = on_node tree ino (λ node. record node { uid = uid; gid = gid; ctime = moment }); opens = opens })
-effect tree opens (SetTimes ino atime mtime moment) pick = Ok (record { tree = on_node tree ino (λ node. record node { atime = atime; mtime = mtime; ctime = moment }); opens = opens })
-effect tree opens (Hold ino) pick = Ok (record { tree = tree; opens = hold opens ino })
-effect tree opens (Release inos) pick = Ok (record { tree = record tree { nodes = less_open tree.nodes (release opens inos) inos }; opens = release opens inos })
+effect tree opens op pick = do
+  next ← tree_after tree opens op pick
+  Ok (record { tree = next; opens = opens_after opens op pick })

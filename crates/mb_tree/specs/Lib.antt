@@ -9,6 +9,7 @@ pub mod Filled
 pub mod Fits
 pub mod History
 pub mod Inodes
+pub mod Laws
 pub mod Lookup
 pub mod Machines
 pub mod Maps

@@ -1,7 +1,11 @@
 -- How what a function of the model returns stands for the answer of its definition: want of memory alone is
 -- free.
-use Rattle.std.specs.Prelude.{◌≡◌, Result, Ok, Err}
+use Rattle.std.specs.Prelude.{◌≡◌, Result, Ok, Err, IsOkAnd}
+use Rattle.mb_kinds.specs.declared.replies.Reply.{Reply}
 use Rattle.mb_tree.specs.Answers.{Answer}
+use Rattle.mb_tree.specs.Effect.{Held}
+use Rattle.mb_tree.specs.declared.trees.Tree.{Tree}
+use Rattle.mb_tree.specs.declared.machines.Machine.{Machine}
 use Rattle.mb_tree.specs.declared.stops.Stop.{Stop}
 use Rattle.mb_tree.specs.declared.stops.Stop.TheVariants.{NoMemory, Refused}
 
@@ -14,3 +18,13 @@ Stops (Refused e) answer = answer ≡ Err e
 abbrev pub Gives : {X Y : Type 0} → (X → Y) → Result X Stop → Answer Y → Type 0
 Gives view (Ok x) answer = answer ≡ Ok (view x)
 Gives view (Err stop) answer = Stops stop answer
+
+-- a change of the tree is done, or nothing is
+abbrev pub Acts : {X : Type 0} → Result X Stop → Tree → Tree → Answer Held → Type 0
+Acts (Ok x) old new answer = IsOkAnd answer (λ (held : Held). held.tree ≡ new)
+Acts (Err stop) old new answer = Stops stop answer × (new ≡ old)
+
+-- a call is served, or the machine is as before
+abbrev pub Serves : Result Reply Stop → Machine → Machine → Answer (Reply × Machine) → Type 0
+Serves (Ok reply) old new answer = answer ≡ Ok (reply, new)
+Serves (Err stop) old new answer = Stops stop answer × (new ≡ old)

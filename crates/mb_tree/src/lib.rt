@@ -3,18 +3,28 @@
 //! restartable file system.
 #![tactic(auto)]
 
+mod changes;
+mod contents;
+mod costs;
+mod effects;
+mod file_rows;
 mod inodes;
+mod laws;
 mod lookups;
 mod machines;
 mod maps;
 mod nodes;
 mod operations;
+mod path_rows;
 mod plans;
 mod seats;
 mod stops;
 mod tables;
+#[cfg(test)]
+mod tests;
 mod trees;
 
+pub use laws::{after_appends, cost_kept, legal_appends, legal_grows, legal_splits, refused_stays, served_by_effect};
 pub use lookups::Placed;
 pub use machines::Machine;
 pub use maps::Map;

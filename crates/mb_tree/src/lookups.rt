@@ -1,7 +1,7 @@
 ghost use Rattle.std.specs.Prelude.{◌≡◌, ◌==◌, ◌<◌, IfOk, map};
 ghost use Rattle.std.specs.List.{slice_split};
 ghost use Rattle.mb_tree.specs.Results.{Gives};
-ghost use Rattle.mb_tree.specs.Lookup.{padded, components, start_of, is_named, number_of, look, enter, walk, stat_in, find_path, place_under, find_place, slash};
+ghost use Rattle.mb_tree.specs.Lookup.{padded, components, start_of, is_named, number_of, look, enter, walk, stat_in, find_path, place_under, find_place, slash, number_in, used_in};
 
 use crate::inodes::{is_used, may};
 use crate::nodes::{Body, Nodes, PlainSlot};
@@ -72,6 +72,32 @@ pub fn number_of(slots: &[PlainSlot], name: &Name) -> Option<u16>
     ensures { result ≡ number_of slots.now name.now }
 {
     slots.iter().find(|slot| is_named(name, slot)).map(|slot| slot.ino)
+}
+
+/// The number that a name leads to in a directory, where the inode is one.
+pub fn number_in(nodes: &Nodes, dir: u16, name: &Name) -> Option<u16>
+    ensures { result ≡ number_in nodes.now dir name.now }
+{
+    match nodes.get(u32::from(dir)) {
+        Some(node) => match &node.body {
+            Body::Directory { slots } => number_of(slots.as_slice(), name),
+            _ => None,
+        },
+        None => None,
+    }
+}
+
+/// How many used slots an inode has; none where it is no directory.
+pub fn used_in(nodes: &Nodes, ino: u16) -> usize
+    ensures { result ≡ used_in nodes.now ino }
+{
+    match nodes.get(u32::from(ino)) {
+        Some(node) => match &node.body {
+            Body::Directory { slots } => slots.as_slice().iter().filter(|slot| is_used(slot)).count(),
+            _ => 0,
+        },
+        None => 0,
+    }
 }
 
 /// The number that a name leads to in a directory that the caller may search.

@@ -1,0 +1,58 @@
+-- Laws of the step and of histories, each the contract of a function without a body.
+use Rattle.std.specs.Prelude.{List, [], ◌∷◌, ◌++◌, ℕ, ◌≡◌, ◌≤◌, ◌<◌, Option, Ok}
+use Rattle.std.specs.List.{AllByRecursion}
+use Rattle.mb_kinds.specs.declared.calls.Call.{Call}
+use Rattle.mb_kinds.specs.declared.entries.Entry.{Entry}
+use Rattle.mb_kinds.specs.declared.replies.Reply.{Reply}
+use Rattle.mb_kinds.specs.declared.replies.Reply.TheVariants.{Refused}
+use Rattle.mb_kinds.specs.declared.errors.Errno.{Errno}
+use Rattle.mb_tree.specs.Sessions.{counts, with_change}
+use Rattle.mb_tree.specs.Effect.{Held}
+use Rattle.mb_tree.specs.Rows.{plan}
+use Rattle.mb_tree.specs.Step.{effect_of, serve, step}
+use Rattle.mb_tree.specs.Cost.{cost}
+use Rattle.mb_tree.specs.History.{after, Runs, Follows, Legal}
+use Rattle.mb_tree.specs.declared.machines.Machine.{Machine}
+use Rattle.mb_tree.specs.declared.plans.Plan.{Plan}
+
+-- the machine after two histories in a row
+abbrev pub AfterAppends : Type 0
+AfterAppends = (machine : Machine) (front back : List Entry) → after machine (front ++ back) ≡ after (after machine front) back
+
+-- a front of a history is one, and so is the rest from there on
+abbrev pub LegalSplits : Type 0
+LegalSplits = (machine : Machine) (start : ℕ) (front back : List Entry) → Legal machine start (front ++ back) → Legal machine start front × Legal (after machine front) start back
+
+-- two histories in a row are one where each later entry may follow each earlier one
+abbrev pub LegalAppends : Type 0
+LegalAppends = (machine : Machine) (start : ℕ) (front back : List Entry) → Legal machine start front → Legal (after machine front) start back
+    → AllByRecursion (λ entry. AllByRecursion (Follows entry) back) front → Legal machine start (front ++ back)
+
+-- one entry more
+abbrev pub LegalGrows : Type 0
+LegalGrows = (machine : Machine) (start : ℕ) (history : List Entry) (entry : Entry) → Legal machine start history → Runs (after machine history) entry entry.reply
+    → start < entry.moment → AllByRecursion (λ earlier. Follows earlier entry) history → Legal machine start (history ++ entry ∷ [])
+
+-- a refused call leaves the machine
+abbrev pub RefusedStays : Type 0
+RefusedStays = (machine : Machine) (caller : ℕ) (call : Call) (moment : ℕ) (pick : Option ℕ) (error : Errno)
+    → (step machine caller call moment pick).0 ≡ Refused error → (step machine caller call moment pick).1 ≡ machine
+
+-- what a call that is served did: its plan, the effect of the plan's operation on the tree, its session change
+pub record IsServed (machine : Machine) (caller : ℕ) (call : Call) (moment : ℕ) (pick : Option ℕ) (reply : Reply) (next : Machine) : Type 0 where
+  pub planned : Plan
+  pub held : Held
+  pub plans : plan machine caller call moment pick ≡ Ok planned
+  pub acts : effect_of machine.tree (counts machine.seats) planned.op pick ≡ Ok held
+  pub answers : reply ≡ planned.reply
+  pub tree : next.tree ≡ held.tree
+  pub seats : next.seats ≡ with_change machine.seats caller planned.session
+
+abbrev pub ServedByEffect : Type 0
+ServedByEffect = (machine : Machine) (caller : ℕ) (call : Call) (moment : ℕ) (pick : Option ℕ) (reply : Reply) (next : Machine)
+    → serve machine caller call moment pick ≡ Ok (reply, next) → IsServed machine caller call moment pick reply next
+
+-- the files never hold more blocks than there are for them
+abbrev pub CostKept : Type 0
+CostKept = (machine : Machine) (caller : ℕ) (call : Call) (moment : ℕ) (pick : Option ℕ) → cost machine.tree ≤ machine.tree.cap
+    → (cost (step machine caller call moment pick).1.tree ≤ machine.tree.cap) × ((step machine caller call moment pick).1.tree.cap ≡ machine.tree.cap)

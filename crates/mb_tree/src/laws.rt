@@ -1,0 +1,36 @@
+ghost use Rattle.mb_tree.specs.Laws.{AfterAppends, LegalSplits, LegalAppends, LegalGrows, RefusedStays, ServedByEffect, CostKept};
+
+/// The machine after two histories in a row is the one after the second, from the one after the first.
+pub fn after_appends()
+    ensures { AfterAppends }
+{}
+
+/// A front of a history is a history, and the rest is one of the machine after the front.
+pub fn legal_splits()
+    ensures { LegalSplits }
+{}
+
+/// Two histories in a row are one where each later entry may follow each earlier one.
+pub fn legal_appends()
+    ensures { LegalAppends }
+{}
+
+/// A history with one entry more.
+pub fn legal_grows()
+    ensures { LegalGrows }
+{}
+
+/// A refused call leaves the machine as it was.
+pub fn refused_stays()
+    ensures { RefusedStays }
+{}
+
+/// A call that is served changes the tree by the effect of its plan's operation alone.
+pub fn served_by_effect()
+    ensures { ServedByEffect }
+{}
+
+/// The files of a machine never hold more blocks than there are for them.
+pub fn cost_kept()
+    ensures { CostKept }
+{}
