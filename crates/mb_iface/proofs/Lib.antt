@@ -1,0 +1,3 @@
+pub mod ChangeEntries
+pub mod ChangedBlocks
+pub mod CountMaps
