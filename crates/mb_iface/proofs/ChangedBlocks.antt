@@ -1,10 +1,10 @@
 -- Blocks under changes: reading after a write, and views under changes.
-use Rattle.std.proofs.Common.{ℕ, ◌≡◌, ◌≢◌, Option, Some, None, Bool, true, false, cond, nat_eq, unwrap_or, IfSome, IsSome, List, [], refl, sym, ap, subst, ◌∙◌, arith, Bor, option_copied}
+use Rattle.std.proofs.Common.{ℕ, ◌≡◌, ◌≢◌, Option, Some, None, Bool, true, false, cond, nat_eq, unwrap_or, IfSome, List, [], refl, sym, ap, subst, ◌∙◌, arith, Bor, option_copied}
 use Rattle.std.specs.Option.{option_or}
 use Rattle.std.proofs.lemmas.Bool.Decides.{nat_tests}
 use mathlib.Core.Path.{fun_ext}
 use Rattle.mb_tree.specs.Views.{over, IsPart}
-use Rattle.mb_iface.specs.Changed.{ChangeList, changed, put_block, shown_over, IsWithinView}
+use Rattle.mb_iface.specs.Changed.{ChangeList, changed, put_block, shown_over}
 
 pub put_block_same : (blocks : ℕ → List ℕ) (block : ℕ) (bytes : List ℕ) → put_block blocks block bytes block ≡ bytes
 unfolding put_block

@@ -1,11 +1,11 @@
 -- Maps of counts: no count in them is 0.
-use Rattle.std.proofs.Common.{ℕ, Bool, ◌≡◌, ◌≢◌, ◌<◌, List, inl, inr, Option, Some, None, Bor, option_copied, cond, true, false, nat_eq, unwrap_or, refl, sym, ap, ◌∙◌, arith}
+use Rattle.std.proofs.Common.{ℕ, Bool, ◌≡◌, ◌≢◌, ◌<◌, inl, inr, Option, Some, None, Bor, option_copied, cond, true, false, nat_eq, unwrap_or, refl, sym, ap, ◌∙◌, arith}
 use Rattle.std.proofs.lemmas.Bool.Decides.{nat_tests}
 use Rattle.std.specs.FinMap as fin
 use Rattle.std.specs.FinMap.{get-empty}
 use Rattle.std.specs.Ordering.{nat_cmp}
 use Rattle.mb_tree.proofs.FiniteMaps.{one_or_not, get_here, get_there, gone_here, gone_there}
-use Rattle.mb_iface.specs.OpenCounts.{count_of, with_count, AreCounts}
+use Rattle.mb_iface.specs.OpenCounts.{with_count, AreCounts}
 
 pub none_counted : AreCounts fin.empty
 none_counted ino count has = let e = get-empty {X = ℕ} nat_cmp ino in cc

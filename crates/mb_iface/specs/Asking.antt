@@ -1,10 +1,8 @@
 -- What an answer to a query says on a volume: the reference tree's answer.
-use Rattle.std.specs.Prelude.{List, ℕ, ◌≡◌, ◌⊎◌, Option, Some, None, Result, Ok, Err}
+use Rattle.std.specs.Prelude.{◌≡◌, Ok, Err}
 use Rattle.std.specs.FinMap as fin
 use Rattle.mb_kinds.specs.Image.{Image}
-use Rattle.mb_kinds.specs.declared.errors.Errno.{Errno}
 use Rattle.mb_kinds.specs.declared.errors.Errno.TheVariants.{ENOENT}
-use Rattle.mb_kinds.specs.declared.replies.Stat.{Stat}
 use Rattle.mb_tree.specs.Answers as reference
 use Rattle.mb_tree.specs.Answers.{◌>>=◌, ◌>>◌, some}
 use Rattle.mb_tree.specs.Fits.{IsOpenable}
@@ -13,7 +11,6 @@ use Rattle.mb_tree.specs.Lookup.{find_path, find_place, stat_in, used_in}
 use Rattle.mb_tree.specs.Trees.{IsThere, IsDirectoryAt}
 use Rattle.mb_tree.specs.declared.lookups.Placed.{Placed}
 use Rattle.mb_tree.specs.declared.lookups.Placed.TheVariants as placed
-use Rattle.mb_tree.specs.declared.nodes.Node.{Node}
 use Rattle.mb_tree.specs.declared.trees.Tree.{Tree}
 use Rattle.mb_iface.specs.declared.queries.Query.{Query}
 use Rattle.mb_iface.specs.declared.queries.Query.TheVariants as query

@@ -4,3 +4,4 @@ pub mod Changed
 pub mod Near
 pub mod Needs
 pub mod OpenCounts
+pub mod OverlayLaws

@@ -1,6 +1,6 @@
 -- For which blocks of a volume a query or an operation may ask: the super-block, the i-list, the blocks
 -- of the free chain, and the blocks of the inodes at which it looks.
-use Rattle.std.specs.Prelude.{List, [], ◌∷◌, ℕ, ◌<◌, ◌≤◌, ◌≡◌, ◌⊎◌, Option, Some, None, Ok, take, length, option_and_then}
+use Rattle.std.specs.Prelude.{List, [], ◌∷◌, ℕ, ◌<◌, ◌≤◌, ◌≡◌, ◌⊎◌, Option, Some, None, Ok, take, length}
 use Rattle.std.specs.List.{Contains}
 use Rattle.mb_kinds.specs.Image.{Image}
 use Rattle.mb_kinds.specs.declared.credentials.Cred.{Cred}

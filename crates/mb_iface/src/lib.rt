@@ -9,14 +9,18 @@
 #![tactic(auto)]
 
 mod change_lists;
+mod laws;
 mod open_counts;
 mod overlays;
 mod queries;
 mod replies;
 mod systems;
+#[cfg(test)]
+mod tests;
 mod views;
 
 pub use change_lists::Changes;
+pub use laws::{changes_cover, views_under_changes};
 pub use open_counts::Opens;
 pub use overlays::{Over, seen};
 pub use queries::Query;

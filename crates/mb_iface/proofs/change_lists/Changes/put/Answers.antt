@@ -1,6 +1,5 @@
 use Rattle.std.proofs.Common.{◌∙◌, ap, subst, sym, nat_eq, cond, Some, arith}
 use Rattle.std.specs.List.{All}
-use Rattle.indexmap.specs.IndexMap.{insert_entry}
 use Rattle.mb_iface.specs.Changed.{IsChange, changed}
 use Rattle.mb_iface.proofs.ChangedBlocks.{over_put}
 use Rattle.mb_iface.proofs.ChangeEntries.{each_inserted}

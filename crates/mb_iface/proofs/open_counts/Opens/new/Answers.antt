@@ -1,4 +1,4 @@
-use Rattle.std.proofs.Common.{ap, subst, sym}
+use Rattle.std.proofs.Common.{subst, sym}
 use Rattle.std.specs.FinMap as fin
 use Rattle.mb_iface.specs.OpenCounts.{AreCounts}
 use Rattle.mb_iface.proofs.CountMaps.{none_counted}
