@@ -2,6 +2,7 @@ pub mod CallLists
 pub mod Documents
 pub mod Keys
 pub mod LongTexts
+pub mod Remaining
 pub mod SmallCalls
 pub mod SmallJobs
 pub mod SmallLists

@@ -3,4 +3,7 @@ pub mod Job
 pub mod Limits
 pub mod Names
 pub mod Numbers
+pub mod Places
+pub mod Replies
 pub mod Small
+pub mod Transcript

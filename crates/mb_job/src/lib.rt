@@ -9,13 +9,20 @@
 mod jobs;
 mod limits;
 mod numbers;
+mod numerals;
 mod paths;
+mod places;
 mod reading;
+mod replies;
 mod tables;
+#[cfg(test)]
+mod tests;
 mod texts;
+mod transcripts;
 mod verbs;
 mod words;
 
 pub use jobs::{Caller, Job, JobCall, JobFault};
 pub use reading::job_of;
 pub use texts::Text;
+pub use transcripts::{last_line, transcript};

@@ -1,11 +1,17 @@
 -- What reading, filling and emptying a cell does to the map that a row of cells is.
-use Rattle.std.proofs.Common.{◌≡◌, ◌≢◌, ◌⊎◌, inl, inr, ℕ, zero, suc, ◌+◌, ◌-◌, ◌<◌, ◌≤◌, Bool, true, false, cond, List, [], ◌∷◌, refl, sym, ap, subst, ◌∙◌, arith, length, Option, Some, None, slice_set, slice_index_or, replicate, nat_eq}
+use Rattle.std.proofs.Common.{◌≡◌, ◌≢◌, ◌⊎◌, inl, inr, ℕ, zero, suc, ◌+◌, ◌-◌, ◌<◌, ◌≤◌, Bool, true, false, cond, List, [], ◌∷◌, refl, sym, ap, subst, ◌∙◌, arith, length, Option, Some, None, slice_set, slice_index_or, replicate, nat_eq, map, drop, ◌++◌}
+use Rattle.std.proofs.Math.ListN.{drop_of_length-le}
+use Rattle.std.proofs.lemmas.List.{append-nil}
 use Rattle.std.specs.FinMap as fin
 use Rattle.std.specs.FinMap.{get-from_entries, get-empty}
-use Rattle.std.specs.Cmp.{nat_cmp_total, unsigned_tied}
+use Rattle.std.specs.Cmp.{nat_cmp_total, unsigned_tied, nat_cmp_is}
+use Rattle.std.specs.List.{AllByRecursion}
+use Rattle.std.specs.List.Sorted.{IsStrictlySortedBy}
+use Rattle.std.specs.declared.cmp.Ordering.TheVariants.{Less}
+use Rattle.mb_tree.specs.Filled.{filled}
 use Rattle.std.specs.Ordering.{nat_cmp, eq_by_cmp, is_eq}
 use Rattle.mb_tree.specs.Cells.{cell_entries, from_cells}
-use Rattle.mb_tree.proofs.FiniteMaps.{same, get_here, get_there, gone_here, gone_there, one_or_not, is_here, is_apart}
+use Rattle.mb_tree.proofs.FiniteMaps.{same, get_here, get_there, gone_here, gone_there, one_or_not, is_here, is_apart, entries_view}
 
 -- the cell at a place, None past the end
 abbrev pub cell : {X : Type 0} → List (Option X) → ℕ → Option X
@@ -99,3 +105,28 @@ module _ {X : Type 0} where
 
   pub no_cells : (n : ℕ) → from_cells (replicate {A = Option X} n None) ≡ fin.empty
   no_cells n = same _ _ (λ q. get_cells _ q ∙ none_everywhere n q ∙ sym (get-empty nat_cmp q))
+
+  -- the values of the map are the cells' that have one, in order
+  rising : (low at : ℕ) (cells : List (Option X)) → low < at → AllByRecursion (λ key. nat_cmp low key ≡ Less) (map (λ e. e.0) (cell_entries at cells))
+  rising low at [] h = tt
+  rising low at (None ∷ cells) h = rising low (at + 1) cells (omega arith)
+  rising low at (Some x ∷ cells) h = (sym (nat_cmp_is low at Less h), rising low (at + 1) cells (omega arith))
+
+  sorted : (at : ℕ) (cells : List (Option X)) → IsStrictlySortedBy nat_cmp (map (λ e. e.0) (cell_entries at cells))
+  unfolding IsStrictlySortedBy
+  sorted at [] = tt
+  sorted at (None ∷ cells) = sorted (at + 1) cells
+  sorted at (Some x ∷ cells) = (rising at (at + 1) cells (omega arith), sorted (at + 1) cells)
+
+  values : (at : ℕ) (cells : List (Option X)) → map (λ e. e.1) (cell_entries at cells) ≡ filled cells
+  values at [] = refl
+  values at (None ∷ cells) = values (at + 1) cells
+  values at (Some x ∷ cells) = ap (λ xs. x ∷ xs) (values (at + 1) cells)
+
+  pub values_cells : (cells : List (Option X)) → fin.values (from_cells cells) ≡ filled cells
+  unfolding from_cells
+  values_cells cells = ap (map (λ e. e.1)) (entries_view (cell_entries 0 cells) (sorted 0 cells)) ∙ values 0 cells
+
+  pub all_filled : {Y : Type 0} (f : X → Y) (ys : List Y) (cells : List (Option X)) (m : fin.FinMap nat_cmp X) (i : ℕ) → from_cells cells ≡ m → length cells ≤ i
+    → ys ++ map f (filled (drop i cells)) ≡ map f (filled cells) → ys ≡ map f (fin.values m)
+  all_filled f ys cells m i e h so_far = sym (append-nil ys) ∙ ap (λ cs. ys ++ map f (filled cs)) (sym (drop_of_length-le cells h)) ∙ so_far ∙ ap (map f) (sym (values_cells cells)) ∙ ap (λ n. map f (fin.values n)) e

@@ -1,7 +1,11 @@
 -- Look-ups in finite maps from numbers, and the ordered maps that hold them.
-use Rattle.std.proofs.Common.{◌≡◌, ◌≢◌, ◌⊎◌, inl, inr, ℕ, Bool, true, false, cond, List, [], ◌∷◌, refl, sym, ap, subst, ◌∙◌, arith, nat_eq, Option, Some, None, IsSome, is_some, Bor, MatchOption, option_map, option_copied, unwrap_or}
+use Rattle.std.proofs.Common.{◌≡◌, ◌≢◌, ◌⊎◌, inl, inr, ℕ, Bool, true, false, cond, List, [], ◌∷◌, refl, sym, ap, subst, ◌∙◌, arith, nat_eq, Option, Some, None, IsSome, is_some, Bor, MatchOption, option_map, option_copied, unwrap_or, map, length}
 use Rattle.std.specs.FinMap as fin
-use Rattle.std.specs.FinMap.{get-insert, get-remove, get-empty, get-from_entries, same_map, nat_cmp-IsAntisymmetric}
+use Rattle.std.specs.FinMap.{get-insert, get-remove, get-empty, get-from_entries, same_map, nat_cmp-IsAntisymmetric, entries-insert, len-entries, len-empty}
+use Rattle.std.specs.FinMap.Entries.{put, by_order}
+use Rattle.std.specs.List.{AllByRecursion}
+use Rattle.std.specs.List.Sorted.{IsStrictlySortedBy}
+use Rattle.std.specs.declared.cmp.Ordering.TheVariants.{Less}
 use Rattle.std.specs.Cmp.{nat_cmp_total, unsigned_tied}
 use Rattle.std.specs.Ordering.{nat_cmp, eq_by_cmp, is_eq}
 use Rattle.std.specs.Map.{lookup}
@@ -64,3 +68,20 @@ module _ {X : Type 0} where
 
   pub none_there : (o : Option X) → o ≡ None → IsSome o → ⊥
   none_there o e some = cc
+
+  no_entries : (es : List (ℕ × X)) → length es ≡ 0 → es ≡ []
+  no_entries [] h = refl
+  no_entries (e ∷ es) h = absurd (omega arith)
+
+  entries_none : fin.entries (fin.empty {X = X} {R = nat_cmp}) ≡ []
+  entries_none = no_entries _ (sym (len-entries fin.empty) ∙ len-empty nat_cmp X)
+
+  put_first : (e : ℕ × X) (es : List (ℕ × X)) → AllByRecursion (λ key. nat_cmp e.0 key ≡ Less) (map (λ e. e.0) es) → put nat_cmp e.0 e.1 es ≡ e ∷ es
+  put_first e [] h = refl
+  put_first e (f ∷ es) h = ap (λ o. by_order o ((e.0, e.1) ∷ f ∷ es) ((f.0, e.1) ∷ es) (f ∷ put nat_cmp e.0 e.1 es)) h.0
+
+  -- a list of entries with rising keys is the entries of its map
+  pub entries_view : (es : List (ℕ × X)) → IsStrictlySortedBy nat_cmp (map (λ e. e.0) es) → fin.entries (fin.from_entries {R = nat_cmp} es) ≡ es
+  unfolding IsStrictlySortedBy
+  entries_view [] h = entries_none
+  entries_view (e ∷ es) h = entries-insert nat_cmp_total (fin.from_entries es) e.0 e.1 ∙ ap (put nat_cmp e.0 e.1) (entries_view es h.1) ∙ put_first e es h.0

@@ -26,10 +26,10 @@ is_regular mode = kind_of mode == 0x8000
 abbrev pub is_special : ℕ → Bool
 is_special mode = kind_of mode == 0x2000 || kind_of mode == 0x6000
 
--- a directory's size is 16 bytes for each slot, empty ones among them
+-- a directory's size is 16 bytes for each slot, empty ones among them; a size has 32 bits
 abbrev pub size_of : Body → ℕ
 size_of (Regular size parts) = size
-size_of (Directory slots) = 16 * length slots
+size_of (Directory slots) = min (16 * length slots) 0xFFFFFFFF
 size_of (Special size area) = size
 
 abbrev pub slots_of : Body → Option (List PlainSlot)

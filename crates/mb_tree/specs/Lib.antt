@@ -5,6 +5,7 @@ pub mod Chain
 pub mod Cost
 pub mod Counting
 pub mod Effect
+pub mod Filled
 pub mod Fits
 pub mod History
 pub mod Inodes
@@ -13,6 +14,7 @@ pub mod Machines
 pub mod Maps
 pub mod Opening
 pub mod Places
+pub mod Results
 pub mod Rows
 pub mod Sessions
 pub mod Step

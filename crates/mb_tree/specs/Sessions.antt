@@ -1,5 +1,5 @@
 -- The callers' sessions: descriptors, open files, and what a call does to them.
-use Rattle.std.specs.Prelude.{List, [], ◌∷◌, ℕ, ◌+◌, ◌-◌, Bool, true, false, not, ◌&&◌, ◌||◌, ◌==◌, if◌then◌else◌, Option, Some, None, is_some, option_map, option_and_then, unwrap_or, map, sum_by, slice_get, slice_set}
+use Rattle.std.specs.Prelude.{List, [], ◌∷◌, ℕ, ◌+◌, ◌-◌, ◌<◌, Bool, true, false, not, ◌&&◌, ◌||◌, ◌==◌, if◌then◌else◌, Option, Some, None, is_some, option_map, option_and_then, unwrap_or, map, sum_by, slice_get, slice_set}
 use Rattle.std.specs.FinMap as fin
 use Rattle.mb_kinds.specs.declared.calls.How.{How}
 use Rattle.mb_kinds.specs.declared.calls.How.TheVariants.{Reading, Writing, Both}
@@ -70,6 +70,12 @@ closed seat fd (Some place) = record seat {
 abbrev pub moved : Seat → ℕ → Option ℕ → Seat
 moved seat offset None = seat
 moved seat offset (Some place) = record seat { files = changed_at seat.files place (λ file. record file { offset = offset }) }
+
+-- the descriptor that a change puts in use is below 20
+abbrev pub IsReady : SessionChange → Type 0
+IsReady (Fresh fd ino how) = fd < 20
+IsReady (Twin fd to) = to < 20
+IsReady _ = Unit {0}
 
 abbrev pub changed : Seat → SessionChange → Seat
 changed seat Same = seat

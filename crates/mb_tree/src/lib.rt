@@ -3,6 +3,7 @@
 //! restartable file system.
 #![tactic(auto)]
 
+mod inodes;
 mod lookups;
 mod machines;
 mod maps;
@@ -10,6 +11,7 @@ mod nodes;
 mod operations;
 mod plans;
 mod seats;
+mod stops;
 mod tables;
 mod trees;
 
@@ -20,5 +22,6 @@ pub use nodes::{Body, Node, Nodes, Parts, PlainSlot, PlainSlots};
 pub use operations::{FsOp, Inos};
 pub use plans::Plan;
 pub use seats::{PlainFile, Seat, Seats, SessionChange};
+pub use stops::NoMemory;
 pub use tables::{Fds, Files};
 pub use trees::Tree;

@@ -1,5 +1,7 @@
-ghost use Rattle.std.specs.Prelude.{◌≡◌, ◌<◌, Some, None, Ok, Err, MatchOption, OnOk, OnErr, IsSome, IsOk};
+ghost use Rattle.std.specs.Prelude.{◌≡◌, ◌<◌, Some, None, Ok, Err, MatchOption, OnOk, OnErr, IfOk, IsSome, IsOk};
 ghost use Rattle.std.specs.FinMap as fin;
+ghost use Rattle.std.specs.BTreeMap as tree;
+ghost use Rattle.std.specs.Ordering.{nat_cmp};
 
 use std::alloc::{AllocError, Global};
 use std::collections::BTreeMap;
@@ -81,5 +83,50 @@ impl<V: Drop> Map<V> {
         ensures removed { self.new ≡ fin.remove self.old key }
     {
         self.inner.remove(&key)
+    }
+}
+
+/// Values that can be copied, where that may want memory.
+pub trait Copied {
+    /// The same value once more.
+    fn copied(&self, alloc: Global) -> Result<Self, AllocError>
+        ensures { IfOk result (λ copy. copy ≡ self.now) };
+}
+
+impl<const N: usize> Copied for [u8; N] {
+    fn copied(&self, _alloc: Global) -> Result<[u8; N], AllocError> {
+        Ok(*self)
+    }
+}
+
+impl<V> Map<V> {
+    /// The keys, in rising order.
+    pub fn keys(&self, alloc: Global) -> Result<Vec<u32>, AllocError>
+        ensures { IfOk result (λ keys. keys.items ≡ fin.keys self.now) }
+    {
+        let keys = sorted_keys(alloc, &self.inner)?;
+        Ok(keys)
+    }
+}
+
+fn sorted_keys<V>(alloc: Global, map: &BTreeMap<u32, V>) -> Result<Vec<u32>, AllocError>
+    ensures keys { IfOk result (λ keys. keys.items ≡ tree.keys map.now) }
+    ensures ordered { IfOk result (λ keys. tree.IsOrdered nat_cmp map.now) }
+{
+    let _len = map.len();
+    map.keys().copied().collect(alloc)
+}
+
+impl<V: Copied + Drop> Copied for Map<V> {
+    fn copied(&self, alloc: Global) -> Result<Map<V>, AllocError> {
+        let keys = self.keys(alloc)?;
+        let mut copy = Map::new(alloc);
+        for key in &keys {
+            let Some(value) = self.get(*key) else {
+                continue;
+            };
+            copy.insert(*key, value.copied(alloc)?)?;
+        }
+        Ok(copy)
     }
 }

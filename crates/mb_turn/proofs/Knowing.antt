@@ -3,13 +3,13 @@ use Rattle.std.proofs.Common.{◌≡◌, ◌≢◌, ℕ, List, [], ◌++◌, sym
 use Rattle.std.specs.Prelude.{Option}
 use Rattle.std.proofs.lemmas.List.Elements.{filter-append}
 use Rattle.std.proofs.lemmas.List.{append-nil}
-use Rattle.mb_kinds.specs.Own.{own}
+use Rattle.mb_kinds.specs.Own.{own, OwnAppends}
 use Rattle.mb_kinds.specs.declared.Entry.{Entry}
 use Rattle.mb_kinds.specs.declared.Stand.{Stand}
 use Rattle.mb_turn.specs.Passes.{Each, Follows, Adds, Continues}
 use Rattle.mb_turn.proofs.Lists.{prefix_trans, append_nil_left, append_cancel, own_all, own_none}
 
-pub own_append : (front back : List Entry) (caller : ℕ) → own (front ++ back) caller ≡ own front caller ++ own back caller
+pub own_append : OwnAppends
 own_append front back caller = filter-append _ front back
 
 -- where a list goes on and a caller's own entries stay the same, what came has none of that caller's

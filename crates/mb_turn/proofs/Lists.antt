@@ -11,14 +11,6 @@ module _ {A : Type 0} (P : A → Type 0) where
   each_append [] ys p q = q
   each_append (x ∷ xs) ys p q = (p.0, each_append xs ys p.1 q)
 
-  pub each_front : (xs ys : List A) → Each P (xs ++ ys) → Each P xs
-  each_front [] ys p = tt
-  each_front (x ∷ xs) ys p = (p.0, each_front xs ys p.1)
-
-  pub each_back : (xs ys : List A) → Each P (xs ++ ys) → Each P ys
-  each_back [] ys p = p
-  each_back (x ∷ xs) ys p = each_back xs ys p.1
-
 module _ {A : Type 0} where
   pub each_map : (P Q : A → Type 0) → ((x : A) → P x → Q x) → (xs : List A) → Each P xs → Each Q xs
   each_map P Q f [] p = tt

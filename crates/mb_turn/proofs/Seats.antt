@@ -21,43 +21,14 @@ use Rattle.mb_turn.proofs.Knowing.{own_grows}
 use Rattle.mb_turn.proofs.Parts.{closes}
 
 module _ {T : Type 0} where
-  pub rests_free : (me : Me (Option T) (View T)) (caller : ℕ) (value : T) → me ≡ resting caller value me.0.holds → me.0.holds ≡ false → me ≡ (free caller value, [])
-  rests_free me caller value rests idle_is = rests ∙ ap (λ b. resting caller value b) idle_is
-
   pub rests_held : (me : Me (Option T) (View T)) (caller : ℕ) (value : T) → me ≡ resting caller value me.0.holds → me.0.holds ≡ true → me ≡ (held caller value, (0, None) ∷ [])
   rests_held me caller value rests held_is = rests ∙ ap (λ b. resting caller value b) held_is
-
-  -- and back again
-  pub rests : (me : Me (Option T) (View T)) (caller : ℕ) (value : T) (b : Bool) → me ≡ resting caller value b → me ≡ resting caller value me.0.holds
-  rests me caller value true e = e ∙ ap (λ (m : Me (Option T) (View T)). resting caller value m.0.holds) (sym e)
-  rests me caller value false e = e ∙ ap (λ (m : Me (Option T) (View T)). resting caller value m.0.holds) (sym e)
 
   -- a value is put into the slot that a seat has
   pub filled : (me after : Me (Option T) (View T)) (caller : ℕ) (saw value : T) (x : Option T) → me ≡ (held caller saw, (0, x) ∷ []) → after ≡ (me.0, (0, Some value) ∷ rest me.1) → after ≡ (held caller saw, (0, Some value) ∷ [])
   filled me after caller saw value x e e' = e' ∙ ap (λ (m : Me (Option T) (View T)). (m.0, (0, Some value) ∷ rest m.1)) e
 
-  pub published_is : (before after : Me (Option T) (View T)) (caller : ℕ) (saw value : T) → before ≡ (held caller saw, (0, Some value) ∷ []) → published before after → after ≡ (held caller value, (0, Some value) ∷ [])
-  published_is before after caller saw value e told = let P : Me (Option T) (View T) → Type 0 = λ m. published m after in (subst P e told).0.0
-
-  -- the seat of which the card's sight is the first
-  pub cut_seat : (me : Me (Option T) (View T)) (xs more : List (ℕ × T)) (card : ℕ × T) → me ≡ (idle (map sight_of_card xs), []) → xs ≡ card ∷ more → me ≡ (idle (sight_of_card card ∷ tail_sights me.0.sights), [])
-  cut_seat me xs more card e split =
-      let e' : me ≡ (idle (sight_of_card card ∷ map sight_of_card more), []) = e ∙ ap (λ (l : List (ℕ × T)). (idle (map sight_of_card l), [])) split in
-      e' ∙ ap (λ (m : Me (Option T) (View T)). (idle (sight_of_card card ∷ tail_sights m.0.sights), [])) (sym e')
-
-  pub cut_rest : (me after : Me (Option T) (View T)) (xs more : List (ℕ × T)) (card : ℕ × T) → me ≡ (idle (map sight_of_card xs), []) → xs ≡ card ∷ more
-      → after ≡ (idle (tail_sights me.0.sights), []) → after ≡ (idle (map sight_of_card more), [])
-  cut_rest me after xs more card e split is =
-      is ∙ ap (λ (m : Me (Option T) (View T)). (idle (tail_sights m.0.sights), [])) (e ∙ ap (λ (l : List (ℕ × T)). (idle (map sight_of_card l), [])) split)
-
 module _ {A B : Type 0} (f : A → B) where
-  -- one more of a list is done
-  pub done_more : (done : List B) (todo more all : List A) (x : A) → done ++ map f todo ≡ map f all → todo ≡ x ∷ more → (done ++ f x ∷ []) ++ map f more ≡ map f all
-  done_more done todo more all x so_far split = append_assoc done (f x ∷ []) (map f more) ∙ sym (ap (λ (l : List A). done ++ map f l) split) ∙ so_far
-
-  pub done_all : (done : List B) (todo all : List A) → done ++ map f todo ≡ map f all → todo ≡ [] → done ≡ map f all
-  done_all done todo all so_far none_left = sym (append-nil done) ∙ sym (ap (λ (l : List A). done ++ map f l) none_left) ∙ so_far
-
   pub each_mapped : (P : B → Type 0) (xs : List A) → Each P (map f xs) → Each (λ (x : A). P (f x)) xs
   each_mapped P [] p = tt
   each_mapped P (x ∷ xs) p = (p.0, each_mapped P xs p.1)

@@ -3,7 +3,7 @@ ghost use Rattle.std.specs.List.{range_with_len};
 ghost use mathlib.Core.List.{IsPrefix};
 ghost use Rattle.mb_kinds.specs.Own.{own};
 ghost use Rattle.mb_kinds.specs.declared.Entry.{Entry};
-ghost use Rattle.mb_turn.specs.Passes.{Each, Known, known, Continues, OthersStand, Follows, Adds, seen, mine, origin_of, stand_of, found, dealt};
+ghost use Rattle.mb_turn.specs.Passes.{Each, Known, known, Continues, Follows, Adds, seen, mine, origin_of, stand_of, found, dealt};
 ghost use Rattle.mb_turn.specs.Rule.{free, held, sight, idle, sights_from, sight_of_card, sight_of_pass};
 ghost use Rattle.mb_turn.specs.Steps.{tail_of, tail_sights, both_of};
 
@@ -83,7 +83,7 @@ impl<T: Booked> Turn<T> {
         requires held { pass.old.holds ≡ true }
         requires origin { T.origin value ≡ origin_of T.origin pass.old }
         requires list { Continues pass.old.caller (seen T.list pass.old) (T.list value) }
-        requires others { OthersStand T.stand pass.old.caller pass.old.value value }
+        requires others { (other : ℕ) → other ≢ pass.old.caller → T.stand value other ≡ found T.stand pass.old other }
         requires stand { IsSome (T.stand value pass.old.caller) }
         ensures pass { pass.new ≡ known pass.old.table pass.old.caller value false }
         ensures mine { (new : List Entry) → T.list value ≡ seen T.list pass.old ++ new → mine T.list pass.new ≡ mine T.list pass.old ++ new }

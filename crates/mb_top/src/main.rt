@@ -1,0 +1,54 @@
+//! The program: it takes its words, a job from standard input and the image from a file, and ends with a
+//! status. `adapters` is the trusted edge: it counts each error of the system, and tells nothing of what
+//! files and pipes hold. `words` says which words are a command, by `specs/Commands.antt`.
+#![tactic(auto)]
+
+mod adapters;
+mod finish;
+mod membrane;
+#[cfg(test)]
+mod tests;
+mod words;
+
+use adapters::{FileDisk, InSource, OutSink};
+use finish::Finish;
+use mb_edge::write_whole;
+use membrane::membrane;
+use std::alloc::AllocError;
+use std::env::Env;
+use std::io::ErrorKind;
+use std::process::ExitCode;
+use std::{env, io};
+use words::{Word8, Words, image_name};
+
+// Words that are no text are no command.
+fn words_of<R: Env + AllocGlobal>(rt: &R) -> Result<Words, AllocError> {
+    let mut words = Vec::new(rt.alloc());
+    let args = match env::args(rt) {
+        Ok(args) => args,
+        Err(error) if error.kind() == ErrorKind::OutOfMemory => return Err(AllocError),
+        Err(_) => return Ok(Words::new(rt.alloc())),
+    };
+    for word in args.skip(1) {
+        words.push(Word8::from_vec(word.into_bytes()))?;
+    }
+    Ok(Words::from_vec(words))
+}
+
+fn main(rt: HostRuntime) -> ExitCode {
+    let mut out = OutSink::new(io::writer(&rt));
+    let words = words_of(&rt);
+    let path = match &words {
+        Ok(words) => image_name(words).to_vec(rt.alloc()),
+        Err(error) => Err(*error),
+    };
+    let (Ok(words), Ok(path)) = (words, path) else {
+        let _ = write_whole(&mut out, b"no memory\n");
+        return ExitCode::from(6);
+    };
+    let mut job = InSource::new(rt.reader());
+    let disk = FileDisk::new(&rt, Word8::from_vec(path), false);
+    let Finish { status, held } = membrane(rt.alloc(), &words, &mut job, disk, &mut out);
+    let _disk = held.into_disk();
+    ExitCode::from(status)
+}

@@ -1,0 +1,33 @@
+-- Searches and sums over numbers in a row, one number further.
+use Rattle.std.proofs.Common.{◌≡◌, ℕ, zero, suc, ◌+◌, ◌-◌, ◌<◌, ◌≤◌, Bool, true, false, if◌then◌else◌, cond, Option, Some, None, is_some, refl, sym, ap, ◌∙◌, arith, add-one}
+use Rattle.mb_tree.specs.Counting.{sum_below, first_from}
+
+module _ (p : ℕ → Bool) where
+  next : (low n : ℕ) → p low ≡ false → first_from p low (suc n) ≡ first_from p (low + 1) n
+  unfolding first_from
+  next low n h = ap (λ b. if b then Some low else first_from p (low + 1) n) h
+
+  first : (low n : ℕ) → p low ≡ true → first_from p low (suc n) ≡ Some low
+  unfolding first_from
+  first low n h = ap (λ b. if b then Some low else first_from p (low + 1) n) h
+
+  none : (low : ℕ) → first_from p low 0 ≡ None
+  unfolding first_from
+  none low = refl
+
+  pub passed : (low high : ℕ) → low < high → p low ≡ false → first_from p low (high - low) ≡ first_from p (low + 1) (high - (low + 1))
+  passed low high h e = let n : high - low ≡ suc (high - (low + 1)) = omega arith in rw n (next low (high - (low + 1)) e)
+
+  pub hit : (low high : ℕ) → low < high → p low ≡ true → first_from p low (high - low) ≡ Some low
+  hit low high h e = let n : high - low ≡ suc (high - (low + 1)) = omega arith in rw n (first low (high - (low + 1)) e)
+
+  pub none_left : (low high : ℕ) → high ≤ low → first_from p low (high - low) ≡ None
+  none_left low high h = let n : high - low ≡ 0 = omega arith in rw n (none low)
+
+pub sum_more : (g : ℕ → ℕ) (n : ℕ) → sum_below g (n + 1) ≡ sum_below g n + g n
+unfolding sum_below
+sum_more g n = rw add-one (omega arith)
+
+pub sum_none : (g : ℕ → ℕ) → sum_below g 0 ≡ 0
+unfolding sum_below
+sum_none g = refl

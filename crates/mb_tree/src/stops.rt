@@ -1,0 +1,37 @@
+ghost use Rattle.std.specs.Prelude.{◌≡◌};
+
+use mb_kinds::Errno;
+use std::alloc::{AllocError, AllocFailed};
+
+/// Want of memory, as an error of its own. It says nothing of the values at hand.
+#[derive(Clone, Copy, Debug, PartialEq, Eq, Drop)]
+pub struct NoMemory;
+
+/// Why a function of the model gives no value: it met want of memory, or the call is refused.
+#[derive(Clone, Copy, Debug, Drop)]
+pub enum Stop {
+    NoMemory,
+    Refused(Errno),
+}
+
+impl From<AllocError> for Stop {
+    ghost use Rattle.std.specs.Prelude.{◌≡◌};
+    ghost use Rattle.mb_tree.specs.declared.stops.Stop.TheVariants.{NoMemory};
+
+    ghost from_gives = { λ _ stop. stop ≡ NoMemory };
+
+    fn from(_error: AllocError) -> Stop {
+        Stop::NoMemory
+    }
+}
+
+impl From<Errno> for Stop {
+    ghost use Rattle.std.specs.Prelude.{◌≡◌};
+    ghost use Rattle.mb_tree.specs.declared.stops.Stop.TheVariants.{Refused};
+
+    ghost from_gives = { λ e stop. stop ≡ Refused e };
+
+    fn from(error: Errno) -> Stop {
+        Stop::Refused(error)
+    }
+}
