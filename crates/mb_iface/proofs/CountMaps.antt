@@ -4,8 +4,8 @@ use Rattle.std.proofs.lemmas.Bool.Decides.{nat_tests}
 use Rattle.std.specs.FinMap as fin
 use Rattle.std.specs.FinMap.{get-empty}
 use Rattle.std.specs.Ordering.{nat_cmp}
-use Rattle.mb_tree.proofs.FiniteMaps.{one_or_not, get_here, get_there, gone_here, gone_there}
-use Rattle.mb_iface.specs.OpenCounts.{with_count, AreCounts}
+use Rattle.mb_tree.proofs.FiniteMaps.{one_or_not, same, get_here, get_there, gone_here, gone_there}
+use Rattle.mb_iface.specs.OpenCounts.{count_of, with_count, AreCounts}
 
 pub none_counted : AreCounts fin.empty
 none_counted ino count has = let e = get-empty {X = ℕ} nat_cmp ino in cc
@@ -43,3 +43,13 @@ chosen false x y e = refl
 
 pub with_some : (opens : fin.FinMap nat_cmp ℕ) (ino count : ℕ) → count ≢ 0 → with_count opens ino count ≡ fin.insert opens ino count
 with_some opens ino count some = chosen (nat_eq count 0) (fin.remove opens ino) (fin.insert opens ino count) (grind (arith, nat_tests))
+
+same_look : (o p : Option ℕ) → ((count : ℕ) → o ≡ Some count → 0 < count) → ((count : ℕ) → p ≡ Some count → 0 < count) → unwrap_or o 0 ≡ unwrap_or p 0 → o ≡ p
+same_look None None o_counts p_counts same = refl
+same_look None (Some count) o_counts p_counts same = absurd (omega (arith, p_counts count refl))
+same_look (Some count) None o_counts p_counts same = absurd (omega (arith, o_counts count refl))
+same_look (Some count) (Some other) o_counts p_counts same = ap Some same
+
+-- two maps without zeros are equal where they count alike
+pub counts_tell : (m n : fin.FinMap nat_cmp ℕ) → AreCounts m → AreCounts n → ((ino : ℕ) → count_of m ino ≡ count_of n ino) → m ≡ n
+counts_tell m n m_counts n_counts alike = same m n (λ ino. same_look (fin.get m ino) (fin.get n ino) (m_counts ino) (n_counts ino) (alike ino))

@@ -14,3 +14,7 @@ with_count opens ino count = cond (nat_eq count 0) (fin.remove opens ino) (fin.i
 -- each count in the map is above 0
 abbrev pub AreCounts : fin.FinMap nat_cmp ℕ → Type 0
 AreCounts opens = (ino count : ℕ) → fin.get opens ino ≡ Some count → 0 < count
+
+-- two maps without zeros are equal where they count alike
+abbrev pub CountsTell : Type 0
+CountsTell = (m n : fin.FinMap nat_cmp ℕ) → AreCounts m → AreCounts n → ((ino : ℕ) → count_of m ino ≡ count_of n ino) → m ≡ n

@@ -1,3 +1,4 @@
+ghost use Rattle.mb_iface.specs.OpenCounts.{CountsTell};
 ghost use Rattle.mb_iface.specs.OverlayLaws.{NoChangeKeeps, WrittenReads, OthersKept, PartUnderChanges, FoundWithinView};
 
 /// What blocks read as under changes.
@@ -11,4 +12,9 @@ pub fn changes_cover()
 pub fn views_under_changes()
     ensures part { PartUnderChanges }
     ensures within { FoundWithinView }
+{}
+
+/// The counts of open files tell the whole map.
+pub fn counts_tell()
+    ensures { CountsTell }
 {}

@@ -20,7 +20,7 @@ mod tests;
 mod views;
 
 pub use change_lists::Changes;
-pub use laws::{changes_cover, views_under_changes};
+pub use laws::{changes_cover, counts_tell, views_under_changes};
 pub use open_counts::Opens;
 pub use overlays::{Over, seen};
 pub use queries::Query;

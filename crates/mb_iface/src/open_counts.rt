@@ -1,6 +1,6 @@
 ghost use Rattle.std.specs.Prelude.{◌≡◌, ◌<◌, ℕ, OnOk, OnErr, IfOk, Some};
 ghost use Rattle.std.specs.FinMap as fin;
-ghost use Rattle.mb_iface.specs.OpenCounts.{count_of, with_count};
+ghost use Rattle.mb_iface.specs.OpenCounts.{count_of, with_count, AreCounts};
 
 use std::alloc::{AllocError, Global};
 use std::collections::BTreeMap;
@@ -41,7 +41,8 @@ impl Opens {
 
     /// The number of open files on an inode.
     pub fn count(&self, ino: u16) -> u32
-        ensures { result ≡ count_of self.now ino }
+        ensures count { result ≡ count_of self.now ino }
+        ensures list { AreCounts self.now }
     {
         match self.counts.get(&ino) {
             Some(count) => *count,
