@@ -1,4 +1,5 @@
 ghost use Rattle.mb_layout.specs.Addresses.{AddressesInArea};
+ghost use Rattle.mb_layout.specs.InodePlaces.{PlacesBelow, InodesInList, InodesApart};
 ghost use Rattle.mb_layout.specs.LayoutLaws.{SuperReadsBack, ChainReadsBack, DinodeReadsBack, SlotReadsBack, IndexReadsBack, SuperWritesBack, ChainWritesBack, DinodeWritesBack, SlotWritesBack, IndexWritesBack, DinodeKeepsOthers, SlotKeepsOthers, IndexKeepsOthers};
 
 /// What was written reads back.
@@ -29,4 +30,11 @@ pub fn keeps_others()
 /// An inode's addresses are read from its area alone.
 pub fn addresses_in_area()
     ensures { AddressesInArea }
+{}
+
+/// Where the inodes stand: each in the i-list at one of eight places, no two at the same.
+pub fn inode_places()
+    ensures below { PlacesBelow }
+    ensures within { InodesInList }
+    ensures apart { InodesApart }
 {}

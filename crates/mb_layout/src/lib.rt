@@ -23,6 +23,6 @@ mod tests;
 pub use chains::Chain;
 pub use dinodes::Dinode;
 pub use indexes::{index_at, put_index};
-pub use laws::{addresses_in_area, keeps_others, reads_back, writes_back};
+pub use laws::{addresses_in_area, inode_places, keeps_others, reads_back, writes_back};
 pub use slots::Slot;
 pub use super_blocks::Super;

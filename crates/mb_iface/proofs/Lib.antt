@@ -1,0 +1,4 @@
+pub mod ChangeEntries
+pub mod ChangedBlocks
+pub mod CountMaps
+pub mod WithinViews

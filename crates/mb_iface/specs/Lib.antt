@@ -1,0 +1,7 @@
+pub mod Acting
+pub mod Asking
+pub mod Changed
+pub mod Near
+pub mod Needs
+pub mod OpenCounts
+pub mod OverlayLaws

@@ -1,0 +1,27 @@
+-- Which blocks an answer may ask for, whatever the view.
+use Rattle.std.specs.Prelude.{List, ℕ, ◌≤◌, ◌≡◌, Option, None}
+use Rattle.mb_iface.specs.declared.replies.Need.{Need}
+use Rattle.mb_iface.specs.declared.replies.Asked.{Asked}
+use Rattle.mb_iface.specs.declared.replies.Asked.TheVariants as asked
+use Rattle.mb_iface.specs.declared.replies.Acted.{Acted}
+use Rattle.mb_iface.specs.declared.replies.Acted.TheVariants as acted
+
+-- one to 32 blocks of a volume, from one that the view lacks on
+pub record IsNeed (shown : ℕ → Option (List ℕ)) (need : Need) : Type 0 where
+  pub lacking : shown need.first ≡ None
+  pub above : 1 ≤ need.first
+  pub below : need.first ≤ 262143
+  pub some : 1 ≤ need.count
+  pub few : need.count ≤ 32
+
+abbrev pub AsksFor : (ℕ → Option (List ℕ)) → Asked → Type 0
+AsksFor shown (asked.Found answer) = Unit {0}
+AsksFor shown (asked.Refused e) = Unit {0}
+AsksFor shown (asked.Need need) = IsNeed shown need
+AsksFor shown asked.NoMemory = Unit {0}
+
+abbrev pub ActsFor : (ℕ → Option (List ℕ)) → Acted → Type 0
+ActsFor shown (acted.Done changes pick) = Unit {0}
+ActsFor shown (acted.Refused e) = Unit {0}
+ActsFor shown (acted.Need need) = IsNeed shown need
+ActsFor shown acted.NoMemory = Unit {0}

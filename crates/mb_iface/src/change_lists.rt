@@ -1,0 +1,115 @@
+ghost use Rattle.std.specs.Prelude.{◌≡◌, ◌<◌, ℕ, [], List, Some, OnOk, OnErr, option_copied, slice_get, length, cond, nat_eq};
+ghost use Rattle.std.specs.Option.{option_or};
+ghost use Rattle.mb_tree.specs.Views.{over};
+ghost use Rattle.indexmap.specs.IndexMap.{insert_entry, insert_all};
+ghost use Rattle.mb_iface.specs.Changed.{AreChanges, changed, put_block};
+
+use indexmap::IndexMap;
+use std::alloc::{AllocError, Global};
+use std::marker::Model;
+
+/// The blocks that an operation changes, each below 262,144 and each once, with their new bytes, in
+/// the order in which they were first written. A contract sees the list.
+#[derive(Drop)]
+pub struct Changes {
+    map: IndexMap<u32, [u8; 512]>,
+}
+
+impl Model for Changes {
+    ghost use Rattle.std.specs.Prelude.{ℕ, List};
+    ghost use Rattle.mb_iface.specs.Changed.{AreChanges};
+
+    ghost Value = { List (ℕ × List ℕ) };
+
+    ghost view = { λ c. c.map.entries };
+
+    ghost invariant = { λ c. AreChanges c.map.entries };
+}
+
+impl Changes {
+    /// No change; needs no memory.
+    pub fn new(alloc: Global) -> Changes
+        ensures { result ≡ [] }
+    {
+        Changes {
+            map: IndexMap::new(alloc),
+        }
+    }
+
+    /// How many blocks are changed.
+    pub fn len(&self) -> usize
+        ensures count { result ≡ length self.now }
+        ensures list { AreChanges self.now }
+    {
+        self.map.len()
+    }
+
+    /// The block at a place of the list, counted from 0, with its new bytes.
+    pub fn at(&self, place: usize) -> (u32, &[u8; 512])
+        requires { place < length self.now }
+        ensures change { slice_get self.now place ≡ Some (result.0, result.1.now) }
+        ensures below { result.0 < 262144 }
+    {
+        let Some((block, bytes)) = self.map.get_index(place) else {
+            unreachable!()
+        };
+        (*block, bytes)
+    }
+
+    /// The new bytes of a block; `None` exactly where it is not changed.
+    pub fn get(&self, block: u32) -> Option<&[u8; 512]>
+        ensures { option_copied result ≡ changed self.now block }
+    {
+        self.map.get(&block)
+    }
+
+    /// Changes a block. The only error is want of memory; the changes are then as before.
+    pub fn put(&mut self, block: u32, bytes: &[u8; 512]) -> Result<(), AllocError>
+        requires { block < 262144 }
+        ensures list { OnOk result (self.new ≡ insert_entry nat_eq self.old block bytes.now) }
+        ensures each { OnOk result ((other : ℕ) → changed self.new other ≡ cond (nat_eq block other) (Some bytes.now) (changed self.old other)) }
+        ensures ok { OnOk result ((blocks : ℕ → List ℕ) → over blocks (changed self.new) ≡ put_block (over blocks (changed self.old)) block bytes.now) }
+        ensures err { OnErr result (self.new ≡ self.old) }
+    {
+        self.map.insert(block, *bytes)?;
+        Ok(())
+    }
+
+    /// Changes two blocks, one after the other, or none. The only error is want of memory; the
+    /// changes are then as before.
+    pub fn put_both(
+        &mut self,
+        block: u32,
+        bytes: &[u8; 512],
+        then: u32,
+        after: &[u8; 512],
+    ) -> Result<(), AllocError>
+        requires first { block < 262144 }
+        requires second { then < 262144 }
+        ensures list { OnOk result (self.new ≡ insert_entry nat_eq (insert_entry nat_eq self.old block bytes.now) then after.now) }
+        ensures each { OnOk result ((other : ℕ) → changed self.new other ≡ cond (nat_eq then other) (Some after.now) (cond (nat_eq block other) (Some bytes.now) (changed self.old other))) }
+        ensures ok { OnOk result ((blocks : ℕ → List ℕ) → over blocks (changed self.new) ≡ put_block (put_block (over blocks (changed self.old)) block bytes.now) then after.now) }
+        ensures err { OnErr result (self.new ≡ self.old) }
+    {
+        self.map.reserve(2)?;
+        let Ok(_) = self.map.insert(block, *bytes) else {
+            unreachable!()
+        };
+        let Ok(_) = self.map.insert(then, *after) else {
+            unreachable!()
+        };
+        Ok(())
+    }
+
+    /// Makes the changes of a later list, too, or none. The only error is want of memory; the changes
+    /// are then as before.
+    pub fn absorb(&mut self, mut later: Changes) -> Result<(), AllocError>
+        ensures list { OnOk result (self.new ≡ insert_all nat_eq self.old later) }
+        ensures each { OnOk result ((other : ℕ) → changed self.new other ≡ option_or (changed later other) (changed self.old other)) }
+        ensures ok { OnOk result ((blocks : ℕ → List ℕ) → over blocks (changed self.new) ≡ over (over blocks (changed self.old)) (changed later)) }
+        ensures err { OnErr result (self.new ≡ self.old) }
+    {
+        self.map.append(&mut later.map)?;
+        Ok(())
+    }
+}

@@ -1,0 +1,29 @@
+//! How a file system is asked and made to act over blocks that somebody else holds: a view of
+//! blocks, the changes that an operation makes to them, the counts of open files, queries with their
+//! answers, and the trait of a file system's code. Nothing here waits, and only want of memory is
+//! refused.
+//!
+//! `specs/Changed.antt` says how changes lie over the blocks of an image, `specs/Near.antt` for which
+//! blocks a query or an operation may ask, `specs/Asking.antt` and `specs/Acting.antt` what its
+//! answers mean on a volume of the reference tree.
+#![tactic(auto)]
+
+mod change_lists;
+mod laws;
+mod open_counts;
+mod overlays;
+mod queries;
+mod replies;
+mod systems;
+#[cfg(test)]
+mod tests;
+mod views;
+
+pub use change_lists::Changes;
+pub use laws::{changes_cover, counts_tell, views_under_changes};
+pub use open_counts::Opens;
+pub use overlays::{Over, seen};
+pub use queries::Query;
+pub use replies::{Acted, Answer, Asked, Need};
+pub use systems::FileSys;
+pub use views::View;

@@ -1,0 +1,56 @@
+use crate::change_lists::Changes;
+use mb_kinds::{Errno, Name, Octets, Stat};
+
+/// What a query finds.
+#[derive(Drop)]
+pub enum Answer {
+    /// To `Find` and `Info`: what stat tells of the inode.
+    Node(Stat),
+    /// To `Place`: the directory and the name of the last component, with the number that the name
+    /// leads to, where it is there.
+    Place {
+        dir: u16,
+        name: Name,
+        ino: Option<u16>,
+    },
+    /// To `Place` of a path without components: the inode where the path starts.
+    Itself(u16),
+    /// To `Bytes`.
+    Bytes(Octets),
+    /// To `Used`.
+    Used(u32),
+}
+
+/// Blocks that a view lacks: `count` of them from `first` on. `first` is 1 to 262,143, and `count` 1
+/// to 32.
+#[derive(Clone, Copy, Debug, PartialEq, Drop)]
+pub struct Need {
+    pub first: u32,
+    pub count: u32,
+}
+
+/// The answer to a query.
+#[derive(Drop)]
+pub enum Asked {
+    Found(Answer),
+    /// The reference model refuses the query with this error.
+    Refused(Errno),
+    /// The view lacks these blocks; ask again with them.
+    Need(Need),
+    /// Memory was wanted and not given.
+    NoMemory,
+}
+
+/// The answer to an operation. Nothing was changed by an answer other than `Done`, and `Done` says
+/// what is to be changed.
+#[derive(Drop)]
+pub enum Acted {
+    /// The blocks that the operation changes, and the number with which it made an inode.
+    Done { changes: Changes, pick: Option<u16> },
+    /// The reference model refuses the operation with this error.
+    Refused(Errno),
+    /// The view lacks these blocks; act again with them.
+    Need(Need),
+    /// Memory was wanted and not given.
+    NoMemory,
+}

@@ -1,0 +1,41 @@
+use crate::open_counts::Opens;
+use crate::queries::Query;
+use crate::replies::{Acted, Asked};
+use crate::views::View;
+use mb_tree::FsOp;
+use std::alloc::Global;
+
+/// A file system's code, which holds nothing: it reads the blocks that a view has, and answers. On
+/// each view it returns, with a `Need` only for a block that the view lacks.
+///
+/// Contracts say what an answer means where the view is a part of an image that is a volume of a
+/// tree: then a query is answered as the reference tree answers it, an operation's changes make a
+/// volume of the tree after its effect, and only blocks near the query or operation are asked for.
+pub trait FileSys: Copy {
+    ghost use Rattle.std.specs.Prelude.{◌≡◌};
+    ghost use Rattle.mb_kinds.specs.Image.{Image};
+    ghost use Rattle.mb_tree.specs.declared.trees.Tree.{Tree};
+    ghost use Rattle.mb_tree.specs.Views.{IsPart};
+    ghost use Rattle.mb_tree.specs.Volume.{IsVolume};
+    ghost use Rattle.mb_iface.specs.Needs.{AsksFor, ActsFor};
+    ghost use Rattle.mb_iface.specs.Asking.{Finds};
+    ghost use Rattle.mb_iface.specs.Acting.{Acts};
+
+    /// Answers a query.
+    fn ask<V: View>(&self, alloc: Global, view: &V, query: &Query) -> Asked
+        ensures need { AsksFor (V.shown view.now) result }
+        ensures answer { (image : Image) (tree : Tree) → IsPart (V.shown view.now) image.at → IsVolume image tree → Finds image tree query.now result };
+
+    /// Says what an operation changes. `opens` are the counts of open files before it. Where the
+    /// operation makes an inode it gets the number `pick`; where none is demanded, a free one.
+    fn act<V: View>(
+        &self,
+        alloc: Global,
+        view: &V,
+        opens: &Opens,
+        op: &FsOp,
+        pick: Option<u16>,
+    ) -> Acted
+        ensures need { ActsFor (V.shown view.now) result }
+        ensures answer { (image : Image) (tree : Tree) → IsPart (V.shown view.now) image.at → IsVolume image tree → Acts (V.shown view.now) image tree opens.now op.now pick result };
+}
