@@ -2,7 +2,7 @@
 use Rattle.std.proofs.Common.{ℕ, ◌≡◌, List, [], ◌∷◌, refl}
 use Rattle.mb_edge.specs.declared.strokes.Stroke.{Stroke}
 use Rattle.mb_edge.specs.declared.strokes.Stroke.TheVariants.{Wipe, Page}
-use Rattle.mb_edge.specs.Damage.{OpenCounts, Volatile, damaged, wiped}
+use Rattle.mb_edge.specs.Damage.{OpenCounts, damaged, wiped}
 
 strokes : List ℕ → List Stroke
 strokes bytes = Wipe 5 ∷ Page 1 bytes ∷ Page 2 bytes ∷ []

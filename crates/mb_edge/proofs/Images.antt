@@ -1,8 +1,8 @@
 -- The image of a list of bytes before and after the write of one block.
-use Rattle.std.proofs.Common.{ℕ, ◌+◌, ◌-◌, ◌*◌, ◌/◌, ◌<◌, ◌≤◌, ◌≡◌, ◌≢◌, List, ◌++◌, length, take, drop, replicate, ap, ◌∙◌, sym, arith, cond, max, nat_lt, nat_eq, ◌⊎◌, inl, inr, subst, suc}
+use Rattle.std.proofs.Common.{ℕ, ◌+◌, ◌-◌, ◌*◌, ◌/◌, ◌<◌, ◌≤◌, ◌≡◌, ◌≢◌, List, ◌++◌, length, take, drop, replicate, ap, ◌∙◌, arith, cond, max, nat_lt, nat_eq, ◌⊎◌, inl, inr}
 use Rattle.std.proofs.lemmas.List.{length-append, length-take-le, length-drop, length-replicate}
 use Rattle.std.proofs.lemmas.Bool.{lt-ltb, le-ltb}
-use Rattle.std.proofs.lemmas.Bool.Decides.{nat_tests, leb_tells}
+use Rattle.std.proofs.lemmas.Bool.Decides.{nat_tests}
 use Rattle.mb_kinds.specs.Image.{Image, put, zeros}
 use Rattle.mb_edge.specs.Blocks.{block_at, image_of, replaced, extended, written}
 use Rattle.mb_edge.proofs.BlockParts.{block_at-front, block_at-back, block_at-take, block_at-drop, block_at-whole, block_at-zeros}
@@ -105,9 +105,10 @@ written-past bytes block from past = ap (λ b. cond b (replaced bytes block from
 
 pub image_of-written : (bytes : List ℕ) (block : ℕ) (from : List ℕ) → length from ≡ 512 → image_of (written bytes block from) ≡ put (image_of bytes) block from
 image_of-written bytes block from size =
-    elim (either_way block (length bytes / 512))
-    [ inl inside ↦ ap image_of (written-inside bytes block from inside) ∙ image_of-replaced bytes block from size inside
-    | inr past ↦ ap image_of (written-past bytes block from past) ∙ image_of-extended bytes block from size past ]
+    elim (either_way block (length bytes / 512)) [
+      | inl inside ↦ ap image_of (written-inside bytes block from inside) ∙ image_of-replaced bytes block from size inside
+      | inr past ↦ ap image_of (written-past bytes block from past) ∙ image_of-extended bytes block from size past
+    ]
 
 pub at-inside : (bytes : List ℕ) (block : ℕ) → block < length bytes / 512 → (image_of bytes).at block ≡ block_at bytes block
 at-inside bytes block inside = ap (λ b. cond b (block_at bytes block) zeros) (lt-ltb block (length bytes / 512) inside)
