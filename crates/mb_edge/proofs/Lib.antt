@@ -1,4 +1,5 @@
 pub mod BlockParts
+pub mod DamageWorked
 pub mod Fronts
 pub mod Images
 pub mod Writes

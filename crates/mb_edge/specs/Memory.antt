@@ -16,7 +16,7 @@ pub record Output : Type 0 where
   pub faults : ℕ
 
 -- the bytes held, and how many blocks there is room for
-pub record Held : Type 0 where
+pub record Stored : Type 0 where
   pub bytes : List ℕ
   pub room : ℕ
 

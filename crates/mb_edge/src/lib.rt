@@ -3,13 +3,19 @@
 //! falls, and answers an error only where that count rose in the same call, so a caller's claim about an
 //! error is a claim about the count.
 //!
+//! A fault injector (`Hook`) is asked at each fault point and may strike the call there, with damage to the
+//! memory of the file system.
+//!
 //! `specs/Causes.antt` says when a count rose, `specs/Transfers.antt` what a read and a write move, and
 //! `specs/Blocks.antt` what a block read gives and a block written changes in an image. An object may tell
-//! nothing of its content, and then nothing is said of it.
+//! nothing of its content, and then nothing is said of it. `specs/Hooks.antt` says what a hook answers, and
+//! `specs/Damage.antt` what the strokes of a fault leave.
 #![tactic(auto)]
 
+mod crossings;
 mod disks;
 mod faults;
+mod hooks;
 mod lists;
 mod memory_disks;
 mod memory_sinks;
@@ -18,12 +24,15 @@ mod schedules;
 mod sinks;
 mod sources;
 mod stores;
+mod strokes;
 #[cfg(test)]
 mod tests;
 mod transfers;
 
+pub use crossings::{Crossing, Crossings};
 pub use disks::Disk;
 pub use faults::{Failed, NoMemory};
+pub use hooks::{Calm, Hook, Word};
 pub use lists::{Bytes, Fails};
 pub use memory_disks::{MemDisk, SureDisk};
 pub use memory_sinks::{MemSink, SureSink};
@@ -31,4 +40,5 @@ pub use memory_sources::{MemSource, SureSource};
 pub use schedules::Schedule;
 pub use sinks::Sink;
 pub use sources::Source;
+pub use strokes::{Damage, Stroke};
 pub use transfers::{ReadError, read_whole, write_whole};

@@ -1,4 +1,4 @@
-ghost use Rattle.std.specs.Prelude.{◌≡◌, ◌*◌, ◌<◌, ◌≤◌, ◌||◌, Some, IfOk, IsOk, OnOk, length, nat_le};
+ghost use Rattle.std.specs.Prelude.{◌≡◌, ◌/◌, ◌<◌, ◌≤◌, ◌||◌, Some, IfOk, IsOk, OnOk, length, nat_le};
 ghost use Rattle.std.specs.Result.{is_err};
 ghost use Rattle.mb_edge.specs.Blocks.{CountsBlocks, GivesBlock, IsBlock, WritesBlock, image_of, image_of-past, image_of-sized};
 ghost use Rattle.mb_edge.specs.Causes.{HasCause};
@@ -33,9 +33,10 @@ impl Model for SureDisk {
 }
 
 impl SureDisk {
-    /// A disk of the whole blocks of `image`. Bytes after the last whole block belong to no block.
+    /// A disk of the whole blocks of `image`, at most 262,144 of them. Bytes after the last whole block belong
+    /// to no block.
     pub fn new(alloc: Global, image: Bytes) -> Result<SureDisk, NoMemory>
-        requires { length image ≤ 512 * 262144 }
+        requires { length image / 512 ≤ 262144 }
         ensures { IfOk result (λ disk. disk ≡ image) }
     {
         Ok(SureDisk {
@@ -113,9 +114,9 @@ impl Model for MemDisk {
 }
 
 impl MemDisk {
-    /// A disk of the whole blocks of `image` with room for so many blocks. It fails the calls of each list,
-    /// numbered from 1 over that kind of call. Bytes after the last whole block belong to no block, and stay
-    /// as they are until a write extends the disk.
+    /// A disk of the whole blocks of `image` with room for so many blocks, which holds them. It fails the
+    /// calls of each list, numbered from 1 over that kind of call. Bytes after the last whole block belong to
+    /// no block, and stay as they are until a write extends the disk.
     pub fn new(
         alloc: Global,
         image: Bytes,
@@ -124,7 +125,7 @@ impl MemDisk {
         reads: Fails,
         writes: Fails,
     ) -> Result<MemDisk, NoMemory>
-        requires { length image ≤ 512 * room }
+        requires { length image / 512 ≤ room }
         ensures { IfOk result (λ disk. disk ≡ record { bytes = image; room = room; blocks = record { made = 0; fails = blocks }; reads = record { made = 0; fails = reads }; writes = record { made = 0; fails = writes }; faults = 0 }) }
     {
         Ok(MemDisk {

@@ -16,25 +16,25 @@ pub struct Store {
 }
 
 impl Model for Store {
-    ghost use Rattle.std.specs.Prelude.{◌≡◌, ◌≤◌, ◌*◌, length, take, vec_len};
-    ghost use Rattle.mb_edge.specs.Memory.{Held};
+    ghost use Rattle.std.specs.Prelude.{◌≤◌, ◌*◌, ◌/◌, take, vec_len};
+    ghost use Rattle.mb_edge.specs.Memory.{Stored};
 
-    ghost Value = { Held };
+    ghost Value = { Stored };
 
     ghost view = { λ a. record { bytes = take a.used a.bytes.items; room = a.room } };
 
-    ghost invariant = { λ a. (vec_len a.bytes ≡ 512 * a.room) × (a.used ≤ 512 * a.room) };
+    ghost invariant = { λ a. (512 * a.room ≤ vec_len a.bytes) × (a.used ≤ vec_len a.bytes) × (a.used / 512 ≤ a.room) };
 }
 
 impl Store {
-    /// Takes over the bytes, with room for so many blocks.
+    /// Takes over the bytes, with room for so many blocks, which holds the whole blocks of `image`.
     pub fn new(alloc: Global, image: Bytes, room: u32) -> Result<Store, NoMemory>
-        requires { length image ≤ 512 * room }
+        requires { length image / 512 ≤ room }
         ensures { IfOk result (λ store. store ≡ record { bytes = image; room = room }) }
     {
         let mut bytes = image.into_vec();
         let used = bytes.len();
-        bytes.resize(512 * room as usize, 0)?;
+        bytes.resize(used.max(512 * room as usize), 0)?;
         Ok(Store { bytes, used, room })
     }
 
@@ -56,7 +56,7 @@ impl Store {
     pub fn blocks(&self) -> u32
         ensures { result ≡ (image_of self.now.bytes).count }
     {
-        prove!(self.used <= 512 * self.room as usize);
+        prove!(self.used / 512 <= self.room as usize);
         (self.used / 512) as u32
     }
 

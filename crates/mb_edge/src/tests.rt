@@ -1,4 +1,5 @@
 use super::*;
+use mb_kinds::Kind;
 use std::alloc::{AllocError, Global};
 use std::test::Fail;
 
@@ -77,5 +78,20 @@ fn a_source_longer_than_one_read_is_read_whole(rt: HostRuntime) -> Result<(), Fa
     assert_eq!(rt; read.len(), 4999);
     let rest = read_whole(rt.alloc(), &mut source, 100)?;
     assert_eq!(rt; rest.as_slice(), [3].as_slice());
+    Ok(())
+}
+
+#[test]
+fn a_crossing_is_counted_by_its_kind(rt: HostRuntime) -> Result<(), Fail> {
+    let mut crossings = Crossings {
+        caller: 1,
+        ordinal: 4,
+        counts: [0, 2, 0, 0, 0, u32::MAX],
+    };
+    assert_eq!(rt; crossings.next(Kind::Gather).nth, 3);
+    assert_eq!(rt; crossings.next(Kind::Gather).nth, 4);
+    assert_eq!(rt; crossings.next(Kind::Enter).nth, 1);
+    assert_eq!(rt; crossings.next(Kind::Replay).nth, u32::MAX);
+    assert_eq!(rt; Calm.cross(&crossings.next(Kind::Leave)), Word::Go);
     Ok(())
 }

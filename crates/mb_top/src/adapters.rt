@@ -1,4 +1,5 @@
-ghost use Rattle.std.specs.Prelude.{◌≡◌, ◌<◌, All, None};
+ghost use Rattle.std.specs.Prelude.{◌≡◌, ◌<◌, ◌≤◌, All, None};
+ghost use Rattle.mb_edge.specs.Causes.{Rose};
 ghost use Rattle.mb_top.specs.Silent.{tells_nothing};
 
 use crate::words::Word8;
@@ -34,10 +35,7 @@ impl<R: Read + Drop> Source for InSource<R> {
     fn read(&mut self, into: &mut [u8]) -> Result<usize, Failed> {
         match self.reader.read(into) {
             Ok(count) => Ok(count),
-            Err(_) => {
-                self.faults = self.faults.saturating_add(1);
-                Err(Failed)
-            }
+            Err(_) => Err(count_fault(&mut self.faults)),
         }
     }
 }
@@ -67,10 +65,7 @@ impl<W: Write + Drop> Sink for OutSink<W> {
     fn write(&mut self, from: &[u8]) -> Result<usize, Failed> {
         match self.writer.write(from) {
             Ok(count) if count > 0 || from.is_empty() => Ok(count),
-            _ => {
-                self.faults = self.faults.saturating_add(1);
-                Err(Failed)
-            }
+            _ => Err(count_fault(&mut self.faults)),
         }
     }
 }
@@ -159,36 +154,35 @@ impl<R: Files<File = File> + Drop> Disk for FileDisk<R> {
     fn blocks(&mut self) -> Result<u32, Failed> {
         match self.count() {
             Ok(count) => Ok(count),
-            Err(_) => {
-                self.faults = self.faults.saturating_add(1);
-                Err(Failed)
-            }
+            Err(_) => Err(count_fault(&mut self.faults)),
         }
     }
 
     fn read(&mut self, block: u32, into: &mut [u8; 512]) -> Result<(), Failed> {
         match self.give(block, into) {
             Ok(()) => Ok(()),
-            Err(_) => {
-                self.faults = self.faults.saturating_add(1);
-                Err(Failed)
-            }
+            Err(_) => Err(count_fault(&mut self.faults)),
         }
     }
 
     fn write(&mut self, block: u32, from: &[u8; 512]) -> Result<(), Failed> {
         match self.put(block, from) {
             Ok(()) => Ok(()),
-            Err(_) => {
-                self.faults = self.faults.saturating_add(1);
-                Err(Failed)
-            }
+            Err(_) => Err(count_fault(&mut self.faults)),
         }
     }
 
     ghost past = { λ disk image block told past. tells_nothing told };
 
     ghost sized = { λ disk image block told. tells_nothing told };
+}
+
+fn count_fault(faults: &mut u64) -> Failed
+    ensures later { faults.old ≤ faults.new }
+    ensures rose { Rose faults.old faults.new }
+{
+    *faults = faults.saturating_add(1);
+    Failed
 }
 
 // More blocks than a number of 32 bits counts are a fault.

@@ -1,0 +1,63 @@
+ghost use Rattle.std.specs.Prelude.{◌≡◌, ℕ, Bool, List, [], false, Option, Some, None, IsSome};
+ghost use Rattle.mb_edge.specs.declared.crossings.Crossing.{Crossing};
+ghost use Rattle.mb_edge.specs.declared.strokes.Stroke.{Stroke};
+ghost use Rattle.mb_edge.specs.Hooks.{AnswersTest, HasFaultCause, struck_by};
+
+use crate::crossings::Crossing;
+use crate::strokes::Damage;
+
+/// What a fault injector answers at a fault point.
+#[derive(Clone, Copy, Debug, PartialEq, Eq, Drop)]
+pub enum Word {
+    /// The call goes on.
+    Go,
+    /// The call is struck here.
+    Fault,
+}
+
+/// A fault injector. `struck` is the crossing of its last `cross` where that answered a fault, `strokes` the
+/// damage of that crossing, `test` the crossings at which it faults, where it tells them, and `faults` counts
+/// its faults.
+pub trait Hook {
+    ghost struck: { Self → Option Crossing };
+
+    ghost strokes: { Self → List Stroke };
+
+    ghost test: { Self → Option (Crossing → Bool) };
+
+    ghost faults: { Self → ℕ };
+
+    /// Asks whether a call is struck at this crossing. It is where the test holds, where that is told.
+    fn cross(&mut self, at: &Crossing) -> Word
+        ensures struck { struck self.new ≡ struck_by result at.now }
+        ensures test { test self.new ≡ test self.old }
+        ensures answer { AnswersTest (test self.old) at.now result }
+        ensures cause { HasFaultCause (faults self.old) (faults self.new) result };
+
+    /// The damage of the crossing that was struck last.
+    fn damage(&self) -> &Damage
+        requires { IsSome (struck self.now) }
+        ensures { result.now ≡ strokes self.now };
+}
+
+/// A hook that never faults.
+#[derive(Clone, Copy, Debug, PartialEq, Eq, Drop)]
+pub struct Calm;
+
+impl Hook for Calm {
+    ghost struck = { λ _. None };
+
+    ghost strokes = { λ _. [] };
+
+    ghost test = { λ _. Some (λ _. false) };
+
+    ghost faults = { λ _. 0 };
+
+    fn cross(&mut self, _at: &Crossing) -> Word {
+        Word::Go
+    }
+
+    fn damage(&self) -> &Damage {
+        unreachable!()
+    }
+}
