@@ -20,18 +20,20 @@ two_words verb first = if bytes_eq verb (codes "close") then option_map Close (n
 abbrev pub open_words : List ℕ → List ℕ → Option Call
 open_words path how = if is_plain_path path && bytes_eq how (codes "r") then Some (Open path Reading) else None
 
--- `read FD COUNT`
+-- `read FD COUNT`, of the two numbers
 abbrev pub read_words : Option ℕ → Option ℕ → Option Call
 read_words (Some fd) (Some count) = Some (Read fd count)
 read_words (Some fd) None = None
 read_words None count = None
 
+-- the two calls of three words
 abbrev pub three_words : List ℕ → List ℕ → List ℕ → Option Call
 three_words verb first second =
     if bytes_eq verb (codes "open") then open_words first second
     else if bytes_eq verb (codes "read") then read_words (number_in first) (number_in second)
     else None
 
+-- a call by the number of its words; other words write none that is read yet
 abbrev pub call_of_words : List (List ℕ) → Option Call
 call_of_words [] = None
 call_of_words (verb ∷ []) = one_word verb

@@ -30,6 +30,7 @@ texts_of no_items = Some []
 texts_of (item (string text) more) = option_map (λ (texts : List (List ℕ)). text ∷ texts) (texts_of more)
 texts_of (item value more) = None
 
+-- the same of a value
 abbrev pub texts_in : Data → Option (List (List ℕ))
 texts_in (array items) = texts_of items
 texts_in value = None
@@ -58,6 +59,7 @@ abbrev pub job_or_refusal : Option Job → Result Job JobFault
 job_or_refusal (Some job) = Ok job
 job_or_refusal None = Err NotBuilt
 
+-- what no table writes is no TOML document
 abbrev pub job_of_document : Option Members → Result Job JobFault
 job_of_document (Some members) = job_or_refusal (job_of_table members)
 job_of_document None = Err NotToml

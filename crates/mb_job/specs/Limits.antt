@@ -5,7 +5,7 @@ use Rattle.mb_kinds.specs.declared.calls.Call.{Call}
 use Rattle.mb_kinds.specs.declared.calls.Call.TheVariants.{Read, Exit}
 use Rattle.mb_job.specs.declared.jobs.JobCall.{JobCall}
 
--- the bytes that a call asks for
+-- the bytes that a call asks for (V7 read(2))
 abbrev pub read_count : Call → ℕ
 read_count (Read fd count) = count
 read_count _ = 0

@@ -1,12 +1,12 @@
 -- What every job of the form that is read so far keeps.
-use Rattle.std.specs.Prelude.{List, [], ◌∷◌, ℕ, ◌≤◌, ◌≡◌, ◌≢◌, codes, length, sum_by, take, All}
+use Rattle.std.specs.Prelude.{List, [], ◌∷◌, ℕ, ◌≤◌, ◌≡◌, ◌≢◌, codes, length, sum_by, take, All, IfOk}
 use Rattle.mb_kinds.specs.declared.calls.Call.{Call}
 use Rattle.mb_kinds.specs.declared.calls.Call.TheVariants.{Open, Read, Close, Exit}
 use Rattle.mb_kinds.specs.declared.calls.How.{How}
 use Rattle.mb_kinds.specs.declared.calls.How.TheVariants.{Reading}
 use Rattle.mb_job.specs.declared.jobs.Job.{Job}
 use Rattle.mb_job.specs.declared.jobs.JobCall.{JobCall}
-use Rattle.mb_job.specs.Job.{the_caller}
+use Rattle.mb_job.specs.Job.{job_in, the_caller}
 use Rattle.mb_job.specs.Limits.{count_of}
 
 -- a name of 1 to 254 bytes that print, with no blank and no `/`, which is neither `.` nor `..`
@@ -47,3 +47,7 @@ pub record IsSmall (job : Job) : Type 0 where
   pub ends : EndsInExit job.calls
   pub few : length job.calls ≤ 100001
   pub bounded : sum_by count_of job.calls ≤ 16777216
+
+-- so is each job that a text writes
+abbrev pub JobsAreSmall : Type 0
+JobsAreSmall = (bytes : List ℕ) → IfOk (job_in bytes) IsSmall

@@ -19,7 +19,7 @@ pub struct JobCall {
 }
 
 /// What a job's text asks for: its callers, their calls in order with the `exit` that is added, and
-/// the moment of the first call.
+/// the moment before the first call's.
 #[derive(Drop)]
 pub struct Job {
     pub callers: Seq<Caller>,
@@ -28,11 +28,11 @@ pub struct Job {
 }
 
 /// Why a text gave no job.
-#[derive(Clone, Copy, Debug, PartialEq, Eq, Drop)]
+#[derive(Debug, PartialEq, Drop)]
 pub enum JobFault {
     /// The text has more than 4,194,304 bytes.
     TooLong,
-    /// The text is no TOML document.
+    /// The text is no UTF-8, or no TOML document.
     NotToml,
     /// The text is a TOML document of a form that is not read yet.
     NotBuilt,

@@ -40,6 +40,9 @@ pub(crate) fn next_text<'a>(calls: &'a [JobCall], places: &mut [usize; 256], cal
             places[slot] = at + 1;
             calls[at].text.as_slice()
         }
-        None => b"",
+        None => {
+            places[slot] = calls.len();
+            b""
+        }
     }
 }
