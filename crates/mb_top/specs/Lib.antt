@@ -1,3 +1,9 @@
 pub mod Commands
+pub mod Contents
 pub mod Held
+pub mod Openings
+pub mod Outcomes
+pub mod Runs
+pub mod Serving
 pub mod Silent
+pub mod Simple

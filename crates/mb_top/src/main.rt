@@ -4,8 +4,18 @@
 #![tactic(auto)]
 
 mod adapters;
+mod blocks;
+mod deciding;
+mod errors;
+mod files;
+mod findings;
 mod finish;
 mod membrane;
+mod opening;
+mod outcomes;
+mod roots;
+mod runs;
+mod serving;
 #[cfg(test)]
 mod tests;
 mod words;

@@ -1,31 +1,84 @@
-ghost use Rattle.std.specs.Prelude.{◌≡◌, ◌≢◌, codes};
-ghost use Rattle.std.specs.Io.KnownBytes.{Appends};
+ghost use Rattle.std.specs.Prelude.{◌≡◌, ◌≤◌};
 ghost use Rattle.mb_edge.specs.Causes.{Rose};
 ghost use Rattle.mb_top.specs.Held.{held_disk};
+ghost use Rattle.mb_top.specs.Outcomes.{HasEnded, IsPrinted, status_of, text_of};
 
+use crate::deciding::decide;
 use crate::finish::{Finish, Held};
+use crate::outcomes::Outcome;
 use crate::words::Words;
 use mb_edge::{Disk, Sink, Source, write_whole};
 use std::alloc::Global;
 
-/// A stub: refuses all words.
+/// The program over any source, disk and sink: reads the job, runs it over the disk's image, prints what
+/// comes of it, and gives the disk back.
+///
+/// The statuses: 0 done; 1 the words are no command; 2 the job is refused; 3 the volume is refused; 5 the
+/// disk failed at the opening; 6 want of memory; 7 the output failed; 8 the input failed; 9 a job or an
+/// image of a form that is not read yet. `specs/Outcomes.antt` says when each comes.
 pub fn membrane<S: Source, D: Disk, K: Sink>(
-    _alloc: Global,
-    _words: &Words,
-    _job: &mut S,
-    disk: D,
+    alloc: Global,
+    words: &Words,
+    job: &mut S,
+    mut disk: D,
     out: &mut K,
 ) -> Finish<D>
-    ensures words { result.status ≡ 1 → Appends (K.taken out.old) (K.taken out.new) (codes "words refused\n") }
-    ensures output { result.status ≢ 1 → Rose (K.faults out.old) (K.faults out.new) }
-    ensures held { held_disk result.held ≡ disk }
+    ensures ended { HasEnded words.now (S.left job.old) (D.told disk) (D.faults disk) (D.faults (held_disk result.held)) (K.taken out.old) (K.taken out.new) result.status }
+    ensures input { result.status ≡ 8 → Rose (S.faults job.old) (S.faults job.new) }
+    ensures device { result.status ≡ 5 → Rose (D.faults disk) (D.faults (held_disk result.held)) }
+    ensures output { result.status ≡ 7 → Rose (K.faults out.old) (K.faults out.new) }
+    ensures told { D.told (held_disk result.held) ≡ D.told disk }
+    ensures later { D.faults disk ≤ D.faults (held_disk result.held) }
 {
-    let status = match write_whole(out, b"words refused\n") {
-        Ok(()) => 1,
-        Err(_) => 7,
-    };
+    let outcome = decide(alloc, words, job, &mut disk);
+    let status = print(out, &outcome);
     Finish {
         status,
         held: Held::Disk(disk),
+    }
+}
+
+// Prints an outcome's text, and gives its status. Want of memory stays so where its line cannot be written.
+fn print<K: Sink>(out: &mut K, outcome: &Outcome) -> u8
+    ensures printed { IsPrinted outcome.now (K.taken out.old) (K.taken out.new) result }
+    ensures output { result ≡ 7 → Rose (K.faults out.old) (K.faults out.new) }
+{
+    let status = status_of(outcome);
+    match write_whole(out, text_of(outcome)) {
+        Ok(()) => status,
+        Err(_) if status == 6 => 6,
+        Err(_) => 7,
+    }
+}
+
+fn status_of(outcome: &Outcome) -> u8
+    ensures { result ≡ status_of outcome.now }
+{
+    match outcome {
+        Outcome::Ran(_) => 0,
+        Outcome::WordsRefused => 1,
+        Outcome::TooLong | Outcome::NotToml => 2,
+        Outcome::NoBlocks | Outcome::BadSizes => 3,
+        Outcome::DiskFault => 5,
+        Outcome::OutOfMemory => 6,
+        Outcome::InputFault => 8,
+        Outcome::JobNotBuilt | Outcome::ImageNotBuilt => 9,
+    }
+}
+
+fn text_of(outcome: &Outcome) -> &[u8]
+    ensures { result.now ≡ text_of outcome.now }
+{
+    match outcome {
+        Outcome::WordsRefused => b"words refused\n",
+        Outcome::InputFault => b"input fault\n",
+        Outcome::TooLong => b"job refused: too long\n",
+        Outcome::NotToml => b"job refused: not toml\n",
+        Outcome::DiskFault => b"disk fault\n",
+        Outcome::NoBlocks => b"volume refused: block 1 rule 1\n",
+        Outcome::BadSizes => b"volume refused: block 1 rule 2\n",
+        Outcome::OutOfMemory => b"no memory\n",
+        Outcome::JobNotBuilt | Outcome::ImageNotBuilt => b"not built\n",
+        Outcome::Ran(text) => text.as_slice(),
     }
 }

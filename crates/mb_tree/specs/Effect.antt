@@ -23,16 +23,12 @@ pub record Held : Type 0 where
   pub tree : Tree
   pub opens : Counts
 
--- ---- counts
-
 abbrev pub hold : Counts → ℕ → Counts
 hold opens ino = λ other. if other == ino then opens other + 1 else opens other
 
 -- one open file less for each time that an inode's number stands in the list
 abbrev pub release : Counts → List ℕ → Counts
 release opens inos = λ other. opens other - count_by (nat_eq other) inos
-
--- ---- one inode
 
 -- content changed
 abbrev pub touched : ℕ → Node → Node
@@ -52,8 +48,6 @@ made mode nlink uid gid moment body = record { mode = mode; nlink = nlink; uid =
 -- the link count of the inode with a number, 0 where there is none
 abbrev pub nlink_in : Numbered Node → ℕ → ℕ
 nlink_in nodes ino = unwrap_or (option_map (λ (node : Node). node.nlink) (fin.get nodes ino)) 0
-
--- ---- slots
 
 abbrev pub on_slots : (List PlainSlot → List PlainSlot) → Body → Body
 on_slots f (Regular size parts) = Regular size parts
@@ -80,6 +74,7 @@ without_name moment name node = record (touched moment node) { body = on_slots (
 -- the same for a name of a directory, whose `..` is a name of its parent
 abbrev pub with_link : ℕ → List ℕ → ℕ → Node → Node
 with_link moment name ino node = record (with_name moment name ino node) { nlink = node.nlink + 1 }
+
 abbrev pub without_link : ℕ → List ℕ → Node → Node
 without_link moment name node = record (without_name moment name node) { nlink = node.nlink - 1 }
 
@@ -92,8 +87,6 @@ dot_dot = 46 ∷ 46 ∷ 0 ∷ 0 ∷ 0 ∷ 0 ∷ 0 ∷ 0 ∷ 0 ∷ 0 ∷ 0 ∷ 0 
 
 abbrev pub first_slots : ℕ → ℕ → List PlainSlot
 first_slots ino parent = (record { ino = ino; name = dot }) ∷ (record { ino = parent; name = dot_dot }) ∷ []
-
--- ---- bytes
 
 -- one byte put at its place, in a part that was zeros where it was missing
 abbrev pub put_byte : Numbered (List ℕ) → ℕ → ℕ → Numbered (List ℕ)
@@ -114,8 +107,6 @@ abbrev pub cleared : Body → Body
 cleared (Regular size parts) = Regular 0 fin.empty
 cleared (Directory slots) = Directory slots
 cleared (Special size area) = Special size area
-
--- ---- the tree
 
 -- refused where the files would hold more blocks than the volume has for them
 abbrev pub fitting : Tree → Numbered Node → Answer Tree
@@ -145,18 +136,19 @@ on_node tree ino f = record tree { nodes = changed_at tree.nodes ino f }
 -- bytes written, bytes dropped
 abbrev pub wrote : ℕ → ℕ → List ℕ → Node → Node
 wrote moment offset bytes node = record (touched moment node) { body = written offset bytes node.body }
+
 abbrev pub blanked : ℕ → Node → Node
 blanked moment node = record (touched moment node) { body = cleared node.body }
 
 -- fields set; the kind of an inode stays
 abbrev pub with_mode : ℕ → ℕ → Node → Node
 with_mode mode moment node = record node { mode = bit_or (kind_of node.mode) mode; ctime = moment }
+
 abbrev pub with_owner : ℕ → ℕ → ℕ → Node → Node
 with_owner uid gid moment node = record node { uid = uid; gid = gid; ctime = moment }
+
 abbrev pub with_times : ℕ → ℕ → ℕ → Node → Node
 with_times atime mtime moment node = record node { atime = atime; mtime = mtime; ctime = moment }
-
--- ---- the operations
 
 -- a regular file with the picked number
 abbrev pub create : Tree → ℕ → List ℕ → ℕ → ℕ → ℕ → ℕ → Option ℕ → Answer Tree
@@ -200,8 +192,10 @@ put tree ino offset bytes moment = do
 -- the fields of an inode set
 abbrev pub set_mode : Tree → ℕ → ℕ → ℕ → Tree
 set_mode tree ino mode moment = on_node tree ino (with_mode mode moment)
+
 abbrev pub set_owner : Tree → ℕ → ℕ → ℕ → ℕ → Tree
 set_owner tree ino uid gid moment = on_node tree ino (with_owner uid gid moment)
+
 abbrev pub set_times : Tree → ℕ → ℕ → ℕ → ℕ → Tree
 set_times tree ino atime mtime moment = on_node tree ino (with_times atime mtime moment)
 

@@ -14,6 +14,7 @@ pub const REGULAR: u16 = 0o100000;
 pub const DIRECTORY: u16 = 0o040000;
 /// The kind bits of a special file that moves bytes, and of one that moves blocks.
 pub const CHARACTER: u16 = 0o020000;
+
 pub const BLOCK: u16 = 0o060000;
 
 /// Whether a mode is a directory's.
@@ -21,6 +22,13 @@ pub fn is_directory(mode: u16) -> bool
     ensures { result ≡ is_directory mode }
 {
     mode & KIND == DIRECTORY
+}
+
+/// Whether a mode is a regular file's.
+pub fn is_regular(mode: u16) -> bool
+    ensures { result ≡ is_regular mode }
+{
+    mode & KIND == REGULAR
 }
 
 /// Whether a mode is a special file's.

@@ -24,14 +24,18 @@ mod tables;
 mod tests;
 mod trees;
 
-pub use laws::{after_appends, cost_kept, legal_appends, legal_grows, legal_splits, refused_stays, served_by_effect};
-pub use lookups::Placed;
+pub use inodes::{is_directory, is_regular};
+pub use laws::{
+    after_appends, cost_kept, legal_appends, legal_grows, legal_splits, refused_stays,
+    served_by_effect,
+};
+pub use lookups::{Placed, components, number_of};
 pub use machines::Machine;
 pub use maps::Map;
 pub use nodes::{Body, Node, Nodes, Parts, PlainSlot, PlainSlots};
 pub use operations::{FsOp, Inos};
 pub use plans::Plan;
-pub use seats::{PlainFile, Seat, Seats, SessionChange};
+pub use seats::{PlainFile, Seat, Seats, SessionChange, reads};
 pub use stops::NoMemory;
 pub use tables::{Fds, Files};
 pub use trees::Tree;

@@ -1,0 +1,7 @@
+pub mod ContentLemmas
+pub mod OpeningLemmas
+pub mod RunLemmas
+pub mod SeatLemmas
+pub mod ServingLemmas
+pub mod StepLemmas
+pub mod VolumeLemmas

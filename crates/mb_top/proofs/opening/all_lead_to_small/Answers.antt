@@ -1,0 +1,17 @@
+use Rattle.std.proofs.Common.{◌≡◌, ◌≤◌, ◌∙◌, ◌<◌, arith, ap, sym, subst, Option, IfSome, List}
+use Rattle.std.proofs.lemmas.Option.{slice_get-get_or}
+use Rattle.mb_kinds.specs.Image.{Image}
+use Rattle.mb_tree.specs.declared.nodes.PlainSlot.{PlainSlot}
+use Rattle.mb_top.specs.Simple.{HasSmallRoot, root_slots}
+use Rattle.mb_top.proofs.OpeningLemmas.{leading_more, leading_all, all_known}
+use Rattle.mb_top.proofs.opening.all_lead_to_small.Goals as goal
+
+pub loop-at-preserved : goal.loop-at-preserved
+loop-at-preserved g c = record {
+  so_far = leading_more _ _ c.args.last c.loop-at.at c.as_slice-all.result.now _ c.loop-at.invariant.told c.loop-at.invariant.so_far (slice_get-get_or c.as_slice-all.result.now c.loop-at.at _ (omega arith)) c.in_ok-leads_to_small.field-0 c.if-not-branch.false c.in_ok-leads_to_small.ensures.tested;
+  told = c.in_ok-leads_to_small.ensures.told ∙ c.loop-at.invariant.told;
+  later = omega (arith, c.in_ok-leads_to_small.ensures.cause.later);
+}
+
+pub returns-clause-tested : goal.returns-clause-tested
+returns-clause-tested g c = leading_all _ c.args.last c.loop-at.at c.as_slice-all.result.now (all_known _ _ _ c.as_slice-all.ensures c.in_ok-slots.ensures.slots) c.loop-at.invariant.so_far c.loop-at-test.false

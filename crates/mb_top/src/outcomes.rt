@@ -1,0 +1,29 @@
+use mb_job::Text;
+
+/// How the program ended, before it printed. `specs/Outcomes.antt` says when each comes, with its status
+/// and its text.
+#[derive(Drop)]
+pub enum Outcome {
+    /// The words are no command.
+    WordsRefused,
+    /// The job could not be read.
+    InputFault,
+    /// The job's text is too long.
+    TooLong,
+    /// The job's text is no TOML document.
+    NotToml,
+    /// The job is of a form that is not read yet.
+    JobNotBuilt,
+    /// The disk failed while the image was opened.
+    DiskFault,
+    /// The disk has no block 1 (rule 1).
+    NoBlocks,
+    /// The sizes in the super-block are out of their ranges (rule 2).
+    BadSizes,
+    /// The image is of a form that is not read yet.
+    ImageNotBuilt,
+    /// There was no memory.
+    OutOfMemory,
+    /// The job was run; the text is its transcript with the last line.
+    Ran(Text),
+}
