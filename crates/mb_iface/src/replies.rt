@@ -15,9 +15,9 @@ pub enum Answer {
     },
     /// To `Place` of a path without components: the inode where the path starts.
     Itself(u16),
-    /// To `Bytes`.
+    /// To `Bytes`: the bytes from the offset on, at most the count.
     Bytes(Octets),
-    /// To `Used`.
+    /// To `Used`: the number of used slots.
     Used(u32),
 }
 
@@ -32,6 +32,7 @@ pub struct Need {
 /// The answer to a query.
 #[derive(Drop)]
 pub enum Asked {
+    /// What the query asks for.
     Found(Answer),
     /// The reference model refuses the query with this error.
     Refused(Errno),
