@@ -1,4 +1,4 @@
-ghost use Rattle.std.specs.Prelude.{◌≡◌, ℕ, Bool, List, [], false, Option, Some, None, IsSome};
+ghost use Rattle.std.specs.Prelude.{◌≡◌, ℕ, Bool, List, Option, IsSome};
 ghost use Rattle.mb_edge.specs.declared.crossings.Crossing.{Crossing};
 ghost use Rattle.mb_edge.specs.declared.strokes.Stroke.{Stroke};
 ghost use Rattle.mb_edge.specs.Hooks.{AnswersTest, HasFaultCause, struck_by};
@@ -38,26 +38,4 @@ pub trait Hook {
     fn damage(&self) -> &Damage
         requires { IsSome (struck self.now) }
         ensures { result.now ≡ strokes self.now };
-}
-
-/// A hook that never faults.
-#[derive(Clone, Copy, Debug, PartialEq, Eq, Drop)]
-pub struct Calm;
-
-impl Hook for Calm {
-    ghost struck = { λ _. None };
-
-    ghost strokes = { λ _. [] };
-
-    ghost test = { λ _. Some (λ _. false) };
-
-    ghost faults = { λ _. 0 };
-
-    fn cross(&mut self, _at: &Crossing) -> Word {
-        Word::Go
-    }
-
-    fn damage(&self) -> &Damage {
-        unreachable!()
-    }
 }

@@ -32,7 +32,7 @@ mod transfers;
 pub use crossings::{Crossing, Crossings};
 pub use disks::Disk;
 pub use faults::{Failed, NoMemory};
-pub use hooks::{Calm, Hook, Word};
+pub use hooks::{Hook, Word};
 pub use lists::{Bytes, Fails};
 pub use memory_disks::{MemDisk, SureDisk};
 pub use memory_sinks::{MemSink, SureSink};

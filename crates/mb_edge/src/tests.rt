@@ -92,6 +92,6 @@ fn a_crossing_is_counted_by_its_kind(rt: HostRuntime) -> Result<(), Fail> {
     assert_eq!(rt; crossings.next(Kind::Gather).nth, 4);
     assert_eq!(rt; crossings.next(Kind::Enter).nth, 1);
     assert_eq!(rt; crossings.next(Kind::Replay).nth, u32::MAX);
-    assert_eq!(rt; Calm.cross(&crossings.next(Kind::Leave)), Word::Go);
+    assert_eq!(rt; crossings.next(Kind::Leave).nth, 1);
     Ok(())
 }
