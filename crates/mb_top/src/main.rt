@@ -14,6 +14,8 @@ mod membrane;
 mod opening;
 mod outcomes;
 mod roots;
+#[cfg(test)]
+mod run_tests;
 mod runs;
 mod serving;
 #[cfg(test)]
