@@ -128,5 +128,5 @@ module _ {X : Type 0} where
   values_cells cells = ap (map (λ e. e.1)) (entries_view (cell_entries 0 cells) (sorted 0 cells)) ∙ values 0 cells
 
   pub all_filled : {Y : Type 0} (f : X → Y) (ys : List Y) (cells : List (Option X)) (m : fin.FinMap nat_cmp X) (i : ℕ) → from_cells cells ≡ m → length cells ≤ i
-    → ys ++ map f (filled (drop i cells)) ≡ map f (filled cells) → ys ≡ map f (fin.values m)
+      → ys ++ map f (filled (drop i cells)) ≡ map f (filled cells) → ys ≡ map f (fin.values m)
   all_filled f ys cells m i e h so_far = sym (append-nil ys) ∙ ap (λ cs. ys ++ map f (filled cs)) (sym (drop_of_length-le cells h)) ∙ so_far ∙ ap (map f) (sym (values_cells cells)) ∙ ap (λ n. map f (fin.values n)) e

@@ -59,9 +59,9 @@ le_same m n e = omega arith
 
 cheaper_inserted : (m : Numbered Node) (k : ℕ) (x y : Node) → fin.get m k ≡ Some x → body_cost y.body ≤ body_cost x.body → IsCheaper (fin.insert m k y) m
 cheaper_inserted m k x y has h q = elim (one_or_not q k) [
-    | inl is ↦ rw is (subst (λ (o : Option Node). cost_at o ≤ cost_at (fin.get m k)) (sym (get_here m k y)) (subst (λ (o : Option Node). body_cost y.body ≤ cost_at o) (sym has) h))
-    | inr apart ↦ le_same _ _ (ap cost_at (get_there m k y q apart))
-  ]
+  | inl is ↦ rw is (subst (λ (o : Option Node). cost_at o ≤ cost_at (fin.get m k)) (sym (get_here m k y)) (subst (λ (o : Option Node). body_cost y.body ≤ cost_at o) (sym has) h))
+  | inr apart ↦ le_same _ _ (ap cost_at (get_there m k y q apart))
+]
 
 cheaper_changed : (m : Numbered Node) (k : ℕ) (f : Node → Node) → ((x : Node) → body_cost (f x).body ≤ body_cost x.body) → IsCheaper (changed_at m k f) m
 cheaper_changed m k f each =
@@ -72,9 +72,9 @@ cheaper_changed m k f each =
 
 cheaper_removed : (m : Numbered Node) (k : ℕ) → IsCheaper (fin.remove m k) m
 cheaper_removed m k q = elim (one_or_not q k) [
-    | inl is ↦ rw is (subst (λ (o : Option Node). cost_at o ≤ cost_at (fin.get m k)) (sym (gone_here m k)) (at_least_none _))
-    | inr apart ↦ le_same _ _ (ap cost_at (gone_there m k q apart))
-  ]
+  | inl is ↦ rw is (subst (λ (o : Option Node). cost_at o ≤ cost_at (fin.get m k)) (sym (gone_here m k)) (at_least_none _))
+  | inr apart ↦ le_same _ _ (ap cost_at (gone_there m k q apart))
+]
 
 cond_le : (b : Bool) (o : Option Node) → cost_at (cond b o None) ≤ cost_at o
 cond_le true o = omega arith
@@ -129,9 +129,9 @@ module _ (tree : Tree) (sound : cost tree ≤ tree.cap) where
 
   lost : (nodes : Numbered Node) (opens : Counts) (moment ino : ℕ) → IsCheaper (less_name nodes opens moment ino) nodes
   lost nodes opens moment ino = elim (is_lost opens ino (option_map (unlinked moment) (fin.get nodes ino))) as (λ b. IsCheaper (if b then fin.remove nodes ino else changed_at nodes ino (unlinked moment)) nodes) [
-      | true ↦ cheaper_removed nodes ino
-      | false ↦ cheaper_changed nodes ino (unlinked moment) (λ x. omega arith)
-    ]
+    | true ↦ cheaper_removed nodes ino
+    | false ↦ cheaper_changed nodes ino (unlinked moment) (λ x. omega arith)
+  ]
 
   delinked : (opens : Counts) (dir : ℕ) (name : List ℕ) (moment : ℕ) (target : Option ℕ) → Always (Keeps tree) (Ok (delink tree opens dir name moment target))
   delinked opens dir name moment None = same_tree

@@ -30,13 +30,13 @@ counted low high size part rest =
     ]
 
 pub one_more : (low high size part count all : ℕ) (parts rest : List ℕ) → parts ≡ part ∷ rest → is_last low high size part rest ≡ true
-  → count + set.len (touched low high size parts) ≡ all → count + 1 + set.len (touched low high size rest) ≡ all
+    → count + set.len (touched low high size parts) ≡ all → count + 1 + set.len (touched low high size rest) ≡ all
 one_more low high size part count all parts rest e last h =
     let c : set.len (touched low high size parts) ≡ set.len (touched low high size rest) + 1 = ap (λ xs. set.len (touched low high size xs)) e ∙ counted low high size part rest ∙ ap (λ b. cond b (set.len (touched low high size rest) + 1) (set.len (touched low high size rest))) last in
     omega (arith, c, h)
 
 pub none_more : (low high size part count all : ℕ) (parts rest : List ℕ) → parts ≡ part ∷ rest → is_last low high size part rest ≡ false
-  → count + set.len (touched low high size parts) ≡ all → count + set.len (touched low high size rest) ≡ all
+    → count + set.len (touched low high size parts) ≡ all → count + set.len (touched low high size rest) ≡ all
 none_more low high size part count all parts rest e last h =
     let c : set.len (touched low high size parts) ≡ set.len (touched low high size rest) = ap (λ xs. set.len (touched low high size xs)) e ∙ counted low high size part rest ∙ ap (λ b. cond b (set.len (touched low high size rest) + 1) (set.len (touched low high size rest))) last in
     omega (arith, c, h)

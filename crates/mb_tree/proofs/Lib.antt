@@ -11,5 +11,6 @@ pub mod Padding
 pub mod Released
 pub mod Rows
 pub mod Searches
+pub mod Seated
 pub mod Served
 pub mod Swaps

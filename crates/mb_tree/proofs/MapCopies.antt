@@ -35,8 +35,8 @@ module _ {X : Type 0} where
   copied_none m empty e q = ap (λ n. fin.get n q) e ∙ get-empty nat_cmp q
 
   pub copied_more : (m copy next : Numbered X) (ks : List ℕ) (i d : ℕ) (v w : X) → i < length ks → fin.get m (get_or ks i d) ≡ Some v → w ≡ v → next ≡ fin.insert copy (get_or ks i d) w
-    → ((q : ℕ) → fin.get copy q ≡ (if list_any (nat_eq q) (take i ks) then fin.get m q else None))
-    → (q : ℕ) → fin.get next q ≡ (if list_any (nat_eq q) (take (i + 1) ks) then fin.get m q else None)
+      → ((q : ℕ) → fin.get copy q ≡ (if list_any (nat_eq q) (take i ks) then fin.get m q else None))
+      → (q : ℕ) → fin.get next q ≡ (if list_any (nat_eq q) (take (i + 1) ks) then fin.get m q else None)
   copied_more m copy next ks i d v w h has is_copy n inv q =
       let k : ℕ = get_or ks i d in
       let n1 : i + 1 ≡ suc i = omega arith in
@@ -57,7 +57,7 @@ module _ {X : Type 0} where
   kept false (Some x) e = cc
 
   pub copied_all : (m copy : Numbered X) (ks : List ℕ) (i : ℕ) → ks ≡ fin.keys m → length ks ≤ i
-    → ((q : ℕ) → fin.get copy q ≡ (if list_any (nat_eq q) (take i ks) then fin.get m q else None)) → copy ≡ m
+      → ((q : ℕ) → fin.get copy q ≡ (if list_any (nat_eq q) (take i ks) then fin.get m q else None)) → copy ≡ m
   copied_all m copy ks i e h inv = same copy m (λ q.
       inv q ∙ ap (λ l. if list_any (nat_eq q) l then fin.get m q else None) (take_all i ks h ∙ e)
       ∙ kept _ _ (contains_key-keys m q ∙ any_tied q (fin.keys m)))

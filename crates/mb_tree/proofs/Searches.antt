@@ -50,13 +50,13 @@ bytes_none body index count e = rw e refl
 
 -- the bytes so far, one byte further, and all of them
 pub bytes_step : (body : Body) (index done count : ℕ) (bytes more : List ℕ) → done < count → more ≡ bytes ++ byte_at body (index + done) ∷ []
-  → bytes ++ bytes_from body (index + done) (count - done) ≡ bytes_from body index count
-  → more ++ bytes_from body (index + (done + 1)) (count - (done + 1)) ≡ bytes_from body index count
+    → bytes ++ bytes_from body (index + done) (count - done) ≡ bytes_from body index count
+    → more ++ bytes_from body (index + (done + 1)) (count - (done + 1)) ≡ bytes_from body index count
 bytes_step body index done count bytes more h e inv =
     ap (λ xs. xs ++ bytes_from body (index + (done + 1)) (count - (done + 1))) e
     ∙ append_assoc bytes (byte_at body (index + done) ∷ []) (bytes_from body (index + (done + 1)) (count - (done + 1)))
     ∙ ap (λ xs. bytes ++ xs) (sym (bytes_more body index done count h)) ∙ inv
 
 pub bytes_end : (body : Body) (index done count : ℕ) (bytes : List ℕ) → count ≤ done
-  → bytes ++ bytes_from body (index + done) (count - done) ≡ bytes_from body index count → bytes ≡ bytes_from body index count
+    → bytes ++ bytes_from body (index + done) (count - done) ≡ bytes_from body index count → bytes ≡ bytes_from body index count
 bytes_end body index done count bytes h inv = sym (append-nil bytes) ∙ ap (λ xs. bytes ++ xs) (sym (bytes_none body (index + done) (count - done) (omega arith))) ∙ inv

@@ -80,6 +80,7 @@ without_name moment name node = record (touched moment node) { body = on_slots (
 -- the same for a name of a directory, whose `..` is a name of its parent
 abbrev pub with_link : ℕ → List ℕ → ℕ → Node → Node
 with_link moment name ino node = record (with_name moment name ino node) { nlink = node.nlink + 1 }
+
 abbrev pub without_link : ℕ → List ℕ → Node → Node
 without_link moment name node = record (without_name moment name node) { nlink = node.nlink - 1 }
 
@@ -145,14 +146,17 @@ on_node tree ino f = record tree { nodes = changed_at tree.nodes ino f }
 -- bytes written, bytes dropped
 abbrev pub wrote : ℕ → ℕ → List ℕ → Node → Node
 wrote moment offset bytes node = record (touched moment node) { body = written offset bytes node.body }
+
 abbrev pub blanked : ℕ → Node → Node
 blanked moment node = record (touched moment node) { body = cleared node.body }
 
 -- fields set; the kind of an inode stays
 abbrev pub with_mode : ℕ → ℕ → Node → Node
 with_mode mode moment node = record node { mode = bit_or (kind_of node.mode) mode; ctime = moment }
+
 abbrev pub with_owner : ℕ → ℕ → ℕ → Node → Node
 with_owner uid gid moment node = record node { uid = uid; gid = gid; ctime = moment }
+
 abbrev pub with_times : ℕ → ℕ → ℕ → Node → Node
 with_times atime mtime moment node = record node { atime = atime; mtime = mtime; ctime = moment }
 
@@ -200,8 +204,10 @@ put tree ino offset bytes moment = do
 -- the fields of an inode set
 abbrev pub set_mode : Tree → ℕ → ℕ → ℕ → Tree
 set_mode tree ino mode moment = on_node tree ino (with_mode mode moment)
+
 abbrev pub set_owner : Tree → ℕ → ℕ → ℕ → ℕ → Tree
 set_owner tree ino uid gid moment = on_node tree ino (with_owner uid gid moment)
+
 abbrev pub set_times : Tree → ℕ → ℕ → ℕ → ℕ → Tree
 set_times tree ino atime mtime moment = on_node tree ino (with_times atime mtime moment)
 

@@ -6,7 +6,12 @@ use Rattle.mb_kinds.specs.declared.entries.Entry.{Entry}
 use Rattle.mb_kinds.specs.declared.replies.Reply.{Reply}
 use Rattle.mb_kinds.specs.declared.replies.Reply.TheVariants.{Refused}
 use Rattle.mb_kinds.specs.declared.errors.Errno.{Errno}
-use Rattle.mb_tree.specs.Sessions.{counts, with_change}
+use Rattle.mb_tree.specs.Maps.{Numbered}
+use Rattle.mb_tree.specs.Sessions.{counts, with_change, changed}
+use Rattle.mb_tree.specs.Machines.{IsSeated, FitsSession}
+use Rattle.mb_tree.specs.declared.nodes.Node.{Node}
+use Rattle.mb_tree.specs.declared.seats.Seat.{Seat}
+use Rattle.mb_tree.specs.declared.seats.SessionChange.{SessionChange}
 use Rattle.mb_tree.specs.Effect.{Held}
 use Rattle.mb_tree.specs.Rows.{plan}
 use Rattle.mb_tree.specs.Step.{effect_of, serve, step}
@@ -56,3 +61,7 @@ ServedByEffect = (machine : Machine) (caller : ℕ) (call : Call) (moment : ℕ)
 abbrev pub CostKept : Type 0
 CostKept = (machine : Machine) (caller : ℕ) (call : Call) (moment : ℕ) (pick : Option ℕ) → cost machine.tree ≤ machine.tree.cap
     → (cost (step machine caller call moment pick).1.tree ≤ machine.tree.cap) × ((step machine caller call moment pick).1.tree.cap ≡ machine.tree.cap)
+
+-- a session change that fits keeps a session valid
+abbrev pub SessionKept : Type 0
+SessionKept = (nodes : Numbered Node) (seat : Seat) (change : SessionChange) → IsSeated nodes seat → FitsSession nodes seat change → IsSeated nodes (changed seat change)

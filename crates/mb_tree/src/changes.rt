@@ -47,7 +47,10 @@ fn entered(mut slots: PlainSlots, name: Name, ino: u16) -> Result<PlainSlots, Al
 fn emptied(mut slots: PlainSlots, name: &Name) -> PlainSlots
     ensures { result ≡ emptied name.now slots }
 {
-    let mut slot = PlainSlot { ino: 0, name: *name };
+    let mut slot = PlainSlot {
+        ino: 0,
+        name: *name,
+    };
     let Some(at) = place_of(slots.as_slice(), name) else {
         return slots;
     };
@@ -85,7 +88,10 @@ pub fn first_slots(alloc: Global, ino: u16, parent: u16) -> Result<PlainSlots, A
 {
     let mut slots = Seq::new(alloc);
     slots.push(PlainSlot { ino, name: DOT })?;
-    slots.push(PlainSlot { ino: parent, name: DOT_DOT })?;
+    slots.push(PlainSlot {
+        ino: parent,
+        name: DOT_DOT,
+    })?;
     Ok(slots)
 }
 

@@ -11,8 +11,11 @@ use std::alloc::{AllocError, Global};
 /// The first part under the single, the double and the triple indirect address of an inode, and the
 /// first part past them.
 const SINGLE: u32 = 10;
+
 const DOUBLE: u32 = 138;
+
 const TRIPLE: u32 = 16522;
+
 const END: u32 = 2_113_674;
 
 /// Whether a part number lies between two others.
@@ -43,7 +46,8 @@ fn has_near(low: u32, high: u32, size: u32, part: u32, rest: &[u32]) -> bool
     requires { 0 < size }
     ensures { result ≡ list_any (is_near low high size part) rest.now }
 {
-    rest.iter().any(|other| is_near(low, high, size, part, *other))
+    rest.iter()
+        .any(|other| is_near(low, high, size, part, *other))
 }
 
 /// Whether a part is the last of its group in a list.

@@ -47,7 +47,13 @@ fn fitting(alloc: Global, tree: &Tree, nodes: Nodes) -> Result<Nodes, Stop>
 }
 
 #[tactic(auto, using(crate::proofs::Changed::rechanged, crate::proofs::Changed::unchanged))]
-fn enter_name(nodes: &mut Nodes, dir: u16, moment: u32, name: Name, ino: u16) -> Result<(), AllocError>
+fn enter_name(
+    nodes: &mut Nodes,
+    dir: u16,
+    moment: u32,
+    name: Name,
+    ino: u16,
+) -> Result<(), AllocError>
     ensures { OnOk result (nodes.new ≡ changed_at nodes.old dir (with_name moment name ino)) }
 {
     let Some(node) = nodes.remove(u32::from(dir)) else {
@@ -57,7 +63,13 @@ fn enter_name(nodes: &mut Nodes, dir: u16, moment: u32, name: Name, ino: u16) ->
 }
 
 #[tactic(auto, using(crate::proofs::Changed::rechanged, crate::proofs::Changed::unchanged))]
-fn enter_link(nodes: &mut Nodes, dir: u16, moment: u32, name: Name, ino: u16) -> Result<(), AllocError>
+fn enter_link(
+    nodes: &mut Nodes,
+    dir: u16,
+    moment: u32,
+    name: Name,
+    ino: u16,
+) -> Result<(), AllocError>
     requires { nlink_in nodes.old dir < 65535 }
     ensures { OnOk result (nodes.new ≡ changed_at nodes.old dir (with_link moment name ino)) }
 {
@@ -122,7 +134,13 @@ fn less_name(nodes: &mut Nodes, seats: &[Seat], moment: u32, ino: u16) -> Result
 }
 
 #[tactic(auto, using(crate::proofs::Changed::rechanged, crate::proofs::Changed::unchanged))]
-fn write(nodes: &mut Nodes, ino: u16, moment: u32, offset: u32, bytes: &[u8]) -> Result<(), AllocError>
+fn write(
+    nodes: &mut Nodes,
+    ino: u16,
+    moment: u32,
+    offset: u32,
+    bytes: &[u8],
+) -> Result<(), AllocError>
     requires { offset + length bytes.now < 2 ^ 32 }
     ensures { OnOk result (nodes.new ≡ changed_at nodes.old ino (wrote moment offset bytes.now)) }
 {
@@ -153,7 +171,13 @@ fn change_mode(nodes: &mut Nodes, ino: u16, mode: u16, moment: u32) -> Result<()
 }
 
 #[tactic(auto, using(crate::proofs::Changed::rechanged, crate::proofs::Changed::unchanged))]
-fn change_owner(nodes: &mut Nodes, ino: u16, uid: u16, gid: u16, moment: u32) -> Result<(), AllocError>
+fn change_owner(
+    nodes: &mut Nodes,
+    ino: u16,
+    uid: u16,
+    gid: u16,
+    moment: u32,
+) -> Result<(), AllocError>
     ensures { OnOk result (nodes.new ≡ changed_at nodes.old ino (with_owner uid gid moment)) }
 {
     let Some(node) = nodes.remove(u32::from(ino)) else {
@@ -163,29 +187,64 @@ fn change_owner(nodes: &mut Nodes, ino: u16, uid: u16, gid: u16, moment: u32) ->
 }
 
 #[tactic(auto, using(crate::proofs::Changed::rechanged, crate::proofs::Changed::unchanged))]
-fn change_times(nodes: &mut Nodes, ino: u16, atime: u32, mtime: u32, moment: u32) -> Result<(), AllocError>
+fn change_times(
+    nodes: &mut Nodes,
+    ino: u16,
+    atime: u32,
+    mtime: u32,
+    moment: u32,
+) -> Result<(), AllocError>
     ensures { OnOk result (nodes.new ≡ changed_at nodes.old ino (with_times atime mtime moment)) }
 {
     let Some(node) = nodes.remove(u32::from(ino)) else {
         return Ok(());
     };
-    nodes.insert(u32::from(ino), changes::with_times(node, atime, mtime, moment))
+    nodes.insert(
+        u32::from(ino),
+        changes::with_times(node, atime, mtime, moment),
+    )
 }
 
-fn create(alloc: Global, tree: &Tree, dir: u16, name: Name, mode: u16, uid: u16, gid: u16, moment: u32, pick: Option<u16>) -> Result<Nodes, Stop>
+fn create(
+    alloc: Global,
+    tree: &Tree,
+    dir: u16,
+    name: Name,
+    mode: u16,
+    uid: u16,
+    gid: u16,
+    moment: u32,
+    pick: Option<u16>,
+) -> Result<Nodes, Stop>
     ensures { Gives (λ nodes. record tree.now { nodes = nodes }) result (create tree.now dir name mode uid gid moment pick) }
 {
     let Some(ino) = pick else {
         return Err(Stop::Refused(Errno::ENOSPC));
     };
-    let body = Body::Regular { size: 0, parts: Map::new(alloc) };
+    let body = Body::Regular {
+        size: 0,
+        parts: Map::new(alloc),
+    };
     let mut nodes = tree.nodes.copied(alloc)?;
     enter_name(&mut nodes, dir, moment, name, ino)?;
-    nodes.insert(u32::from(ino), changes::made(REGULAR | mode, 1, uid, gid, moment, body))?;
+    nodes.insert(
+        u32::from(ino),
+        changes::made(REGULAR | mode, 1, uid, gid, moment, body),
+    )?;
     fitting(alloc, tree, nodes)
 }
 
-fn make_dir(alloc: Global, tree: &Tree, dir: u16, name: Name, mode: u16, uid: u16, gid: u16, moment: u32, pick: Option<u16>) -> Result<Nodes, Stop>
+fn make_dir(
+    alloc: Global,
+    tree: &Tree,
+    dir: u16,
+    name: Name,
+    mode: u16,
+    uid: u16,
+    gid: u16,
+    moment: u32,
+    pick: Option<u16>,
+) -> Result<Nodes, Stop>
     ensures { Gives (λ nodes. record tree.now { nodes = nodes }) result (make_dir tree.now dir name mode uid gid moment pick) }
 {
     if nlink_in(&tree.nodes, dir) >= LINKS {
@@ -194,14 +253,25 @@ fn make_dir(alloc: Global, tree: &Tree, dir: u16, name: Name, mode: u16, uid: u1
     let Some(ino) = pick else {
         return Err(Stop::Refused(Errno::ENOSPC));
     };
-    let body = Body::Directory { slots: changes::first_slots(alloc, ino, dir)? };
+    let body = Body::Directory {
+        slots: changes::first_slots(alloc, ino, dir)?,
+    };
     let mut nodes = tree.nodes.copied(alloc)?;
     enter_link(&mut nodes, dir, moment, name, ino)?;
-    nodes.insert(u32::from(ino), changes::made(DIRECTORY | mode, 2, uid, gid, moment, body))?;
+    nodes.insert(
+        u32::from(ino),
+        changes::made(DIRECTORY | mode, 2, uid, gid, moment, body),
+    )?;
     fitting(alloc, tree, nodes)
 }
 
-fn remove_dir(alloc: Global, tree: &Tree, dir: u16, name: &Name, moment: u32) -> Result<Nodes, AllocError>
+fn remove_dir(
+    alloc: Global,
+    tree: &Tree,
+    dir: u16,
+    name: &Name,
+    moment: u32,
+) -> Result<Nodes, AllocError>
     ensures { IfOk result (λ nodes. remove_dir tree.now dir name.now moment (number_in tree.now.nodes dir name.now) ≡ record tree.now { nodes = nodes }) }
 {
     let mut nodes = tree.nodes.copied(alloc)?;
@@ -213,7 +283,14 @@ fn remove_dir(alloc: Global, tree: &Tree, dir: u16, name: &Name, moment: u32) ->
     Ok(nodes)
 }
 
-fn enlink(alloc: Global, tree: &Tree, dir: u16, name: Name, ino: u16, moment: u32) -> Result<Nodes, Stop>
+fn enlink(
+    alloc: Global,
+    tree: &Tree,
+    dir: u16,
+    name: Name,
+    ino: u16,
+    moment: u32,
+) -> Result<Nodes, Stop>
     ensures { Gives (λ nodes. record tree.now { nodes = nodes }) result (enlink tree.now dir name ino moment) }
 {
     if nlink_in(&tree.nodes, ino) >= LINKS {
@@ -225,7 +302,14 @@ fn enlink(alloc: Global, tree: &Tree, dir: u16, name: Name, ino: u16, moment: u3
     fitting(alloc, tree, nodes)
 }
 
-fn delink(alloc: Global, tree: &Tree, seats: &[Seat], dir: u16, name: &Name, moment: u32) -> Result<Nodes, AllocError>
+fn delink(
+    alloc: Global,
+    tree: &Tree,
+    seats: &[Seat],
+    dir: u16,
+    name: &Name,
+    moment: u32,
+) -> Result<Nodes, AllocError>
     ensures { IfOk result (λ nodes. delink tree.now (counts seats.now) dir name.now moment (number_in tree.now.nodes dir name.now) ≡ record tree.now { nodes = nodes }) }
 {
     let mut nodes = tree.nodes.copied(alloc)?;
@@ -237,7 +321,14 @@ fn delink(alloc: Global, tree: &Tree, seats: &[Seat], dir: u16, name: &Name, mom
     Ok(nodes)
 }
 
-fn put(alloc: Global, tree: &Tree, ino: u16, offset: u32, bytes: &[u8], moment: u32) -> Result<Nodes, Stop>
+fn put(
+    alloc: Global,
+    tree: &Tree,
+    ino: u16,
+    offset: u32,
+    bytes: &[u8],
+    moment: u32,
+) -> Result<Nodes, Stop>
     requires { length bytes.now ≤ 65535 }
     ensures { Gives (λ nodes. record tree.now { nodes = nodes }) result (put tree.now ino offset bytes.now moment) }
 {
@@ -261,7 +352,8 @@ fn is_lost(nodes: &Nodes, seats: &[Seat], inos: &[u16], ino: u16) -> bool
     ensures { result ≡ is_lost (release (counts seats.now) inos.now) ino (fin.get nodes.now ino) }
 {
     match nodes.get(u32::from(ino)) {
-        Some(node) => node.nlink == 0 && count(seats, ino).saturating_sub(occurrences(inos, ino) as u128) == 0,
+        Some(node) => node.nlink == 0
+            && count(seats, ino).saturating_sub(occurrences(inos, ino) as u128) == 0,
         None => false,
     }
 }
@@ -280,38 +372,78 @@ fn less_open(alloc: Global, tree: &Tree, seats: &[Seat], inos: &[u16]) -> Result
 }
 
 /// The nodes after an operation.
-fn nodes_after(alloc: Global, tree: &Tree, seats: &[Seat], op: &FsOp, pick: Option<u16>) -> Result<Nodes, Stop>
+fn nodes_after(
+    alloc: Global,
+    tree: &Tree,
+    seats: &[Seat],
+    op: &FsOp,
+    pick: Option<u16>,
+) -> Result<Nodes, Stop>
     ensures { Gives (λ nodes. record tree.now { nodes = nodes }) result (tree_after tree.now (counts seats.now) op.now pick) }
 {
     match op {
-        FsOp::Create { dir, name, mode, uid, gid, moment } => create(alloc, tree, *dir, *name, *mode, *uid, *gid, *moment, pick),
+        FsOp::Create {
+            dir,
+            name,
+            mode,
+            uid,
+            gid,
+            moment,
+        } => create(alloc, tree, *dir, *name, *mode, *uid, *gid, *moment, pick),
         FsOp::Empty { ino, moment } => {
             let mut nodes = tree.nodes.copied(alloc)?;
             blank(alloc, &mut nodes, *ino, *moment)?;
             Ok(nodes)
         }
-        FsOp::MakeDir { dir, name, mode, uid, gid, moment } => make_dir(alloc, tree, *dir, *name, *mode, *uid, *gid, *moment, pick),
+        FsOp::MakeDir {
+            dir,
+            name,
+            mode,
+            uid,
+            gid,
+            moment,
+        } => make_dir(alloc, tree, *dir, *name, *mode, *uid, *gid, *moment, pick),
         FsOp::RemoveDir { dir, name, moment } => {
             let nodes = remove_dir(alloc, tree, *dir, name, *moment)?;
             Ok(nodes)
         }
-        FsOp::Enlink { dir, name, ino, moment } => enlink(alloc, tree, *dir, *name, *ino, *moment),
+        FsOp::Enlink {
+            dir,
+            name,
+            ino,
+            moment,
+        } => enlink(alloc, tree, *dir, *name, *ino, *moment),
         FsOp::Delink { dir, name, moment } => {
             let nodes = delink(alloc, tree, seats, *dir, name, *moment)?;
             Ok(nodes)
         }
-        FsOp::Put { ino, offset, bytes, moment } => put(alloc, tree, *ino, *offset, bytes.as_slice(), *moment),
+        FsOp::Put {
+            ino,
+            offset,
+            bytes,
+            moment,
+        } => put(alloc, tree, *ino, *offset, bytes.as_slice(), *moment),
         FsOp::SetMode { ino, mode, moment } => {
             let mut nodes = tree.nodes.copied(alloc)?;
             change_mode(&mut nodes, *ino, *mode, *moment)?;
             Ok(nodes)
         }
-        FsOp::SetOwner { ino, uid, gid, moment } => {
+        FsOp::SetOwner {
+            ino,
+            uid,
+            gid,
+            moment,
+        } => {
             let mut nodes = tree.nodes.copied(alloc)?;
             change_owner(&mut nodes, *ino, *uid, *gid, *moment)?;
             Ok(nodes)
         }
-        FsOp::SetTimes { ino, atime, mtime, moment } => {
+        FsOp::SetTimes {
+            ino,
+            atime,
+            mtime,
+            moment,
+        } => {
             let mut nodes = tree.nodes.copied(alloc)?;
             change_times(&mut nodes, *ino, *atime, *mtime, *moment)?;
             Ok(nodes)
@@ -328,7 +460,13 @@ fn nodes_after(alloc: Global, tree: &Tree, seats: &[Seat], op: &FsOp, pick: Opti
 }
 
 /// Does one operation or none, all of it or nothing.
-pub fn act(alloc: Global, tree: &mut Tree, seats: &[Seat], op: &Option<FsOp>, pick: Option<u16>) -> Result<(), Stop>
+pub fn act(
+    alloc: Global,
+    tree: &mut Tree,
+    seats: &[Seat],
+    op: &Option<FsOp>,
+    pick: Option<u16>,
+) -> Result<(), Stop>
     ensures { Acts result tree.old tree.new (effect_of tree.old (counts seats.now) op.now pick) }
 {
     let Some(op) = op else {

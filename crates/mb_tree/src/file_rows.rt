@@ -44,7 +44,13 @@ pub fn close_row(alloc: Global, seat: &Seat, fd: u16) -> Result<Plan, Stop>
 }
 
 /// read(2).
-pub fn read_row(alloc: Global, nodes: &Nodes, seat: &Seat, fd: u16, count: u16) -> Result<Plan, Stop>
+pub fn read_row(
+    alloc: Global,
+    nodes: &Nodes,
+    seat: &Seat,
+    fd: u16,
+    count: u16,
+) -> Result<Plan, Stop>
     ensures row { Gives (λ plan. plan) result (read_row nodes.now seat.now fd count) }
     ensures ready { IfOk result (λ plan. IsReady plan.session) }
 {
@@ -67,7 +73,13 @@ fn copied_octets(alloc: Global, bytes: &Octets) -> Result<Octets, AllocError>
 }
 
 /// What a write does that is not refused: with no bytes nothing.
-fn wrote(alloc: Global, fd: u16, file: PlainFile, bytes: &Octets, moment: u32) -> Result<Plan, AllocError>
+fn wrote(
+    alloc: Global,
+    fd: u16,
+    file: PlainFile,
+    bytes: &Octets,
+    moment: u32,
+) -> Result<Plan, AllocError>
     requires { file.offset + length bytes.now ≤ 1082201088 }
     ensures row { IfOk result (λ plan. plan ≡ wrote fd file bytes.now moment) }
     ensures ready { IfOk result (λ plan. IsReady plan.session) }
@@ -87,7 +99,13 @@ fn wrote(alloc: Global, fd: u16, file: PlainFile, bytes: &Octets, moment: u32) -
 }
 
 /// write(2).
-pub fn write_row(alloc: Global, seat: &Seat, fd: u16, bytes: &Octets, moment: u32) -> Result<Plan, Stop>
+pub fn write_row(
+    alloc: Global,
+    seat: &Seat,
+    fd: u16,
+    bytes: &Octets,
+    moment: u32,
+) -> Result<Plan, Stop>
     ensures row { Gives (λ plan. plan) result (write_row seat.now fd bytes.now moment) }
     ensures ready { IfOk result (λ plan. IsReady plan.session) }
 {

@@ -14,6 +14,7 @@ pub const REGULAR: u16 = 0o100000;
 pub const DIRECTORY: u16 = 0o040000;
 /// The kind bits of a special file that moves bytes, and of one that moves blocks.
 pub const CHARACTER: u16 = 0o020000;
+
 pub const BLOCK: u16 = 0o060000;
 
 /// Whether a mode is a directory's.

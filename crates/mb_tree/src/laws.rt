@@ -1,4 +1,4 @@
-ghost use Rattle.mb_tree.specs.Laws.{AfterAppends, LegalSplits, LegalAppends, LegalGrows, RefusedStays, ServedByEffect, CostKept};
+ghost use Rattle.mb_tree.specs.Laws.{AfterAppends, LegalSplits, LegalAppends, LegalGrows, RefusedStays, ServedByEffect, CostKept, SessionKept};
 
 /// The machine after two histories in a row is the one after the second, from the one after the first.
 pub fn after_appends()
@@ -33,4 +33,9 @@ pub fn served_by_effect()
 /// The files of a machine never hold more blocks than there are for them.
 pub fn cost_kept()
     ensures { CostKept }
+{}
+
+/// A session change that fits keeps a session valid.
+pub fn session_kept()
+    ensures { SessionKept }
 {}

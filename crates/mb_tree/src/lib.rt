@@ -24,7 +24,9 @@ mod tables;
 mod tests;
 mod trees;
 
-pub use laws::{after_appends, cost_kept, legal_appends, legal_grows, legal_splits, refused_stays, served_by_effect};
+pub use laws::{
+    after_appends, cost_kept, legal_appends, legal_grows, legal_splits, refused_stays,
+    served_by_effect, session_kept};
 pub use lookups::Placed;
 pub use machines::Machine;
 pub use maps::Map;

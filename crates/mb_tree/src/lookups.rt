@@ -71,7 +71,10 @@ pub fn is_named(name: &Name, slot: &PlainSlot) -> bool
 pub fn number_of(slots: &[PlainSlot], name: &Name) -> Option<u16>
     ensures { result ≡ number_of slots.now name.now }
 {
-    slots.iter().find(|slot| is_named(name, slot)).map(|slot| slot.ino)
+    slots
+        .iter()
+        .find(|slot| is_named(name, slot))
+        .map(|slot| slot.ino)
 }
 
 /// The number that a name leads to in a directory, where the inode is one.
@@ -93,7 +96,11 @@ pub fn used_in(nodes: &Nodes, ino: u16) -> usize
 {
     match nodes.get(u32::from(ino)) {
         Some(node) => match &node.body {
-            Body::Directory { slots } => slots.as_slice().iter().filter(|slot| is_used(slot)).count(),
+            Body::Directory { slots } => slots
+                .as_slice()
+                .iter()
+                .filter(|slot| is_used(slot))
+                .count(),
             _ => 0,
         },
         None => 0,
@@ -151,7 +158,13 @@ pub fn stat_in(nodes: &Nodes, ino: u16) -> Result<Stat, Errno>
 }
 
 /// The inode to which a path leads.
-pub fn find_path(alloc: Global, nodes: &Nodes, cred: Cred, cwd: u16, path: &[u8]) -> Result<Stat, Stop>
+pub fn find_path(
+    alloc: Global,
+    nodes: &Nodes,
+    cred: Cred,
+    cwd: u16,
+    path: &[u8],
+) -> Result<Stat, Stop>
     ensures { Gives (λ stat. stat) result (find_path nodes.now cred cwd path.now) }
 {
     let names = components(alloc, path)?;
@@ -172,13 +185,23 @@ fn place_under(nodes: &Nodes, cred: Cred, start: u16, names: &[Name]) -> Result<
         Err(error) => return Err(error),
     };
     match look(nodes, cred, dir, name) {
-        Ok(ino) => Ok(Placed::At { dir, name: *name, ino }),
+        Ok(ino) => Ok(Placed::At {
+            dir,
+            name: *name,
+            ino,
+        }),
         Err(error) => Err(error),
     }
 }
 
 /// The place of a path.
-pub fn find_place(alloc: Global, nodes: &Nodes, cred: Cred, cwd: u16, path: &[u8]) -> Result<Placed, Stop>
+pub fn find_place(
+    alloc: Global,
+    nodes: &Nodes,
+    cred: Cred,
+    cwd: u16,
+    path: &[u8],
+) -> Result<Placed, Stop>
     ensures { Gives (λ placed. placed) result (find_place nodes.now cred cwd path.now) }
 {
     let names = components(alloc, path)?;

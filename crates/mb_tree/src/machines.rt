@@ -8,8 +8,8 @@ use crate::effects::act;
 use crate::file_rows::{close_row, dup_row, exit_row, fstat_row, lseek_row, read_row, write_row};
 use crate::nodes::Nodes;
 use crate::path_rows::{
-    access_row, chdir_row, chmod_row, chown_row, creat_row, link_row, mkdir_row, open_row, rmdir_row,
-    stat_row, unlink_row, utime_row,
+    access_row, chdir_row, chmod_row, chown_row, creat_row, link_row, mkdir_row, open_row,
+    rmdir_row, stat_row, unlink_row, utime_row,
 };
 use crate::plans::{Plan, answered, seated};
 use crate::seats::{Seat, Seats, SessionChange, change_session};
@@ -26,19 +26,42 @@ pub struct Machine {
 }
 
 /// The plan of a call.
-fn row(alloc: Global, nodes: &Nodes, seats: &[Seat], seat: &Seat, call: &Call, moment: u32, pick: Option<u16>) -> Result<Plan, Stop>
+fn row(
+    alloc: Global,
+    nodes: &Nodes,
+    seats: &[Seat],
+    seat: &Seat,
+    call: &Call,
+    moment: u32,
+    pick: Option<u16>,
+) -> Result<Plan, Stop>
     ensures row { Gives (λ plan. plan) result (row nodes.now seats.now seat.now call.now moment pick) }
     ensures ready { IfOk result (λ plan. IsReady plan.session) }
 {
     match call {
         Call::Open { path, how } => open_row(alloc, nodes, seat, path.as_slice(), *how),
-        Call::Creat { path, mode } => creat_row(alloc, nodes, seat, path.as_slice(), *mode, moment, pick),
+        Call::Creat { path, mode } => creat_row(
+            alloc,
+            nodes,
+            seat,
+            path.as_slice(),
+            *mode,
+            moment,
+            pick,
+        ),
         Call::Close { fd } => close_row(alloc, seat, *fd),
         Call::Read { fd, count } => read_row(alloc, nodes, seat, *fd, *count),
         Call::Write { fd, bytes } => write_row(alloc, seat, *fd, bytes, moment),
         Call::Lseek { fd, offset, whence } => lseek_row(nodes, seat, *fd, *offset, *whence),
         Call::Dup { fd } => dup_row(seat, *fd),
-        Call::Link { from, to } => link_row(alloc, nodes, seat, from.as_slice(), to.as_slice(), moment),
+        Call::Link { from, to } => link_row(
+            alloc,
+            nodes,
+            seat,
+            from.as_slice(),
+            to.as_slice(),
+            moment,
+        ),
         Call::Unlink { path } => unlink_row(alloc, nodes, seat, path.as_slice(), moment),
         Call::Mkdir { path, mode } => mkdir_row(alloc, nodes, seat, path.as_slice(), *mode, moment),
         Call::Rmdir { path } => rmdir_row(alloc, nodes, seats, seat, path.as_slice(), moment),
@@ -46,12 +69,30 @@ fn row(alloc: Global, nodes: &Nodes, seats: &[Seat], seat: &Seat, call: &Call, m
         Call::Stat { path } => stat_row(alloc, nodes, seat, path.as_slice()),
         Call::Fstat { fd } => fstat_row(nodes, seat, *fd),
         Call::Chmod { path, mode } => chmod_row(alloc, nodes, seat, path.as_slice(), *mode, moment),
-        Call::Chown { path, uid, gid } => chown_row(alloc, nodes, seat, path.as_slice(), *uid, *gid, moment),
-        Call::Utime { path, atime, mtime } => utime_row(alloc, nodes, seat, path.as_slice(), *atime, *mtime, moment),
+        Call::Chown { path, uid, gid } => chown_row(
+            alloc,
+            nodes,
+            seat,
+            path.as_slice(),
+            *uid,
+            *gid,
+            moment,
+        ),
+        Call::Utime { path, atime, mtime } => utime_row(
+            alloc,
+            nodes,
+            seat,
+            path.as_slice(),
+            *atime,
+            *mtime,
+            moment,
+        ),
         Call::Access { path, bits } => access_row(alloc, nodes, seat, path.as_slice(), *bits),
         Call::Umask { mask } => Ok(seated(
             Reply::Num(u32::from(seat.umask)),
-            SessionChange::Mask { mask: *mask & 0o777 },
+            SessionChange::Mask {
+                mask: *mask & 0o777,
+            },
         )),
         Call::Sync => Ok(answered(Reply::Num(0))),
         Call::Exit => exit_row(alloc, seat),
@@ -59,14 +100,29 @@ fn row(alloc: Global, nodes: &Nodes, seats: &[Seat], seat: &Seat, call: &Call, m
 }
 
 impl Machine {
-    fn serve(&mut self, alloc: Global, caller: usize, call: &Call, moment: u32, pick: Option<u16>) -> Result<Reply, Stop>
+    fn serve(
+        &mut self,
+        alloc: Global,
+        caller: usize,
+        call: &Call,
+        moment: u32,
+        pick: Option<u16>,
+    ) -> Result<Reply, Stop>
         requires { caller < length self.old.seats }
         ensures { Serves result self.old self.new (serve self.old caller call.now moment pick) }
     {
         let Some(seat) = self.seats.get(caller) else {
             return Err(Stop::NoMemory);
         };
-        let plan = row(alloc, &self.tree.nodes, self.seats.as_slice(), seat, call, moment, pick)?;
+        let plan = row(
+            alloc,
+            &self.tree.nodes,
+            self.seats.as_slice(),
+            seat,
+            call,
+            moment,
+            pick,
+        )?;
         act(alloc, &mut self.tree, self.seats.as_slice(), &plan.op, pick)?;
         change_session(&mut self.seats, caller, plan.session);
         Ok(plan.reply)
@@ -76,7 +132,14 @@ impl Machine {
     /// it: `moment` is the time that the call writes, `pick` the free number of the inode that the call
     /// makes, `None` where it makes none. A refused call leaves the machine as it was, and so does want
     /// of memory, which is the only error.
-    pub fn step(&mut self, alloc: Global, caller: u8, call: &Call, moment: u32, pick: Option<u16>) -> Result<Reply, NoMemory>
+    pub fn step(
+        &mut self,
+        alloc: Global,
+        caller: u8,
+        call: &Call,
+        moment: u32,
+        pick: Option<u16>,
+    ) -> Result<Reply, NoMemory>
         requires { caller < length self.old.seats }
         ensures step { IfOk result (λ reply. step self.old caller call.now moment pick ≡ (reply, self.new)) }
         ensures err { OnErr result (self.new ≡ self.old) }

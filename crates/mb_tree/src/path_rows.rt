@@ -21,7 +21,11 @@ use std::alloc::Global;
 fn need(test: bool, error: Errno) -> Result<(), Stop>
     ensures { Gives (λ unit. unit) result (need test error) }
 {
-    if test { Ok(()) } else { Err(Stop::Refused(error)) }
+    if test {
+        Ok(())
+    } else {
+        Err(Stop::Refused(error))
+    }
 }
 
 /// A free descriptor.
@@ -45,7 +49,13 @@ fn bits_of(how: How) -> u8
 }
 
 /// open(2).
-pub fn open_row(alloc: Global, nodes: &Nodes, seat: &Seat, path: &[u8], how: How) -> Result<Plan, Stop>
+pub fn open_row(
+    alloc: Global,
+    nodes: &Nodes,
+    seat: &Seat,
+    path: &[u8],
+    how: How,
+) -> Result<Plan, Stop>
     ensures row { Gives (λ plan. plan) result (open_row nodes.now seat.now path.now how) }
     ensures ready { IfOk result (λ plan. IsReady plan.session) }
 {
@@ -55,7 +65,15 @@ pub fn open_row(alloc: Global, nodes: &Nodes, seat: &Seat, path: &[u8], how: How
     need(!is_special(stat.mode), Errno::ENXIO)?;
     let fd = descriptor(seat)?;
     let op = FsOp::Hold { ino: stat.ino };
-    Ok(both(u32::from(fd), op, SessionChange::Fresh { fd, ino: stat.ino, how }))
+    Ok(both(
+        u32::from(fd),
+        op,
+        SessionChange::Fresh {
+            fd,
+            ino: stat.ino,
+            how,
+        },
+    ))
 }
 
 /// The nine permission bits of a mode without those of the session's mask.
@@ -75,10 +93,26 @@ fn creat_present(nodes: &Nodes, seat: &Seat, moment: u32, ino: u16) -> Result<Pl
     need(!is_special(stat.mode), Errno::ENXIO)?;
     let fd = descriptor(seat)?;
     let op = FsOp::Empty { ino, moment };
-    Ok(both(u32::from(fd), op, SessionChange::Fresh { fd, ino, how: How::Writing }))
+    Ok(both(
+        u32::from(fd),
+        op,
+        SessionChange::Fresh {
+            fd,
+            ino,
+            how: How::Writing,
+        },
+    ))
 }
 
-fn creat_missing(nodes: &Nodes, seat: &Seat, mode: u16, moment: u32, pick: Option<u16>, dir: u16, name: Name) -> Result<Plan, Stop>
+fn creat_missing(
+    nodes: &Nodes,
+    seat: &Seat,
+    mode: u16,
+    moment: u32,
+    pick: Option<u16>,
+    dir: u16,
+    name: Name,
+) -> Result<Plan, Stop>
     ensures row { Gives (λ plan. plan) result (creat_missing nodes.now seat.now mode moment pick dir name) }
     ensures ready { IfOk result (λ plan. IsReady plan.session) }
 {
@@ -90,19 +124,46 @@ fn creat_missing(nodes: &Nodes, seat: &Seat, mode: u16, moment: u32, pick: Optio
     };
     let Cred { uid, gid } = seat.cred;
     let mode = masked(mode, seat);
-    let op = FsOp::Create { dir, name, mode, uid, gid, moment };
-    Ok(both(u32::from(fd), op, SessionChange::Fresh { fd, ino, how: How::Writing }))
+    let op = FsOp::Create {
+        dir,
+        name,
+        mode,
+        uid,
+        gid,
+        moment,
+    };
+    Ok(both(
+        u32::from(fd),
+        op,
+        SessionChange::Fresh {
+            fd,
+            ino,
+            how: How::Writing,
+        },
+    ))
 }
 
 /// creat(2).
-pub fn creat_row(alloc: Global, nodes: &Nodes, seat: &Seat, path: &[u8], mode: u16, moment: u32, pick: Option<u16>) -> Result<Plan, Stop>
+pub fn creat_row(
+    alloc: Global,
+    nodes: &Nodes,
+    seat: &Seat,
+    path: &[u8],
+    mode: u16,
+    moment: u32,
+    pick: Option<u16>,
+) -> Result<Plan, Stop>
     ensures row { Gives (λ plan. plan) result (creat_row nodes.now seat.now path.now mode moment pick) }
     ensures ready { IfOk result (λ plan. IsReady plan.session) }
 {
     match find_place(alloc, nodes, seat.cred, seat.cwd, path)? {
         Placed::Itself(ino) => creat_present(nodes, seat, moment, ino),
         Placed::At { ino: Some(ino), .. } => creat_present(nodes, seat, moment, ino),
-        Placed::At { dir, name, ino: None } => creat_missing(nodes, seat, mode, moment, pick, dir, name),
+        Placed::At {
+            dir,
+            name,
+            ino: None,
+        } => creat_missing(nodes, seat, mode, moment, pick, dir, name),
     }
 }
 
@@ -110,16 +171,33 @@ fn link_at(nodes: &Nodes, seat: &Seat, moment: u32, ino: u16, placed: Placed) ->
     ensures row { Gives (λ plan. plan) result (link_at nodes.now seat.now moment ino placed) }
     ensures ready { IfOk result (λ plan. IsReady plan.session) }
 {
-    let Placed::At { dir, name, ino: None } = placed else {
+    let Placed::At {
+        dir,
+        name,
+        ino: None,
+    } = placed
+    else {
         return Err(Stop::Refused(Errno::EEXIST));
     };
     let parent = stat_in(nodes, dir)?;
     need(may(seat.cred, &parent, 2), Errno::EACCES)?;
-    Ok(acting(FsOp::Enlink { dir, name, ino, moment }))
+    Ok(acting(FsOp::Enlink {
+        dir,
+        name,
+        ino,
+        moment,
+    }))
 }
 
 /// link(2).
-pub fn link_row(alloc: Global, nodes: &Nodes, seat: &Seat, from: &[u8], to: &[u8], moment: u32) -> Result<Plan, Stop>
+pub fn link_row(
+    alloc: Global,
+    nodes: &Nodes,
+    seat: &Seat,
+    from: &[u8],
+    to: &[u8],
+    moment: u32,
+) -> Result<Plan, Stop>
     ensures row { Gives (λ plan. plan) result (link_row nodes.now seat.now from.now to.now moment) }
     ensures ready { IfOk result (λ plan. IsReady plan.session) }
 {
@@ -129,7 +207,14 @@ pub fn link_row(alloc: Global, nodes: &Nodes, seat: &Seat, from: &[u8], to: &[u8
     link_at(nodes, seat, moment, stat.ino, placed)
 }
 
-fn unlink_named(nodes: &Nodes, seat: &Seat, moment: u32, dir: u16, name: Name, ino: u16) -> Result<Plan, Stop>
+fn unlink_named(
+    nodes: &Nodes,
+    seat: &Seat,
+    moment: u32,
+    dir: u16,
+    name: Name,
+    ino: u16,
+) -> Result<Plan, Stop>
     ensures row { Gives (λ plan. plan) result (unlink_named nodes.now seat.now moment dir name ino) }
     ensures ready { IfOk result (λ plan. IsReady plan.session) }
 {
@@ -141,33 +226,68 @@ fn unlink_named(nodes: &Nodes, seat: &Seat, moment: u32, dir: u16, name: Name, i
 }
 
 /// unlink(2).
-pub fn unlink_row(alloc: Global, nodes: &Nodes, seat: &Seat, path: &[u8], moment: u32) -> Result<Plan, Stop>
+pub fn unlink_row(
+    alloc: Global,
+    nodes: &Nodes,
+    seat: &Seat,
+    path: &[u8],
+    moment: u32,
+) -> Result<Plan, Stop>
     ensures row { Gives (λ plan. plan) result (unlink_row nodes.now seat.now path.now moment) }
     ensures ready { IfOk result (λ plan. IsReady plan.session) }
 {
     match find_place(alloc, nodes, seat.cred, seat.cwd, path)? {
         Placed::Itself(_) => Err(Stop::Refused(Errno::EPERM)),
         Placed::At { ino: None, .. } => Err(Stop::Refused(Errno::ENOENT)),
-        Placed::At { dir, name, ino: Some(ino) } => unlink_named(nodes, seat, moment, dir, name, ino),
+        Placed::At {
+            dir,
+            name,
+            ino: Some(ino),
+        } => unlink_named(nodes, seat, moment, dir, name, ino),
     }
 }
 
-fn mkdir_at(nodes: &Nodes, seat: &Seat, mode: u16, moment: u32, placed: Placed) -> Result<Plan, Stop>
+fn mkdir_at(
+    nodes: &Nodes,
+    seat: &Seat,
+    mode: u16,
+    moment: u32,
+    placed: Placed,
+) -> Result<Plan, Stop>
     ensures row { Gives (λ plan. plan) result (mkdir_at nodes.now seat.now mode moment placed) }
     ensures ready { IfOk result (λ plan. IsReady plan.session) }
 {
-    let Placed::At { dir, name, ino: None } = placed else {
+    let Placed::At {
+        dir,
+        name,
+        ino: None,
+    } = placed
+    else {
         return Err(Stop::Refused(Errno::EEXIST));
     };
     let parent = stat_in(nodes, dir)?;
     need(may(seat.cred, &parent, 2), Errno::EACCES)?;
     let Cred { uid, gid } = seat.cred;
     let mode = masked(mode, seat);
-    Ok(acting(FsOp::MakeDir { dir, name, mode, uid, gid, moment }))
+    Ok(acting(FsOp::MakeDir {
+        dir,
+        name,
+        mode,
+        uid,
+        gid,
+        moment,
+    }))
 }
 
 /// mkdir(1) in one step.
-pub fn mkdir_row(alloc: Global, nodes: &Nodes, seat: &Seat, path: &[u8], mode: u16, moment: u32) -> Result<Plan, Stop>
+pub fn mkdir_row(
+    alloc: Global,
+    nodes: &Nodes,
+    seat: &Seat,
+    path: &[u8],
+    mode: u16,
+    moment: u32,
+) -> Result<Plan, Stop>
     ensures row { Gives (λ plan. plan) result (mkdir_row nodes.now seat.now path.now mode moment) }
     ensures ready { IfOk result (λ plan. IsReady plan.session) }
 {
@@ -196,7 +316,15 @@ fn is_dots(name: &Name) -> bool
     *name == DOT || *name == DOT_DOT
 }
 
-fn rmdir_named(nodes: &Nodes, seats: &[Seat], seat: &Seat, moment: u32, dir: u16, name: Name, ino: u16) -> Result<Plan, Stop>
+fn rmdir_named(
+    nodes: &Nodes,
+    seats: &[Seat],
+    seat: &Seat,
+    moment: u32,
+    dir: u16,
+    name: Name,
+    ino: u16,
+) -> Result<Plan, Stop>
     ensures row { Gives (λ plan. plan) result (rmdir_named nodes.now seats.now seat.now moment dir name ino) }
     ensures ready { IfOk result (λ plan. IsReady plan.session) }
 {
@@ -211,14 +339,25 @@ fn rmdir_named(nodes: &Nodes, seats: &[Seat], seat: &Seat, moment: u32, dir: u16
 }
 
 /// rmdir(1) in one step.
-pub fn rmdir_row(alloc: Global, nodes: &Nodes, seats: &[Seat], seat: &Seat, path: &[u8], moment: u32) -> Result<Plan, Stop>
+pub fn rmdir_row(
+    alloc: Global,
+    nodes: &Nodes,
+    seats: &[Seat],
+    seat: &Seat,
+    path: &[u8],
+    moment: u32,
+) -> Result<Plan, Stop>
     ensures row { Gives (λ plan. plan) result (rmdir_row nodes.now seats.now seat.now path.now moment) }
     ensures ready { IfOk result (λ plan. IsReady plan.session) }
 {
     match find_place(alloc, nodes, seat.cred, seat.cwd, path)? {
         Placed::Itself(_) => Err(Stop::Refused(Errno::EBUSY)),
         Placed::At { ino: None, .. } => Err(Stop::Refused(Errno::ENOENT)),
-        Placed::At { dir, name, ino: Some(ino) } => rmdir_named(nodes, seats, seat, moment, dir, name, ino),
+        Placed::At {
+            dir,
+            name,
+            ino: Some(ino),
+        } => rmdir_named(nodes, seats, seat, moment, dir, name, ino),
     }
 }
 
@@ -253,42 +392,89 @@ fn is_owner(cred: Cred, stat: &Stat) -> bool
 fn stored(mode: u16, cred: Cred) -> u16
     ensures { result ≡ stored mode cred }
 {
-    if cred.uid == 0 { mode & 0o7777 } else { mode & 0o6777 }
+    if cred.uid == 0 {
+        mode & 0o7777
+    } else {
+        mode & 0o6777
+    }
 }
 
 /// chmod(2).
-pub fn chmod_row(alloc: Global, nodes: &Nodes, seat: &Seat, path: &[u8], mode: u16, moment: u32) -> Result<Plan, Stop>
+pub fn chmod_row(
+    alloc: Global,
+    nodes: &Nodes,
+    seat: &Seat,
+    path: &[u8],
+    mode: u16,
+    moment: u32,
+) -> Result<Plan, Stop>
     ensures row { Gives (λ plan. plan) result (chmod_row nodes.now seat.now path.now mode moment) }
     ensures ready { IfOk result (λ plan. IsReady plan.session) }
 {
     let stat = find_path(alloc, nodes, seat.cred, seat.cwd, path)?;
     need(is_owner(seat.cred, &stat), Errno::EPERM)?;
     let mode = stored(mode, seat.cred);
-    Ok(acting(FsOp::SetMode { ino: stat.ino, mode, moment }))
+    Ok(acting(FsOp::SetMode {
+        ino: stat.ino,
+        mode,
+        moment,
+    }))
 }
 
 /// chown(2).
-pub fn chown_row(alloc: Global, nodes: &Nodes, seat: &Seat, path: &[u8], uid: u16, gid: u16, moment: u32) -> Result<Plan, Stop>
+pub fn chown_row(
+    alloc: Global,
+    nodes: &Nodes,
+    seat: &Seat,
+    path: &[u8],
+    uid: u16,
+    gid: u16,
+    moment: u32,
+) -> Result<Plan, Stop>
     ensures row { Gives (λ plan. plan) result (chown_row nodes.now seat.now path.now uid gid moment) }
     ensures ready { IfOk result (λ plan. IsReady plan.session) }
 {
     let stat = find_path(alloc, nodes, seat.cred, seat.cwd, path)?;
     need(seat.cred.uid == 0, Errno::EPERM)?;
-    Ok(acting(FsOp::SetOwner { ino: stat.ino, uid, gid, moment }))
+    Ok(acting(FsOp::SetOwner {
+        ino: stat.ino,
+        uid,
+        gid,
+        moment,
+    }))
 }
 
 /// utime(2).
-pub fn utime_row(alloc: Global, nodes: &Nodes, seat: &Seat, path: &[u8], atime: u32, mtime: u32, moment: u32) -> Result<Plan, Stop>
+pub fn utime_row(
+    alloc: Global,
+    nodes: &Nodes,
+    seat: &Seat,
+    path: &[u8],
+    atime: u32,
+    mtime: u32,
+    moment: u32,
+) -> Result<Plan, Stop>
     ensures row { Gives (λ plan. plan) result (utime_row nodes.now seat.now path.now atime mtime moment) }
     ensures ready { IfOk result (λ plan. IsReady plan.session) }
 {
     let stat = find_path(alloc, nodes, seat.cred, seat.cwd, path)?;
     need(is_owner(seat.cred, &stat), Errno::EPERM)?;
-    Ok(acting(FsOp::SetTimes { ino: stat.ino, atime, mtime, moment }))
+    Ok(acting(FsOp::SetTimes {
+        ino: stat.ino,
+        atime,
+        mtime,
+        moment,
+    }))
 }
 
 /// access(2).
-pub fn access_row(alloc: Global, nodes: &Nodes, seat: &Seat, path: &[u8], bits: u8) -> Result<Plan, Stop>
+pub fn access_row(
+    alloc: Global,
+    nodes: &Nodes,
+    seat: &Seat,
+    path: &[u8],
+    bits: u8,
+) -> Result<Plan, Stop>
     ensures row { Gives (λ plan. plan) result (access_row nodes.now seat.now path.now bits) }
     ensures ready { IfOk result (λ plan. IsReady plan.session) }
 {

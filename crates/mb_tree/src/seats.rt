@@ -162,7 +162,14 @@ impl Seat {
     {
         match change {
             SessionChange::Same => {}
-            SessionChange::Fresh { fd, ino, how } => self.open(fd, PlainFile { ino, how, offset: 0 }),
+            SessionChange::Fresh { fd, ino, how } => self.open(
+                fd,
+                PlainFile {
+                    ino,
+                    how,
+                    offset: 0,
+                },
+            ),
             SessionChange::Twin { fd, to } => self.double(fd, to),
             SessionChange::Free { fd } => self.close(fd),
             SessionChange::Move { fd, offset } => self.seek(fd, offset),

@@ -9,11 +9,13 @@ use crate::costs::{blocks, cost, first_parts};
 use crate::{Body, Machine, Map, Node, Seat, Seats, Tree};
 use mb_kinds::{Call, Cred, Errno, How, Octets, Path, Reply, Seq, Stat, Whence};
 use std::alloc::{AllocError, Global};
+use std::process::Abort;
 use std::test::Fail;
 
 /// A machine and how many calls it was given.
 #[derive(Drop)]
 struct Run {
+    heap: Global,
     machine: Machine,
     moment: u32,
 }
@@ -45,23 +47,54 @@ impl Run {
             cap: 96,
         };
         Ok(Run {
+            heap: alloc,
             machine: Machine { tree, seats },
             moment: 0,
         })
     }
 
-    /// The reply of a caller's next call.
-    fn next(&mut self, caller: u8, call: &Call, pick: Option<u16>, alloc: Global) -> Result<Reply, Fail> {
-        self.moment = self.moment.saturating_add(1);
+    /// The reply of a caller's next call, `None` where memory is wanting or there is no such caller.
+    fn reply(
+        &mut self,
+        caller: u8,
+        call: Result<Call, AllocError>,
+        pick: Option<u16>,
+    ) -> Option<Reply> {
+        let Ok(call) = call else {
+            return None;
+        };
         if usize::from(caller) >= self.machine.seats.len() {
-            return Err("no such caller")?;
+            return None;
         }
-        Ok(self.machine.step(alloc, caller, call, self.moment, pick)?)
+        self.moment = self.moment.saturating_add(1);
+        self.machine
+            .step(self.heap, caller, &call, self.moment, pick)
+            .ok()
     }
 
-    /// The reply of the first caller's next call, which makes no inode.
-    fn call(&mut self, call: &Call, alloc: Global) -> Result<Reply, Fail> {
-        self.next(0, call, None, alloc)
+    /// The first caller's next call is answered so.
+    fn expect<R: Abort>(
+        &mut self,
+        rt: &R,
+        call: Result<Call, AllocError>,
+        pick: Option<u16>,
+        want: Reply,
+    ) {
+        let reply = self.reply(0, call, pick);
+        assert_eq!(rt; reply, Some(want), "at call {}", self.moment);
+    }
+
+    /// The first caller's next call reads these bytes.
+    fn expect_bytes<R: Abort>(&mut self, rt: &R, fd: u16, count: u16, want: &[u8]) {
+        match self.reply(0, Ok(Call::Read { fd, count }), None) {
+            Some(Reply::Got(bytes)) => assert_eq!(rt;
+                bytes.as_slice(),
+                want,
+                "at call {}",
+                self.moment
+            ),
+            _ => assert!(rt; false, "no bytes at call {}", self.moment),
+        }
     }
 }
 
@@ -99,10 +132,37 @@ fn stat(alloc: Global, text: &[u8]) -> Result<Call, AllocError>
     })
 }
 
-fn octets(alloc: Global, text: &[u8]) -> Result<Octets, AllocError>
-    requires { length text.now ≤ 65535 }
+fn unlink(alloc: Global, text: &[u8]) -> Result<Call, AllocError>
+    requires { IsPath text.now }
 {
-    Ok(Octets::from_vec(text.to_vec(alloc)?))
+    Ok(Call::Unlink {
+        path: path(alloc, text)?,
+    })
+}
+
+fn mkdir(alloc: Global, text: &[u8]) -> Result<Call, AllocError>
+    requires { IsPath text.now }
+{
+    Ok(Call::Mkdir {
+        path: path(alloc, text)?,
+        mode: 0o755,
+    })
+}
+
+fn rmdir(alloc: Global, text: &[u8]) -> Result<Call, AllocError>
+    requires { IsPath text.now }
+{
+    Ok(Call::Rmdir {
+        path: path(alloc, text)?,
+    })
+}
+
+fn chdir(alloc: Global, text: &[u8]) -> Result<Call, AllocError>
+    requires { IsPath text.now }
+{
+    Ok(Call::Chdir {
+        path: path(alloc, text)?,
+    })
 }
 
 fn write(alloc: Global, fd: u16, text: &[u8]) -> Result<Call, AllocError>
@@ -110,14 +170,8 @@ fn write(alloc: Global, fd: u16, text: &[u8]) -> Result<Call, AllocError>
 {
     Ok(Call::Write {
         fd,
-        bytes: octets(alloc, text)?,
+        bytes: Octets::from_vec(text.to_vec(alloc)?),
     })
-}
-
-fn got(alloc: Global, text: &[u8]) -> Result<Reply, AllocError>
-    requires { length text.now ≤ 65535 }
-{
-    Ok(Reply::Got(octets(alloc, text)?))
 }
 
 /// What stat tells of a regular file with these numbers, owned by uid 0.
@@ -139,16 +193,24 @@ fn regular(ino: u16, mode: u16, size: u32, atime: u32, mtime: u32) -> Reply {
 fn second_descriptor_reads_from_the_start(rt: HostRuntime) -> Result<(), Fail> {
     let heap = rt.alloc();
     let mut run = Run::fresh(heap, &[SUPER])?;
-    assert_eq!(rt; run.next(0, &creat(heap, b"/f", 0o644)?, Some(3), heap)?, Reply::Num(3));
-    assert_eq!(rt; run.call(&write(heap, 3, b"hi")?, heap)?, Reply::Num(2));
-    assert_eq!(rt; run.call(&open(heap, b"/f")?, heap)?, Reply::Num(4));
-    assert_eq!(rt; run.call(&Call::Read { fd: 4, count: 9 }, heap)?, got(heap, b"hi")?);
-    assert_eq!(rt; run.call(&Call::Read { fd: 4, count: 9 }, heap)?, got(heap, b"")?);
-    let far = Call::Lseek { fd: 4, offset: 1000, whence: Whence::Start };
-    assert_eq!(rt; run.call(&far, heap)?, Reply::Num(1000));
-    assert_eq!(rt; run.call(&Call::Read { fd: 4, count: 9 }, heap)?, got(heap, b"")?);
-    assert_eq!(rt; run.call(&Call::Close { fd: 3 }, heap)?, Reply::Num(0));
-    assert_eq!(rt; run.call(&Call::Exit, heap)?, Reply::Num(0));
+    run.expect(&rt, creat(heap, b"/f", 0o644), Some(3), Reply::Num(3));
+    run.expect(&rt, write(heap, 3, b"hi"), None, Reply::Num(2));
+    run.expect(&rt, open(heap, b"/f"), None, Reply::Num(4));
+    run.expect_bytes(&rt, 4, 9, b"hi");
+    run.expect_bytes(&rt, 4, 9, b"");
+    run.expect(
+        &rt,
+        Ok(Call::Lseek {
+            fd: 4,
+            offset: 1000,
+            whence: Whence::Start,
+        }),
+        None,
+        Reply::Num(1000),
+    );
+    run.expect_bytes(&rt, 4, 9, b"");
+    run.expect(&rt, Ok(Call::Close { fd: 3 }), None, Reply::Num(0));
+    run.expect(&rt, Ok(Call::Exit), None, Reply::Num(0));
     Ok(())
 }
 
@@ -156,12 +218,26 @@ fn second_descriptor_reads_from_the_start(rt: HostRuntime) -> Result<(), Fail> {
 fn largest_offset_costs_five_blocks(rt: HostRuntime) -> Result<(), Fail> {
     let heap = rt.alloc();
     let mut run = Run::fresh(heap, &[SUPER])?;
-    assert_eq!(rt; run.next(0, &creat(heap, b"/f", 0o644)?, Some(3), heap)?, Reply::Num(3));
-    let last = Call::Lseek { fd: 3, offset: 1_082_201_087, whence: Whence::Start };
-    assert_eq!(rt; run.call(&last, heap)?, Reply::Num(1_082_201_087));
-    assert_eq!(rt; run.call(&write(heap, 3, b"x")?, heap)?, Reply::Num(1));
-    assert_eq!(rt; run.call(&write(heap, 3, b"y")?, heap)?, Reply::Refused(Errno::EFBIG));
-    assert_eq!(rt; run.call(&stat(heap, b"/f")?, heap)?, regular(3, 0o100644, 1_082_201_088, 1, 3));
+    let last = Call::Lseek {
+        fd: 3,
+        offset: 1_082_201_087,
+        whence: Whence::Start,
+    };
+    run.expect(&rt, creat(heap, b"/f", 0o644), Some(3), Reply::Num(3));
+    run.expect(&rt, Ok(last), None, Reply::Num(1_082_201_087));
+    run.expect(&rt, write(heap, 3, b"x"), None, Reply::Num(1));
+    run.expect(
+        &rt,
+        write(heap, 3, b"y"),
+        None,
+        Reply::Refused(Errno::EFBIG),
+    );
+    run.expect(
+        &rt,
+        stat(heap, b"/f"),
+        None,
+        regular(3, 0o100644, 1_082_201_088, 1, 3),
+    );
     assert_eq!(rt; cost(heap, &run.machine.tree.nodes, 16)?, 5);
     Ok(())
 }
@@ -169,16 +245,20 @@ fn largest_offset_costs_five_blocks(rt: HostRuntime) -> Result<(), Fail> {
 #[test]
 fn full_disk_is_refused_until_a_file_is_dropped(rt: HostRuntime) -> Result<(), Fail> {
     let heap = rt.alloc();
+    let bytes = [65; 48128].as_slice();
     let mut run = Run::fresh(heap, &[SUPER])?;
-    let a = write(heap, 3, &[65; 48128])?;
-    let b = write(heap, 4, &[66; 48128])?;
-    assert_eq!(rt; run.next(0, &creat(heap, b"/f", 0o644)?, Some(3), heap)?, Reply::Num(3));
-    assert_eq!(rt; run.call(&a, heap)?, Reply::Num(48128));
-    assert_eq!(rt; run.next(0, &creat(heap, b"/g", 0o644)?, Some(4), heap)?, Reply::Num(4));
-    assert_eq!(rt; run.call(&b, heap)?, Reply::Refused(Errno::ENOSPC));
-    assert_eq!(rt; run.call(&Call::Close { fd: 3 }, heap)?, Reply::Num(0));
-    assert_eq!(rt; run.call(&Call::Unlink { path: path(heap, b"/f")? }, heap)?, Reply::Num(0));
-    assert_eq!(rt; run.call(&b, heap)?, Reply::Num(48128));
+    run.expect(&rt, creat(heap, b"/f", 0o644), Some(3), Reply::Num(3));
+    run.expect(&rt, write(heap, 3, bytes), None, Reply::Num(48128));
+    run.expect(&rt, creat(heap, b"/g", 0o644), Some(4), Reply::Num(4));
+    run.expect(
+        &rt,
+        write(heap, 4, bytes),
+        None,
+        Reply::Refused(Errno::ENOSPC),
+    );
+    run.expect(&rt, Ok(Call::Close { fd: 3 }), None, Reply::Num(0));
+    run.expect(&rt, unlink(heap, b"/f"), None, Reply::Num(0));
+    run.expect(&rt, write(heap, 4, bytes), None, Reply::Num(48128));
     assert_eq!(rt; cost(heap, &run.machine.tree.nodes, 16)?, 96);
     Ok(())
 }
@@ -187,13 +267,13 @@ fn full_disk_is_refused_until_a_file_is_dropped(rt: HostRuntime) -> Result<(), F
 fn freed_inode_is_used_again(rt: HostRuntime) -> Result<(), Fail> {
     let heap = rt.alloc();
     let mut run = Run::fresh(heap, &[SUPER])?;
-    assert_eq!(rt; run.next(0, &creat(heap, b"/x", 0o644)?, Some(3), heap)?, Reply::Num(3));
-    assert_eq!(rt; run.next(0, &creat(heap, b"/y", 0o644)?, Some(4), heap)?, Reply::Num(4));
-    assert_eq!(rt; run.call(&Call::Close { fd: 3 }, heap)?, Reply::Num(0));
-    assert_eq!(rt; run.call(&Call::Unlink { path: path(heap, b"/x")? }, heap)?, Reply::Num(0));
-    assert_eq!(rt; run.next(0, &creat(heap, b"/z", 0o600)?, Some(3), heap)?, Reply::Num(3));
-    assert_eq!(rt; run.call(&stat(heap, b"/y")?, heap)?, regular(4, 0o100644, 0, 2, 2));
-    assert_eq!(rt; run.call(&stat(heap, b"/z")?, heap)?, regular(3, 0o100600, 0, 5, 5));
+    run.expect(&rt, creat(heap, b"/x", 0o644), Some(3), Reply::Num(3));
+    run.expect(&rt, creat(heap, b"/y", 0o644), Some(4), Reply::Num(4));
+    run.expect(&rt, Ok(Call::Close { fd: 3 }), None, Reply::Num(0));
+    run.expect(&rt, unlink(heap, b"/x"), None, Reply::Num(0));
+    run.expect(&rt, creat(heap, b"/z", 0o600), Some(3), Reply::Num(3));
+    run.expect(&rt, stat(heap, b"/y"), None, regular(4, 0o100644, 0, 2, 2));
+    run.expect(&rt, stat(heap, b"/z"), None, regular(3, 0o100600, 0, 5, 5));
     Ok(())
 }
 
@@ -201,63 +281,94 @@ fn freed_inode_is_used_again(rt: HostRuntime) -> Result<(), Fail> {
 fn unlinked_file_is_read_while_it_is_open(rt: HostRuntime) -> Result<(), Fail> {
     let heap = rt.alloc();
     let mut run = Run::fresh(heap, &[SUPER])?;
-    assert_eq!(rt; run.next(0, &creat(heap, b"/f", 0o644)?, Some(3), heap)?, Reply::Num(3));
-    assert_eq!(rt; run.call(&open(heap, b"/f")?, heap)?, Reply::Num(4));
-    assert_eq!(rt; run.call(&Call::Unlink { path: path(heap, b"/f")? }, heap)?, Reply::Num(0));
-    assert_eq!(rt; run.call(&write(heap, 3, b"lost")?, heap)?, Reply::Num(4));
-    assert_eq!(rt; run.call(&Call::Read { fd: 4, count: 8 }, heap)?, got(heap, b"lost")?);
-    assert_eq!(rt; run.call(&Call::Close { fd: 3 }, heap)?, Reply::Num(0));
-    assert_eq!(rt; run.call(&Call::Close { fd: 4 }, heap)?, Reply::Num(0));
-    assert_eq!(rt; run.next(0, &creat(heap, b"/g", 0o644)?, Some(3), heap)?, Reply::Num(3));
-    assert_eq!(rt; run.call(&Call::Fstat { fd: 3 }, heap)?, regular(3, 0o100644, 0, 8, 8));
+    run.expect(&rt, creat(heap, b"/f", 0o644), Some(3), Reply::Num(3));
+    run.expect(&rt, open(heap, b"/f"), None, Reply::Num(4));
+    run.expect(&rt, unlink(heap, b"/f"), None, Reply::Num(0));
+    run.expect(&rt, write(heap, 3, b"lost"), None, Reply::Num(4));
+    run.expect_bytes(&rt, 4, 8, b"lost");
+    run.expect(&rt, Ok(Call::Close { fd: 3 }), None, Reply::Num(0));
+    run.expect(&rt, Ok(Call::Close { fd: 4 }), None, Reply::Num(0));
+    run.expect(&rt, creat(heap, b"/g", 0o644), Some(3), Reply::Num(3));
+    run.expect(
+        &rt,
+        Ok(Call::Fstat { fd: 3 }),
+        None,
+        regular(3, 0o100644, 0, 8, 8),
+    );
     Ok(())
-}
-
-fn mkdir(alloc: Global, text: &[u8]) -> Result<Call, AllocError>
-    requires { IsPath text.now }
-{
-    Ok(Call::Mkdir { path: path(alloc, text)?, mode: 0o755 })
-}
-
-fn rmdir(alloc: Global, text: &[u8]) -> Result<Call, AllocError>
-    requires { IsPath text.now }
-{
-    Ok(Call::Rmdir { path: path(alloc, text)? })
 }
 
 #[test]
 fn directories_are_refused_where_they_are_in_use(rt: HostRuntime) -> Result<(), Fail> {
     let heap = rt.alloc();
     let mut run = Run::fresh(heap, &[SUPER])?;
-    assert_eq!(rt; run.next(0, &creat(heap, b"/abcdefghijklmno", 0o644)?, Some(3), heap)?, Reply::Num(3));
-    assert_eq!(rt; run.call(&stat(heap, b"/abcdefghijklmn")?, heap)?, regular(3, 0o100644, 0, 1, 1));
-    assert_eq!(rt; run.next(0, &mkdir(heap, b"/d")?, Some(4), heap)?, Reply::Num(0));
-    assert_eq!(rt; run.next(0, &creat(heap, b"/d/k", 0o644)?, Some(5), heap)?, Reply::Num(4));
-    assert_eq!(rt; run.call(&rmdir(heap, b"/d")?, heap)?, Reply::Refused(Errno::EEXIST));
-    assert_eq!(rt; run.next(0, &mkdir(heap, b"/e")?, Some(6), heap)?, Reply::Num(0));
-    assert_eq!(rt; run.call(&Call::Chdir { path: path(heap, b"/e")? }, heap)?, Reply::Num(0));
-    assert_eq!(rt; run.call(&rmdir(heap, b"/e")?, heap)?, Reply::Refused(Errno::EBUSY));
-    assert_eq!(rt; run.call(&rmdir(heap, b"/abcdefghijklmn")?, heap)?, Reply::Refused(Errno::ENOTDIR));
-    assert_eq!(rt; run.call(&rmdir(heap, b"..")?, heap)?, Reply::Refused(Errno::EINVAL));
+    run.expect(
+        &rt,
+        creat(heap, b"/abcdefghijklmno", 0o644),
+        Some(3),
+        Reply::Num(3),
+    );
+    run.expect(
+        &rt,
+        stat(heap, b"/abcdefghijklmn"),
+        None,
+        regular(3, 0o100644, 0, 1, 1),
+    );
+    run.expect(&rt, mkdir(heap, b"/d"), Some(4), Reply::Num(0));
+    run.expect(&rt, creat(heap, b"/d/k", 0o644), Some(5), Reply::Num(4));
+    run.expect(&rt, rmdir(heap, b"/d"), None, Reply::Refused(Errno::EEXIST));
+    run.expect(&rt, mkdir(heap, b"/e"), Some(6), Reply::Num(0));
+    run.expect(&rt, chdir(heap, b"/e"), None, Reply::Num(0));
+    run.expect(&rt, rmdir(heap, b"/e"), None, Reply::Refused(Errno::EBUSY));
+    run.expect(
+        &rt,
+        rmdir(heap, b"/abcdefghijklmn"),
+        None,
+        Reply::Refused(Errno::ENOTDIR),
+    );
     Ok(())
 }
 
-fn access(alloc: Global, bits: u8) -> Result<Call, AllocError> {
-    Ok(Call::Access { path: path(alloc, b"/f")?, bits })
+/// Whether a caller may do so with `/f`.
+fn can<R: Abort>(rt: &R, run: &mut Run, caller: u8, bits: u8) -> bool {
+    let call = match path(run.heap, b"/f") {
+        Ok(path) => Ok(Call::Access { path, bits }),
+        Err(error) => Err(error),
+    };
+    let reply = run.reply(caller, call, None);
+    let refused = reply == Some(Reply::Refused(Errno::EACCES));
+    assert!(rt;
+        refused || reply == Some(Reply::Num(0)),
+        "caller {caller} and bits {bits}"
+    );
+    !refused
 }
 
 #[test]
 fn permission_tests_one_class_alone(rt: HostRuntime) -> Result<(), Fail> {
     let heap = rt.alloc();
-    let owner = Cred { uid: 7, gid: 8 };
-    let mut run = Run::fresh(heap, &[owner, Cred { uid: 9, gid: 8 }, Cred { uid: 9, gid: 9 }, SUPER])?;
-    assert_eq!(rt; run.next(0, &creat(heap, b"/f", 0o421)?, Some(3), heap)?, Reply::Num(3));
-    let refused = Reply::Refused(Errno::EACCES);
-    for (caller, bits) in [(0, 4), (1, 2), (2, 1), (3, 7)] {
-        assert_eq!(rt; run.next(caller, &access(heap, bits)?, None, heap)?, Reply::Num(0));
-    }
-    for (caller, bits) in [(0, 2), (0, 1), (1, 4), (1, 1), (2, 4), (2, 2)] {
-        assert_eq!(rt; run.next(caller, &access(heap, bits)?, None, heap)?, refused);
+    let callers = [
+        Cred { uid: 7, gid: 8 },
+        Cred { uid: 9, gid: 8 },
+        Cred { uid: 9, gid: 9 },
+        SUPER,
+    ];
+    let mut run = Run::fresh(heap, &callers)?;
+    run.expect(&rt, creat(heap, b"/f", 0o421), Some(3), Reply::Num(3));
+    for (caller, bits, want) in [
+        (0, 4, true),
+        (0, 2, false),
+        (1, 2, true),
+        (1, 4, false),
+        (2, 1, true),
+        (2, 2, false),
+        (3, 7, true),
+    ] {
+        assert_eq!(rt;
+            can(&rt, &mut run, caller, bits),
+            want,
+            "caller {caller} and bits {bits}"
+        );
     }
     Ok(())
 }
@@ -266,21 +377,29 @@ fn permission_tests_one_class_alone(rt: HostRuntime) -> Result<(), Fail> {
 fn eighteenth_descriptor_is_refused(rt: HostRuntime) -> Result<(), Fail> {
     let heap = rt.alloc();
     let mut run = Run::fresh(heap, &[SUPER])?;
-    let root = open(heap, b"/")?;
     for fd in 3..20 {
-        assert_eq!(rt; run.call(&root, heap)?, Reply::Num(fd));
+        run.expect(&rt, open(heap, b"/"), None, Reply::Num(fd));
     }
-    assert_eq!(rt; run.call(&root, heap)?, Reply::Refused(Errno::EMFILE));
-    assert_eq!(rt; run.call(&Call::Dup { fd: 5 }, heap)?, Reply::Refused(Errno::EMFILE));
-    assert_eq!(rt; run.call(&Call::Close { fd: 7 }, heap)?, Reply::Num(0));
-    assert_eq!(rt; run.call(&Call::Dup { fd: 5 }, heap)?, Reply::Num(7));
+    run.expect(&rt, open(heap, b"/"), None, Reply::Refused(Errno::EMFILE));
+    run.expect(&rt, Ok(Call::Close { fd: 7 }), None, Reply::Num(0));
+    run.expect(&rt, Ok(Call::Dup { fd: 5 }), None, Reply::Num(7));
     Ok(())
 }
 
 #[test]
 fn index_blocks_begin_past_the_direct_parts(rt: HostRuntime) -> Result<(), Fail> {
     let heap = rt.alloc();
-    for (parts, want) in [(0, 0), (10, 10), (11, 12), (138, 139), (139, 142), (266, 269), (267, 271), (16522, 16652), (16523, 16656)] {
+    for (parts, want) in [
+        (0, 0),
+        (10, 10),
+        (11, 12),
+        (138, 139),
+        (139, 142),
+        (266, 269),
+        (267, 271),
+        (16522, 16652),
+        (16523, 16656),
+    ] {
         assert_eq!(rt; blocks(&first_parts(heap, parts)?), want, "at {parts}");
     }
     Ok(())
