@@ -1,5 +1,5 @@
 -- What holds of every value that an answer can give, line by line.
-use Rattle.std.proofs.Common.{◌≡◌, sym, subst, refl, Ok, Err}
+use Rattle.std.proofs.Common.{◌≡◌, subst, refl, Ok, Err}
 use Rattle.mb_kinds.specs.declared.errors.Errno.{Errno}
 use Rattle.mb_tree.specs.Answers.{Answer, ◌>>=◌, ◌>>◌}
 

@@ -1,24 +1,21 @@
 -- What the step does to the number of blocks that files hold.
-use Rattle.std.proofs.Common.{◌≡◌, ◌≢◌, inl, inr, ℕ, zero, suc, ◌+◌, ◌<◌, ◌≤◌, Bool, true, false, cond, not, ◌&&◌, if◌then◌else◌, List, [], ◌∷◌, length, refl, sym, ap, subst, ◌∙◌, arith, Option, Some, None, Ok, Err, option_map, unwrap_or, nat_le, nat_lt, nat_eq, map}
-use Rattle.std.specs.Prelude.{position, slice_set, slice_get}
+use Rattle.std.proofs.Common.{◌≡◌, inl, inr, ℕ, zero, suc, ◌+◌, ◌≤◌, Bool, true, false, cond, if◌then◌else◌, List, length, refl, sym, ap, subst, ◌∙◌, arith, Option, Some, None, Ok, Err, option_map, unwrap_or, nat_le, nat_lt, map}
+use Rattle.std.specs.Prelude.{position, slice_set}
 use Rattle.std.specs.FinMap as fin
 use Rattle.std.specs.FinMap.{get-retain_keys, nat_cmp-IsAntisymmetric}
-use Rattle.std.specs.List.{list_any}
 use Rattle.std.specs.Ordering.{nat_cmp}
 use Rattle.std.proofs.lemmas.Bool.Decides.{nat_tests}
 use Rattle.std.proofs.lemmas.List.{length-set}
-use Rattle.mb_kinds.specs.declared.calls.Call.{Call}
 use Rattle.mb_kinds.specs.declared.replies.Reply.{Reply}
-use Rattle.mb_kinds.specs.declared.errors.Errno.{Errno}
 use Rattle.mb_kinds.specs.declared.errors.Errno.TheVariants.{ENOSPC, EMLINK, EFBIG}
-use Rattle.mb_tree.specs.Answers.{Answer, ◌>>=◌, ◌>>◌, need, some}
+use Rattle.mb_tree.specs.Answers.{Answer, ◌>>◌, need, some}
 use Rattle.mb_tree.specs.Maps.{Numbered, changed_at}
 use Rattle.mb_tree.specs.Counting.{sum_below}
 use Rattle.mb_tree.specs.Lookup.{is_named, number_in}
 use Rattle.mb_tree.specs.Sessions.{Counts, counts}
-use Rattle.mb_tree.specs.Cost.{cost, cost_at, body_cost, index_blocks, parts_of, first_parts, parts_for}
-use Rattle.mb_tree.specs.Effect.{Held, unlinked, emptied, on_slots, without_name, without_link, cleared, blanked, with_mode, with_owner, with_times, fitting, is_lost, less_name, less_open, release, create, make_dir, remove_dir, enlink, delink, put, on_node, tree_after, nlink_in, opens_after}
-use Rattle.mb_tree.specs.Step.{effect_of, serve, step, or_refused}
+use Rattle.mb_tree.specs.Cost.{cost, cost_at, body_cost, index_blocks, first_parts, parts_for}
+use Rattle.mb_tree.specs.Effect.{Held, unlinked, emptied, on_slots, without_name, without_link, cleared, blanked, with_mode, with_owner, with_times, fitting, is_lost, less_name, remove_dir, delink, tree_after, nlink_in, opens_after}
+use Rattle.mb_tree.specs.Step.{effect_of, serve, or_refused}
 use Rattle.mb_tree.specs.Laws.{CostKept}
 use Rattle.mb_tree.specs.declared.nodes.PlainSlot.{PlainSlot}
 use Rattle.mb_tree.specs.declared.nodes.Node.{Node}

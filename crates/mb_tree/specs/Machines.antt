@@ -1,8 +1,8 @@
 -- Which machines are valid: a sound tree, and sessions that fit it.
-use Rattle.std.specs.Prelude.{List, ℕ, ◌≤◌, ◌≡◌, ◌⊎◌, true, Option, Some, None, slice_get}
+use Rattle.std.specs.Prelude.{ℕ, ◌≤◌, ◌≡◌, true, Some, None, slice_get}
 use Rattle.mb_kinds.specs.declared.calls.How.{How}
 use Rattle.mb_tree.specs.declared.seats.SessionChange.{SessionChange}
-use Rattle.mb_tree.specs.declared.seats.SessionChange.TheVariants.{Same, Fresh, Twin, Free, Move, Cwd, Mask, Clear}
+use Rattle.mb_tree.specs.declared.seats.SessionChange.TheVariants.{Fresh, Twin, Cwd}
 use Rattle.std.specs.FinMap as fin
 use Rattle.mb_tree.specs.Maps.{Numbered}
 use Rattle.mb_tree.specs.Sessions.{writes}

@@ -26,7 +26,8 @@ mod trees;
 
 pub use laws::{
     after_appends, cost_kept, legal_appends, legal_grows, legal_splits, refused_stays,
-    served_by_effect, session_kept};
+    served_by_effect, session_kept,
+};
 pub use lookups::Placed;
 pub use machines::Machine;
 pub use maps::Map;
