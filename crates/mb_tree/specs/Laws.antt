@@ -1,5 +1,5 @@
 -- Laws of the step and of histories, each the contract of a function without a body.
-use Rattle.std.specs.Prelude.{List, [], ◌∷◌, ◌++◌, ℕ, ◌≡◌, ◌≤◌, ◌<◌, Option, Ok}
+use Rattle.std.specs.Prelude.{List, [], ◌∷◌, ◌++◌, ℕ, ◌≡◌, ◌≤◌, ◌<◌, Option, Ok, Some, None}
 use Rattle.std.specs.List.{AllByRecursion}
 use Rattle.mb_kinds.specs.declared.calls.Call.{Call}
 use Rattle.mb_kinds.specs.declared.entries.Entry.{Entry}
@@ -15,6 +15,10 @@ use Rattle.mb_tree.specs.declared.seats.SessionChange.{SessionChange}
 use Rattle.mb_tree.specs.Effect.{Held}
 use Rattle.mb_tree.specs.Rows.{plan}
 use Rattle.mb_tree.specs.Step.{effect_of, serve, step}
+use Rattle.std.specs.FinMap as fin
+use Rattle.mb_tree.specs.Inodes.{slots_of}
+use Rattle.mb_tree.specs.Trees.{HasKind, HasSize, IsSound}
+use Rattle.mb_tree.specs.declared.trees.Tree.{Tree}
 use Rattle.mb_tree.specs.Cost.{cost}
 use Rattle.mb_tree.specs.History.{after, Runs, Follows, Legal}
 use Rattle.mb_tree.specs.declared.machines.Machine.{Machine}
@@ -65,3 +69,21 @@ CostKept = (machine : Machine) (caller : ℕ) (call : Call) (moment : ℕ) (pick
 -- a session change that fits keeps a session valid
 abbrev pub SessionKept : Type 0
 SessionKept = (nodes : Numbered Node) (seat : Seat) (change : SessionChange) → IsSeated nodes seat → FitsSession nodes seat change → IsSeated nodes (changed seat change)
+
+-- an inode as another one was, but for its attributes and the bytes of a file
+pub record IsAlike (old new : Node) : Type 0 where
+  pub nlink : new.nlink ≡ old.nlink
+  pub slots : slots_of new.body ≡ slots_of old.body
+  pub kind : HasKind new.mode new.body
+  pub size : HasSize new.body
+
+abbrev pub AreAlike : Option Node → Option Node → Type 0
+AreAlike None None = Unit {0}
+AreAlike None (Some new) = ⊥
+AreAlike (Some old) None = ⊥
+AreAlike (Some old) (Some new) = IsAlike old new
+
+-- a tree stays sound where each inode keeps its slots and its link count, and there is room
+abbrev pub AlikeKept : Type 0
+AlikeKept = (tree : Tree) (nodes : Numbered Node) → IsSound tree → ((ino : ℕ) → AreAlike (fin.get tree.nodes ino) (fin.get nodes ino))
+    → cost (record tree { nodes = nodes }) ≤ tree.cap → IsSound (record tree { nodes = nodes })

@@ -1,4 +1,4 @@
-ghost use Rattle.mb_tree.specs.Laws.{AfterAppends, LegalSplits, LegalAppends, LegalGrows, RefusedStays, ServedByEffect, CostKept, SessionKept};
+ghost use Rattle.mb_tree.specs.Laws.{AfterAppends, LegalSplits, LegalAppends, LegalGrows, RefusedStays, ServedByEffect, CostKept, SessionKept, AlikeKept};
 
 /// The machine after two histories in a row is the one after the second, from the one after the first.
 pub fn after_appends()
@@ -38,4 +38,9 @@ pub fn cost_kept()
 /// A session change that fits keeps a session valid.
 pub fn session_kept()
     ensures { SessionKept }
+{}
+
+/// A tree stays sound where each inode keeps its slots and its link count, and there is room.
+pub fn alike_kept()
+    ensures { AlikeKept }
 {}

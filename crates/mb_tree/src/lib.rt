@@ -1,6 +1,13 @@
 //! The reference model: a plain tree of named nodes and the callers' descriptor tables, stepped by one
 //! call at a time, without blocks, caches, logs or faults. It is the yardstick of all claims on the
 //! restartable file system.
+//!
+//! `Machine::step` makes exactly the step of `specs/Step.antt`: the plan of the call's row
+//! (`specs/Rows.antt`), the effect of its one operation (`specs/Effect.antt`), and its session change
+//! (`specs/Sessions.antt`). Want of memory is the only error and leaves the machine as it was.
+//! `specs/Lookup.antt` says where a path leads, `specs/Cost.antt` how many blocks a tree holds,
+//! `specs/Trees.antt` and `specs/Machines.antt` which trees are sound and which machines are valid,
+//! `specs/History.antt` which lists of entries are histories, and `specs/Laws.antt` what holds of them.
 #![tactic(auto)]
 
 mod changes;
@@ -25,12 +32,12 @@ mod tests;
 mod trees;
 
 pub use laws::{
-    after_appends, cost_kept, legal_appends, legal_grows, legal_splits, refused_stays,
+    after_appends, alike_kept, cost_kept, legal_appends, legal_grows, legal_splits, refused_stays,
     served_by_effect, session_kept,
 };
 pub use lookups::Placed;
 pub use machines::Machine;
-pub use maps::Map;
+pub use maps::{Copied, Map};
 pub use nodes::{Body, Node, Nodes, Parts, PlainSlot, PlainSlots};
 pub use operations::{FsOp, Inos};
 pub use plans::Plan;
