@@ -16,6 +16,10 @@ pub bind_ok : {A B : Type 0} (r : Answer A) (f : A → Answer B) (y : B) → (r 
 bind_ok (Ok x) f y h = (x, refl, h)
 bind_ok (Err e) f y h = cc
 
+pub then_ok : {A B : Type 0} (r : Answer A) (s : Answer B) (y : B) → (r >> s) ≡ Ok y → (x : A) × (r ≡ Ok x) × (s ≡ Ok y)
+then_ok (Ok x) s y h = (x, refl, h)
+then_ok (Err e) s y h = cc
+
 module _ {B : Type 0} (P : B → Type 0) where
   pub always_ok : (x : B) → P x → Always P (Ok x)
   always_ok x h = record { holds = λ y e. subst P (same_ok x y e) h }

@@ -103,7 +103,7 @@ cleared_cost (Special size area) = omega arith
 
 -- ---- operations
 
-abbrev Keeps : Tree → Tree → Type 0
+abbrev pub Keeps : Tree → Tree → Type 0
 Keeps tree next = (cost next ≤ tree.cap) × (next.cap ≡ tree.cap)
 
 fitted : (tree : Tree) (nodes : Numbered Node) → Always (Keeps tree) (fitting tree nodes)
@@ -134,7 +134,7 @@ module _ (tree : Tree) (sound : cost tree ≤ tree.cap) where
   delinked opens dir name moment None = same_tree
   delinked opens dir name moment (Some ino) = cheaper _ (cheaper_trans _ (changed_at tree.nodes dir (without_name moment name)) tree.nodes (lost _ opens moment ino) (cheaper_changed tree.nodes dir (without_name moment name) (λ x. emptied_cost name x.body)))
 
-  after_op : (opens : Counts) (made : FsOp) (pick : Option ℕ) → Always (Keeps tree) (tree_after tree opens made pick)
+  pub after_op : (opens : Counts) (made : FsOp) (pick : Option ℕ) → Always (Keeps tree) (tree_after tree opens made pick)
   after_op opens (op.Create dir name mode uid gid moment) pick = always_bind (Keeps tree) (some pick ENOSPC) _ (λ ino. fitted tree _)
   after_op opens (op.Empty ino moment) pick = cheaper _ (cheaper_changed tree.nodes ino (blanked moment) (λ x. cleared_cost x.body))
   after_op opens (op.MakeDir dir name mode uid gid moment) pick = always_then (Keeps tree) (need (nat_lt (nlink_in tree.nodes dir) 32767) EMLINK) _ (always_bind (Keeps tree) (some pick ENOSPC) _ (λ ino. fitted tree _))

@@ -9,6 +9,7 @@ pub mod Groups
 pub mod Histories
 pub mod MapCopies
 pub mod Padding
+pub mod Quiet
 pub mod Released
 pub mod Rows
 pub mod Searches

@@ -7,12 +7,14 @@ use Rattle.mb_kinds.specs.declared.replies.Reply.{Reply}
 use Rattle.mb_kinds.specs.declared.replies.Reply.TheVariants.{Refused}
 use Rattle.mb_kinds.specs.declared.errors.Errno.{Errno}
 use Rattle.mb_tree.specs.Maps.{Numbered}
-use Rattle.mb_tree.specs.Sessions.{counts, with_change, changed}
+use Rattle.mb_tree.specs.Sessions.{Counts, counts, with_change, changed}
 use Rattle.mb_tree.specs.Machines.{IsSeated, FitsSession}
 use Rattle.mb_tree.specs.declared.nodes.Node.{Node}
 use Rattle.mb_tree.specs.declared.seats.Seat.{Seat}
 use Rattle.mb_tree.specs.declared.seats.SessionChange.{SessionChange}
-use Rattle.mb_tree.specs.Effect.{Held}
+use Rattle.mb_tree.specs.Effect.{Held, tree_after}
+use Rattle.mb_tree.specs.declared.operations.FsOp.{FsOp}
+use Rattle.mb_tree.specs.declared.operations.FsOp.TheVariants.{Empty, Put, SetOwner, SetTimes, Hold}
 use Rattle.mb_tree.specs.Rows.{plan}
 use Rattle.mb_tree.specs.Step.{effect_of, serve, step}
 use Rattle.std.specs.FinMap as fin
@@ -87,3 +89,17 @@ AreAlike (Some old) (Some new) = IsAlike old new
 abbrev pub AlikeKept : Type 0
 AlikeKept = (tree : Tree) (nodes : Numbered Node) → IsSound tree → ((ino : ℕ) → AreAlike (fin.get tree.nodes ino) (fin.get nodes ino))
     → cost (record tree { nodes = nodes }) ≤ tree.cap → IsSound (record tree { nodes = nodes })
+
+-- the operations that touch bytes, owners or times alone
+abbrev pub IsQuiet : FsOp → Type 0
+IsQuiet (Empty ino moment) = Unit {0}
+IsQuiet (Put ino offset bytes moment) = Unit {0}
+IsQuiet (SetOwner ino uid gid moment) = Unit {0}
+IsQuiet (SetTimes ino atime mtime moment) = Unit {0}
+IsQuiet (Hold ino) = Unit {0}
+IsQuiet _ = ⊥
+
+-- they keep a sound tree sound
+abbrev pub QuietKept : Type 0
+QuietKept = (tree : Tree) (opens : Counts) (made : FsOp) (pick : Option ℕ) (next : Tree) → IsSound tree → IsQuiet made
+    → tree_after tree opens made pick ≡ Ok next → IsSound next

@@ -1,4 +1,4 @@
-ghost use Rattle.mb_tree.specs.Laws.{AfterAppends, LegalSplits, LegalAppends, LegalGrows, RefusedStays, ServedByEffect, CostKept, SessionKept, AlikeKept};
+ghost use Rattle.mb_tree.specs.Laws.{AfterAppends, LegalSplits, LegalAppends, LegalGrows, RefusedStays, ServedByEffect, CostKept, SessionKept, AlikeKept, QuietKept};
 
 /// The machine after two histories in a row is the one after the second, from the one after the first.
 pub fn after_appends()
@@ -43,4 +43,9 @@ pub fn session_kept()
 /// A tree stays sound where each inode keeps its slots and its link count, and there is room.
 pub fn alike_kept()
     ensures { AlikeKept }
+{}
+
+/// An operation that touches bytes, owners or times alone keeps a sound tree sound.
+pub fn quiet_kept()
+    ensures { QuietKept }
 {}

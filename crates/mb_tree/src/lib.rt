@@ -32,7 +32,7 @@ mod tests;
 mod trees;
 
 pub use laws::{
-    after_appends, alike_kept, cost_kept, legal_appends, legal_grows, legal_splits, refused_stays,
+    after_appends, alike_kept, cost_kept, legal_appends, legal_grows, legal_splits, quiet_kept, refused_stays,
     served_by_effect, session_kept,
 };
 pub use lookups::Placed;
