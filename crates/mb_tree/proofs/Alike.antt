@@ -1,12 +1,12 @@
 -- A tree whose inodes keep their slots and their link counts stays sound.
 use Rattle.std.proofs.Common.{◌≡◌, ℕ, ◌+◌, ◌≤◌, List, Option, Some, None, option_map, unwrap_or, refl, sym, ap, subst, ◌∙◌}
-use Rattle.std.specs.Prelude.{count_by, drop, slice_get}
+use Rattle.std.specs.Prelude.{count_by, drop}
 use Rattle.std.specs.FinMap as fin
 use Rattle.mb_tree.specs.Maps.{Numbered}
 use Rattle.mb_tree.specs.Counting.{sum_below}
 use Rattle.mb_tree.specs.Inodes.{slots_of}
 use Rattle.mb_tree.specs.Cost.{cost}
-use Rattle.mb_tree.specs.Trees.{IsThere, AreSlots, links_from, late_links_from, links_at, late_links_at, links, late_links, leads_to, Leads, Reached, HasParent, IsRoot, IsSound}
+use Rattle.mb_tree.specs.Trees.{IsThere, AreSlots, links_from, late_links_from, links_at, late_links_at, links, late_links, leads_to, Leads, Reached, IsRoot, IsSound}
 use Rattle.mb_tree.specs.Trees.Reached.{root, down}
 use Rattle.mb_tree.specs.Laws.{IsAlike, AreAlike, AlikeKept}
 use Rattle.mb_tree.specs.declared.nodes.PlainSlot.{PlainSlot}
@@ -103,9 +103,9 @@ module _ (tree : Tree) (nodes : Numbered Node) (sound : IsSound tree) (alike : (
     root = root_kept;
     slots = λ ino y slots has body. let x = before _ _ y (alike ino) has in slots_kept ino slots (sound.slots ino x.0 slots x.1 (was_directory ino y slots x.0 x.2 body));
     parents = λ ino y slots has body other.
-      let x = before _ _ y (alike ino) has in
-      let old = sound.parents ino x.0 slots x.1 (was_directory ino y slots x.0 x.2 body) other in
-      record { one = same_late ino ∙ old.one; parent = old.parent; at = old.at; upward = old.upward; entry = leads old.parent old.at ino old.entry; reached = reached ino old.reached };
+        let x = before _ _ y (alike ino) has in
+        let old = sound.parents ino x.0 slots x.1 (was_directory ino y slots x.0 x.2 body) other in
+        record { one = same_late ino ∙ old.one; parent = old.parent; at = old.at; upward = old.upward; entry = leads old.parent old.at ino old.entry; reached = reached ino old.reached };
     counted = λ ino y has other. let x = before _ _ y (alike ino) has in x.2.nlink ∙ sound.counted ino x.0 x.1 other ∙ sym (same_links ino);
     few = λ ino y has other. let x = before _ _ y (alike ino) has in subst (λ n. n ≤ 32767) (sym x.2.nlink) (sound.few ino x.0 x.1 other);
     room = room;

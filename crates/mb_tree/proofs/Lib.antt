@@ -4,6 +4,7 @@ pub mod Arms
 pub mod CellMaps
 pub mod Changed
 pub mod Cheaper
+pub mod Dropped
 pub mod FiniteMaps
 pub mod Groups
 pub mod Histories

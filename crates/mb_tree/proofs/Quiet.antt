@@ -1,17 +1,15 @@
 -- The operations that touch bytes, owners or times alone keep a sound tree sound.
-use Rattle.std.proofs.Common.{◌≡◌, ◌≢◌, inl, inr, ℕ, ◌+◌, ◌*◌, ◌/◌, ◌<◌, ◌≤◌, max, Bool, true, false, List, [], ◌∷◌, length, Option, Some, None, Ok, option_map, unwrap_or, nat_le, refl, sym, ap, subst, ◌∙◌, arith}
+use Rattle.std.proofs.Common.{◌≡◌, inl, inr, ℕ, ◌+◌, ◌/◌, ◌<◌, ◌≤◌, max, true, false, List, [], ◌∷◌, length, Option, Some, None, Ok, option_map, unwrap_or, nat_le, refl, sym, ap, subst, ◌∙◌, arith}
 use Rattle.std.proofs.lemmas.Bool.Decides.{nat_tests}
-use Rattle.std.specs.Prelude.{slice_set}
 use Rattle.std.specs.FinMap as fin
 use Rattle.std.specs.FinMap.{get-empty}
 use Rattle.std.specs.Ordering.{nat_cmp}
 use Rattle.mb_kinds.specs.declared.errors.Errno.TheVariants.{ENOSPC, EFBIG}
-use Rattle.mb_tree.specs.Answers.{Answer, ◌>>=◌, ◌>>◌, need}
+use Rattle.mb_tree.specs.Answers.{need}
 use Rattle.mb_tree.specs.Maps.{Numbered, changed_at}
-use Rattle.mb_tree.specs.Inodes.{slots_of, part_at}
-use Rattle.mb_tree.specs.Sessions.{Counts}
+use Rattle.mb_tree.specs.Inodes.{slots_of}
 use Rattle.mb_tree.specs.Cost.{cost, most_parts}
-use Rattle.mb_tree.specs.Effect.{cleared, written, blanked, wrote, with_owner, with_times, put_byte, put_bytes, fitting, tree_after}
+use Rattle.mb_tree.specs.Effect.{cleared, written, blanked, wrote, with_owner, with_times, put_byte, put_bytes, fitting}
 use Rattle.mb_tree.specs.Trees.{HasKind, HasSize, IsSound}
 use Rattle.mb_tree.specs.Laws.{IsAlike, AreAlike, QuietKept}
 use Rattle.mb_tree.specs.declared.nodes.Node.{Node}
@@ -31,9 +29,9 @@ ArePartsBelow parts = (part : ℕ) (bytes : List ℕ) → fin.get parts part ≡
 
 put_below : (parts : Numbered (List ℕ)) (index byte : ℕ) → index < 1082201088 → ArePartsBelow parts → ArePartsBelow (put_byte parts index byte)
 put_below parts index byte h below part bytes has = elim (one_or_not part (index / 512)) [
-    | inl is ↦ omega (arith, is)
-    | inr apart ↦ below part bytes (sym (get_there parts (index / 512) _ part apart) ∙ has)
-  ]
+  | inl is ↦ omega (arith, is)
+  | inr apart ↦ below part bytes (sym (get_there parts (index / 512) _ part apart) ∙ has)
+]
 
 puts_below : (parts : Numbered (List ℕ)) (index : ℕ) (bytes : List ℕ) → index + length bytes ≤ 1082201088 → ArePartsBelow parts → ArePartsBelow (put_bytes parts index bytes)
 puts_below parts index [] h below = below
@@ -84,29 +82,29 @@ module _ (tree : Tree) (sound : IsSound tree) where
       elim (fin.get tree.nodes ino) as (λ (o : Option Node). fin.get tree.nodes ino ≡ o → AreAlike (fin.get tree.nodes q) (fin.get (unwrap_or (option_map (λ x. fin.insert tree.nodes ino (f x)) o) tree.nodes) q)) [
         | None ↦ λ e. itself q (fin.get tree.nodes q) refl
         | Some x ↦ λ e. elim (one_or_not q ino) [
-            | inl is ↦ subst (λ (o : Option Node). AreAlike (fin.get tree.nodes q) o) (sym (ap (fin.get (fin.insert tree.nodes ino (f x))) is ∙ get_here tree.nodes ino (f x)))
-                (subst (λ (o : Option Node). AreAlike o (Some (f x))) (sym (ap (fin.get tree.nodes) is ∙ e)) (each x e))
-            | inr apart ↦ subst (λ (o : Option Node). AreAlike (fin.get tree.nodes q) o) (sym (get_there tree.nodes ino (f x) q apart)) (itself q (fin.get tree.nodes q) refl)
-          ]
+          | inl is ↦ subst (λ (o : Option Node). AreAlike (fin.get tree.nodes q) o) (sym (ap (fin.get (fin.insert tree.nodes ino (f x))) is ∙ get_here tree.nodes ino (f x)))
+              (subst (λ (o : Option Node). AreAlike o (Some (f x))) (sym (ap (fin.get tree.nodes) is ∙ e)) (each x e))
+          | inr apart ↦ subst (λ (o : Option Node). AreAlike (fin.get tree.nodes q) o) (sym (get_there tree.nodes ino (f x) q apart)) (itself q (fin.get tree.nodes q) refl)
+        ]
       ] refl
 
   -- the node changed, where the files still fit
   on_one : (ino : ℕ) (f : Node → Node) → ((x : Node) → fin.get tree.nodes ino ≡ Some x → IsAlike x (f x))
-    → cost (record tree { nodes = changed_at tree.nodes ino f }) ≤ tree.cap → IsSound (record tree { nodes = changed_at tree.nodes ino f })
+      → cost (record tree { nodes = changed_at tree.nodes ino f }) ≤ tree.cap → IsSound (record tree { nodes = changed_at tree.nodes ino f })
   on_one ino f each room = alike_kept tree (changed_at tree.nodes ino f) sound (changed ino f each) room
 
 limit_of : (offset n : ℕ) (u : Unit {0}) → need (nat_le (offset + n) 1082201088) EFBIG ≡ Ok u → offset + n ≤ 1082201088
 limit_of offset n u h = elim (nat_le (offset + n) 1082201088) as (λ b. nat_le (offset + n) 1082201088 ≡ b → need b EFBIG ≡ Ok u → offset + n ≤ 1082201088) [
-    | true ↦ λ e s. grind (arith, nat_tests)
-    | false ↦ λ e s. cc
-  ] refl h
+  | true ↦ λ e s. grind (arith, nat_tests)
+  | false ↦ λ e s. cc
+] refl h
 
 pub quiet_kept : QuietKept
 quiet_kept tree opens (Empty ino moment) pick next sound quiet h =
     let room = (after_op tree sound.room opens (Empty ino moment) pick).holds next h in
     let e = same_ok {A = Tree} (record tree { nodes = changed_at tree.nodes ino (blanked moment) }) next h in
     subst IsSound e (on_one tree sound ino (blanked moment) (λ x has. record { nlink = refl; slots = slots_cleared x.body; kind = kind_cleared x.mode x.body (sound.kinds ino x has); size = size_cleared x.body (sound.sizes ino x has) })
-      (subst (λ (t : Tree). cost t ≤ tree.cap) (sym e) room.0))
+    (subst (λ (t : Tree). cost t ≤ tree.cap) (sym e) room.0))
 quiet_kept tree opens (Put ino offset bytes moment) pick next sound quiet h =
     let room = (after_op tree sound.room opens (Put ino offset bytes moment) pick).holds next h in
     let one = then_ok (need (nat_le (offset + length bytes) 1082201088) EFBIG) (fitting tree (changed_at tree.nodes ino (wrote moment offset bytes))) next h in
@@ -114,16 +112,16 @@ quiet_kept tree opens (Put ino offset bytes moment) pick next sound quiet h =
     let e = same_ok {A = Tree} (record tree { nodes = changed_at tree.nodes ino (wrote moment offset bytes) }) next two.2 in
     let limit = limit_of offset (length bytes) one.0 one.1 in
     subst IsSound e (on_one tree sound ino (wrote moment offset bytes) (λ x has. record { nlink = refl; slots = slots_written offset bytes x.body; kind = kind_written x.mode offset bytes x.body (sound.kinds ino x has); size = size_written offset bytes x.body limit (sound.sizes ino x has) })
-      (subst (λ (t : Tree). cost t ≤ tree.cap) (sym e) room.0))
+    (subst (λ (t : Tree). cost t ≤ tree.cap) (sym e) room.0))
 quiet_kept tree opens (SetOwner ino uid gid moment) pick next sound quiet h =
     let room = (after_op tree sound.room opens (SetOwner ino uid gid moment) pick).holds next h in
     let e = same_ok {A = Tree} (record tree { nodes = changed_at tree.nodes ino (with_owner uid gid moment) }) next h in
     subst IsSound e (on_one tree sound ino (with_owner uid gid moment) (λ x has. record { nlink = refl; slots = refl; kind = sound.kinds ino x has; size = sound.sizes ino x has })
-      (subst (λ (t : Tree). cost t ≤ tree.cap) (sym e) room.0))
+    (subst (λ (t : Tree). cost t ≤ tree.cap) (sym e) room.0))
 quiet_kept tree opens (SetTimes ino atime mtime moment) pick next sound quiet h =
     let room = (after_op tree sound.room opens (SetTimes ino atime mtime moment) pick).holds next h in
     let e = same_ok {A = Tree} (record tree { nodes = changed_at tree.nodes ino (with_times atime mtime moment) }) next h in
     subst IsSound e (on_one tree sound ino (with_times atime mtime moment) (λ x has. record { nlink = refl; slots = refl; kind = sound.kinds ino x has; size = sound.sizes ino x has })
-      (subst (λ (t : Tree). cost t ≤ tree.cap) (sym e) room.0))
+    (subst (λ (t : Tree). cost t ≤ tree.cap) (sym e) room.0))
 quiet_kept tree opens (Hold ino) pick next sound quiet h = subst IsSound (same_ok tree next h) sound
 quiet_kept tree opens _ pick next sound quiet h = absurd quiet

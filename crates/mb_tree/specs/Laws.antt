@@ -1,5 +1,5 @@
 -- Laws of the step and of histories, each the contract of a function without a body.
-use Rattle.std.specs.Prelude.{List, [], ◌∷◌, ◌++◌, ℕ, ◌≡◌, ◌≤◌, ◌<◌, Option, Ok, Some, None}
+use Rattle.std.specs.Prelude.{List, [], ◌∷◌, ◌++◌, ℕ, ◌≡◌, ◌≤◌, ◌<◌, ◌⊎◌, Option, Ok, Some, None}
 use Rattle.std.specs.List.{AllByRecursion}
 use Rattle.mb_kinds.specs.declared.calls.Call.{Call}
 use Rattle.mb_kinds.specs.declared.entries.Entry.{Entry}
@@ -12,14 +12,16 @@ use Rattle.mb_tree.specs.Machines.{IsSeated, FitsSession}
 use Rattle.mb_tree.specs.declared.nodes.Node.{Node}
 use Rattle.mb_tree.specs.declared.seats.Seat.{Seat}
 use Rattle.mb_tree.specs.declared.seats.SessionChange.{SessionChange}
-use Rattle.mb_tree.specs.Effect.{Held, tree_after}
+use Rattle.mb_tree.specs.Effect.{Held, release, less_open, tree_after}
 use Rattle.mb_tree.specs.declared.operations.FsOp.{FsOp}
 use Rattle.mb_tree.specs.declared.operations.FsOp.TheVariants.{Empty, Put, SetOwner, SetTimes, Hold}
 use Rattle.mb_tree.specs.Rows.{plan}
 use Rattle.mb_tree.specs.Step.{effect_of, serve, step}
 use Rattle.std.specs.FinMap as fin
 use Rattle.mb_tree.specs.Inodes.{slots_of}
-use Rattle.mb_tree.specs.Trees.{HasKind, HasSize, IsSound}
+use Rattle.mb_tree.specs.Trees.{HasKind, HasSize, IsUsedAt, IsSound}
+use Rattle.mb_tree.specs.declared.nodes.PlainSlot.{PlainSlot}
+use Rattle.mb_tree.specs.declared.nodes.Body.TheVariants.{Directory}
 use Rattle.mb_tree.specs.declared.trees.Tree.{Tree}
 use Rattle.mb_tree.specs.Cost.{cost}
 use Rattle.mb_tree.specs.History.{after, Runs, Follows, Legal}
@@ -103,3 +105,18 @@ IsQuiet _ = ⊥
 abbrev pub QuietKept : Type 0
 QuietKept = (tree : Tree) (opens : Counts) (made : FsOp) (pick : Option ℕ) (next : Tree) → IsSound tree → IsQuiet made
     → tree_after tree opens made pick ≡ Ok next → IsSound next
+
+-- no used slot leads to an inode
+abbrev pub IsUnled : Tree → ℕ → Type 0
+IsUnled tree ino = (dir at : ℕ) (node : Node) (slots : List PlainSlot) (slot : PlainSlot)
+    → fin.get tree.nodes dir ≡ Some node → node.body ≡ Directory slots → IsUsedAt slots at slot → slot.ino ≡ ino → ⊥
+
+-- a tree stays sound where inodes are dropped to which no used slot leads, and there is room
+abbrev pub DropKept : Type 0
+DropKept = (tree : Tree) (nodes : Numbered Node) → IsSound tree
+    → ((ino : ℕ) → (fin.get nodes ino ≡ fin.get tree.nodes ino) ⊎ ((fin.get nodes ino ≡ None) × IsUnled tree ino))
+    → cost (record tree { nodes = nodes }) ≤ tree.cap → IsSound (record tree { nodes = nodes })
+
+-- releasing open files keeps a sound tree sound
+abbrev pub ReleaseKept : Type 0
+ReleaseKept = (tree : Tree) (opens : Counts) (inos : List ℕ) → IsSound tree → IsSound (record tree { nodes = less_open tree.nodes (release opens inos) inos })

@@ -1,4 +1,4 @@
-ghost use Rattle.mb_tree.specs.Laws.{AfterAppends, LegalSplits, LegalAppends, LegalGrows, RefusedStays, ServedByEffect, CostKept, SessionKept, AlikeKept, QuietKept};
+ghost use Rattle.mb_tree.specs.Laws.{AfterAppends, LegalSplits, LegalAppends, LegalGrows, RefusedStays, ServedByEffect, CostKept, SessionKept, AlikeKept, QuietKept, DropKept, ReleaseKept};
 
 /// The machine after two histories in a row is the one after the second, from the one after the first.
 pub fn after_appends()
@@ -48,4 +48,14 @@ pub fn alike_kept()
 /// An operation that touches bytes, owners or times alone keeps a sound tree sound.
 pub fn quiet_kept()
     ensures { QuietKept }
+{}
+
+/// A tree stays sound where inodes are dropped to which no used slot leads, and there is room.
+pub fn drop_kept()
+    ensures { DropKept }
+{}
+
+/// Releasing open files keeps a sound tree sound.
+pub fn release_kept()
+    ensures { ReleaseKept }
 {}

@@ -32,8 +32,8 @@ mod tests;
 mod trees;
 
 pub use laws::{
-    after_appends, alike_kept, cost_kept, legal_appends, legal_grows, legal_splits, quiet_kept, refused_stays,
-    served_by_effect, session_kept,
+    after_appends, alike_kept, cost_kept, drop_kept, legal_appends, legal_grows, legal_splits,
+    quiet_kept, refused_stays, release_kept, served_by_effect, session_kept,
 };
 pub use lookups::Placed;
 pub use machines::Machine;
