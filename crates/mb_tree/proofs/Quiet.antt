@@ -1,6 +1,12 @@
--- The operations that touch bytes, owners or times alone keep a sound tree sound.
+-- The operations that touch bytes or attributes alone keep a sound tree sound.
 use Rattle.std.proofs.Common.{◌≡◌, inl, inr, ℕ, ◌+◌, ◌/◌, ◌<◌, ◌≤◌, max, true, false, List, [], ◌∷◌, length, Option, Some, None, Ok, option_map, unwrap_or, nat_le, refl, sym, ap, subst, ◌∙◌, arith}
 use Rattle.std.proofs.lemmas.Bool.Decides.{nat_tests}
+use Rattle.std.specs.Prelude.{bit_and, bit_or, ◌%◌, ◌*◌, ◌==◌, ◌||◌}
+use Rattle.std.proofs.lemmas.Nat.{and_or_apart}
+use Rattle.std.proofs.lemmas.Nat.Bits.{and_high, and_high_mask_twice}
+use Rattle.std.proofs.Common.{lit≤}
+use Rattle.mb_tree.specs.Inodes.{kind_of}
+use Rattle.mb_tree.specs.Effect.{with_mode}
 use Rattle.std.specs.FinMap as fin
 use Rattle.std.specs.FinMap.{get-empty}
 use Rattle.std.specs.Ordering.{nat_cmp}
@@ -16,7 +22,7 @@ use Rattle.mb_tree.specs.declared.nodes.Node.{Node}
 use Rattle.mb_tree.specs.declared.nodes.Body.{Body}
 use Rattle.mb_tree.specs.declared.nodes.Body.TheVariants.{Regular, Directory, Special}
 use Rattle.mb_tree.specs.declared.trees.Tree.{Tree}
-use Rattle.mb_tree.specs.declared.operations.FsOp.TheVariants.{Empty, Put, SetOwner, SetTimes, Hold}
+use Rattle.mb_tree.specs.declared.operations.FsOp.TheVariants.{Empty, Put, SetMode, SetOwner, SetTimes, Hold}
 use Rattle.mb_tree.proofs.FiniteMaps.{get_here, get_there, one_or_not}
 use Rattle.mb_tree.proofs.Always.{then_ok, same_ok}
 use Rattle.mb_tree.proofs.Alike.{alike_kept}
@@ -70,6 +76,18 @@ slots_written offset bytes (Regular size parts) = refl
 slots_written offset bytes (Directory slots) = refl
 slots_written offset bytes (Special size area) = refl
 
+-- ---- modes
+
+kind_set : (old mode : ℕ) → mode < 4096 → kind_of (bit_or (kind_of old) mode) ≡ kind_of old
+kind_set old mode h =
+    let high : bit_and mode 0xF000 ≡ 0 = and_high mode 4 12 ∙ (let z : mode / 4096 % 16 * 4096 ≡ 0 = omega arith in z) in
+    and_or_apart 0xF000 (bit_and old 0xF000) mode high ∙ and_high_mask_twice 16 12 (lit≤ tt) old 12 (lit≤ tt)
+
+kind_same : (old new : ℕ) (body : Body) → kind_of new ≡ kind_of old → HasKind old body → HasKind new body
+kind_same old new (Regular size parts) e h = ap (λ k. k == 0x8000) e ∙ h
+kind_same old new (Directory slots) e h = ap (λ k. k == 0x4000) e ∙ h
+kind_same old new (Special size area) e h = ap (λ k. k == 0x2000 || k == 0x6000) e ∙ h
+
 -- ---- trees
 
 module _ (tree : Tree) (sound : IsSound tree) where
@@ -112,6 +130,11 @@ quiet_kept tree opens (Put ino offset bytes moment) pick next sound quiet h =
     let e = same_ok {A = Tree} (record tree { nodes = changed_at tree.nodes ino (wrote moment offset bytes) }) next two.2 in
     let limit = limit_of offset (length bytes) one.0 one.1 in
     subst IsSound e (on_one tree sound ino (wrote moment offset bytes) (λ x has. record { nlink = refl; slots = slots_written offset bytes x.body; kind = kind_written x.mode offset bytes x.body (sound.kinds ino x has); size = size_written offset bytes x.body limit (sound.sizes ino x has) })
+    (subst (λ (t : Tree). cost t ≤ tree.cap) (sym e) room.0))
+quiet_kept tree opens (SetMode ino mode moment) pick next sound quiet h =
+    let room = (after_op tree sound.room opens (SetMode ino mode moment) pick).holds next h in
+    let e = same_ok {A = Tree} (record tree { nodes = changed_at tree.nodes ino (with_mode mode moment) }) next h in
+    subst IsSound e (on_one tree sound ino (with_mode mode moment) (λ x has. record { nlink = refl; slots = refl; kind = kind_same x.mode (bit_or (kind_of x.mode) mode) x.body (kind_set x.mode mode quiet) (sound.kinds ino x has); size = sound.sizes ino x has })
     (subst (λ (t : Tree). cost t ≤ tree.cap) (sym e) room.0))
 quiet_kept tree opens (SetOwner ino uid gid moment) pick next sound quiet h =
     let room = (after_op tree sound.room opens (SetOwner ino uid gid moment) pick).holds next h in

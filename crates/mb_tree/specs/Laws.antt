@@ -14,7 +14,7 @@ use Rattle.mb_tree.specs.declared.seats.Seat.{Seat}
 use Rattle.mb_tree.specs.declared.seats.SessionChange.{SessionChange}
 use Rattle.mb_tree.specs.Effect.{Held, release, less_open, tree_after}
 use Rattle.mb_tree.specs.declared.operations.FsOp.{FsOp}
-use Rattle.mb_tree.specs.declared.operations.FsOp.TheVariants.{Empty, Put, SetOwner, SetTimes, Hold}
+use Rattle.mb_tree.specs.declared.operations.FsOp.TheVariants.{Empty, Put, SetMode, SetOwner, SetTimes, Hold}
 use Rattle.mb_tree.specs.Rows.{plan}
 use Rattle.mb_tree.specs.Step.{effect_of, serve, step}
 use Rattle.std.specs.FinMap as fin
@@ -92,10 +92,11 @@ abbrev pub AlikeKept : Type 0
 AlikeKept = (tree : Tree) (nodes : Numbered Node) → IsSound tree → ((ino : ℕ) → AreAlike (fin.get tree.nodes ino) (fin.get nodes ino))
     → cost (record tree { nodes = nodes }) ≤ tree.cap → IsSound (record tree { nodes = nodes })
 
--- the operations that touch bytes, owners or times alone
+-- the operations that touch bytes or attributes alone
 abbrev pub IsQuiet : FsOp → Type 0
 IsQuiet (Empty ino moment) = Unit {0}
 IsQuiet (Put ino offset bytes moment) = Unit {0}
+IsQuiet (SetMode ino mode moment) = mode < 4096
 IsQuiet (SetOwner ino uid gid moment) = Unit {0}
 IsQuiet (SetTimes ino atime mtime moment) = Unit {0}
 IsQuiet (Hold ino) = Unit {0}

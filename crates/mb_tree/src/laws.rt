@@ -45,7 +45,7 @@ pub fn alike_kept()
     ensures { AlikeKept }
 {}
 
-/// An operation that touches bytes, owners or times alone keeps a sound tree sound.
+/// An operation that touches bytes or attributes alone keeps a sound tree sound.
 pub fn quiet_kept()
     ensures { QuietKept }
 {}
