@@ -1,5 +1,5 @@
 -- What holds of every value that an answer can give, line by line.
-use Rattle.std.proofs.Common.{◌≡◌, sym, subst, refl, Ok, Err}
+use Rattle.std.proofs.Common.{◌≡◌, subst, refl, Ok, Err}
 use Rattle.mb_kinds.specs.declared.errors.Errno.{Errno}
 use Rattle.mb_tree.specs.Answers.{Answer, ◌>>=◌, ◌>>◌}
 
@@ -15,6 +15,10 @@ not_ok e y h = cc
 pub bind_ok : {A B : Type 0} (r : Answer A) (f : A → Answer B) (y : B) → (r >>= f) ≡ Ok y → (x : A) × (r ≡ Ok x) × (f x ≡ Ok y)
 bind_ok (Ok x) f y h = (x, refl, h)
 bind_ok (Err e) f y h = cc
+
+pub then_ok : {A B : Type 0} (r : Answer A) (s : Answer B) (y : B) → (r >> s) ≡ Ok y → (x : A) × (r ≡ Ok x) × (s ≡ Ok y)
+then_ok (Ok x) s y h = (x, refl, h)
+then_ok (Err e) s y h = cc
 
 module _ {B : Type 0} (P : B → Type 0) where
   pub always_ok : (x : B) → P x → Always P (Ok x)

@@ -1,15 +1,15 @@
 -- What reading, filling and emptying a cell does to the map that a row of cells is.
-use Rattle.std.proofs.Common.{◌≡◌, ◌≢◌, ◌⊎◌, inl, inr, ℕ, zero, suc, ◌+◌, ◌-◌, ◌<◌, ◌≤◌, Bool, true, false, cond, List, [], ◌∷◌, refl, sym, ap, subst, ◌∙◌, arith, length, Option, Some, None, slice_set, slice_index_or, replicate, nat_eq, map, drop, ◌++◌}
+use Rattle.std.proofs.Common.{◌≡◌, ◌≢◌, inl, inr, ℕ, zero, suc, ◌+◌, ◌<◌, ◌≤◌, cond, List, [], ◌∷◌, refl, sym, ap, ◌∙◌, arith, length, Option, Some, None, slice_set, slice_index_or, replicate, map, drop, ◌++◌}
 use Rattle.std.proofs.Math.ListN.{drop_of_length-le}
 use Rattle.std.proofs.lemmas.List.{append-nil}
 use Rattle.std.specs.FinMap as fin
 use Rattle.std.specs.FinMap.{get-from_entries, get-empty}
-use Rattle.std.specs.Cmp.{nat_cmp_total, unsigned_tied, nat_cmp_is}
+use Rattle.std.specs.Cmp.{nat_cmp_total, nat_cmp_is}
 use Rattle.std.specs.List.{AllByRecursion}
 use Rattle.std.specs.List.Sorted.{IsStrictlySortedBy}
 use Rattle.std.specs.declared.cmp.Ordering.TheVariants.{Less}
 use Rattle.mb_tree.specs.Filled.{filled}
-use Rattle.std.specs.Ordering.{nat_cmp, eq_by_cmp, is_eq}
+use Rattle.std.specs.Ordering.{nat_cmp}
 use Rattle.mb_tree.specs.Cells.{cell_entries, from_cells}
 use Rattle.mb_tree.proofs.FiniteMaps.{same, get_here, get_there, gone_here, gone_there, one_or_not, is_here, is_apart, entries_view}
 

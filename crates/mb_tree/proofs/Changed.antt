@@ -1,5 +1,5 @@
 -- A node taken out of a map, changed and put back.
-use Rattle.std.proofs.Common.{◌≡◌, ◌≢◌, inl, inr, ℕ, refl, sym, ap, ◌∙◌, Option, Some, None, option_map, unwrap_or, Bool, true, false, ◌&&◌, if◌then◌else◌, nat_eq}
+use Rattle.std.proofs.Common.{◌≡◌, inl, inr, ℕ, sym, ap, ◌∙◌, Some, None, option_map, unwrap_or, true, false, ◌&&◌, if◌then◌else◌, nat_eq}
 use Rattle.mb_tree.specs.Sessions.{Counts}
 use Rattle.mb_tree.specs.Effect.{unlinked, is_lost, less_name}
 use Rattle.mb_tree.specs.declared.nodes.Node.{Node}

@@ -1,24 +1,21 @@
 -- What the step does to the number of blocks that files hold.
-use Rattle.std.proofs.Common.{◌≡◌, ◌≢◌, inl, inr, ℕ, zero, suc, ◌+◌, ◌<◌, ◌≤◌, Bool, true, false, cond, not, ◌&&◌, if◌then◌else◌, List, [], ◌∷◌, length, refl, sym, ap, subst, ◌∙◌, arith, Option, Some, None, Ok, Err, option_map, unwrap_or, nat_le, nat_lt, nat_eq, map}
-use Rattle.std.specs.Prelude.{position, slice_set, slice_get}
+use Rattle.std.proofs.Common.{◌≡◌, inl, inr, ℕ, zero, suc, ◌+◌, ◌≤◌, Bool, true, false, cond, if◌then◌else◌, List, length, refl, sym, ap, subst, ◌∙◌, arith, Option, Some, None, Ok, Err, option_map, unwrap_or, nat_le, nat_lt, map}
+use Rattle.std.specs.Prelude.{position, slice_set}
 use Rattle.std.specs.FinMap as fin
 use Rattle.std.specs.FinMap.{get-retain_keys, nat_cmp-IsAntisymmetric}
-use Rattle.std.specs.List.{list_any}
 use Rattle.std.specs.Ordering.{nat_cmp}
 use Rattle.std.proofs.lemmas.Bool.Decides.{nat_tests}
 use Rattle.std.proofs.lemmas.List.{length-set}
-use Rattle.mb_kinds.specs.declared.calls.Call.{Call}
 use Rattle.mb_kinds.specs.declared.replies.Reply.{Reply}
-use Rattle.mb_kinds.specs.declared.errors.Errno.{Errno}
 use Rattle.mb_kinds.specs.declared.errors.Errno.TheVariants.{ENOSPC, EMLINK, EFBIG}
-use Rattle.mb_tree.specs.Answers.{Answer, ◌>>=◌, ◌>>◌, need, some}
+use Rattle.mb_tree.specs.Answers.{Answer, ◌>>◌, need, some}
 use Rattle.mb_tree.specs.Maps.{Numbered, changed_at}
 use Rattle.mb_tree.specs.Counting.{sum_below}
 use Rattle.mb_tree.specs.Lookup.{is_named, number_in}
 use Rattle.mb_tree.specs.Sessions.{Counts, counts}
-use Rattle.mb_tree.specs.Cost.{cost, cost_at, body_cost, index_blocks, parts_of, first_parts, parts_for}
-use Rattle.mb_tree.specs.Effect.{Held, unlinked, emptied, on_slots, without_name, without_link, cleared, blanked, with_mode, with_owner, with_times, fitting, is_lost, less_name, less_open, release, create, make_dir, remove_dir, enlink, delink, put, on_node, tree_after, nlink_in, opens_after}
-use Rattle.mb_tree.specs.Step.{effect_of, serve, step, or_refused}
+use Rattle.mb_tree.specs.Cost.{cost, cost_at, body_cost, index_blocks, first_parts, parts_for}
+use Rattle.mb_tree.specs.Effect.{Held, unlinked, emptied, on_slots, without_name, without_link, cleared, blanked, with_mode, with_owner, with_times, fitting, is_lost, less_name, remove_dir, delink, tree_after, nlink_in, opens_after}
+use Rattle.mb_tree.specs.Step.{effect_of, serve, or_refused}
 use Rattle.mb_tree.specs.Laws.{CostKept}
 use Rattle.mb_tree.specs.declared.nodes.PlainSlot.{PlainSlot}
 use Rattle.mb_tree.specs.declared.nodes.Node.{Node}
@@ -106,7 +103,7 @@ cleared_cost (Special size area) = omega arith
 
 -- ---- operations
 
-abbrev Keeps : Tree → Tree → Type 0
+abbrev pub Keeps : Tree → Tree → Type 0
 Keeps tree next = (cost next ≤ tree.cap) × (next.cap ≡ tree.cap)
 
 fitted : (tree : Tree) (nodes : Numbered Node) → Always (Keeps tree) (fitting tree nodes)
@@ -137,7 +134,7 @@ module _ (tree : Tree) (sound : cost tree ≤ tree.cap) where
   delinked opens dir name moment None = same_tree
   delinked opens dir name moment (Some ino) = cheaper _ (cheaper_trans _ (changed_at tree.nodes dir (without_name moment name)) tree.nodes (lost _ opens moment ino) (cheaper_changed tree.nodes dir (without_name moment name) (λ x. emptied_cost name x.body)))
 
-  after_op : (opens : Counts) (made : FsOp) (pick : Option ℕ) → Always (Keeps tree) (tree_after tree opens made pick)
+  pub after_op : (opens : Counts) (made : FsOp) (pick : Option ℕ) → Always (Keeps tree) (tree_after tree opens made pick)
   after_op opens (op.Create dir name mode uid gid moment) pick = always_bind (Keeps tree) (some pick ENOSPC) _ (λ ino. fitted tree _)
   after_op opens (op.Empty ino moment) pick = cheaper _ (cheaper_changed tree.nodes ino (blanked moment) (λ x. cleared_cost x.body))
   after_op opens (op.MakeDir dir name mode uid gid moment) pick = always_then (Keeps tree) (need (nat_lt (nlink_in tree.nodes dir) 32767) EMLINK) _ (always_bind (Keeps tree) (some pick ENOSPC) _ (λ ino. fitted tree _))

@@ -1,8 +1,8 @@
 -- Histories in a row.
-use Rattle.std.proofs.Common.{◌≡◌, ℕ, ◌<◌, List, [], ◌∷◌, ◌++◌, refl, sym, ap, subst, ◌∙◌}
+use Rattle.std.proofs.Common.{List, [], ◌∷◌, ◌++◌, refl}
 use Rattle.std.specs.List.{AllByRecursion}
 use Rattle.mb_kinds.specs.declared.entries.Entry.{Entry}
-use Rattle.mb_tree.specs.History.{after, past, Runs, AreRuns, Follows, AreInOrder, Legal}
+use Rattle.mb_tree.specs.History.{after, past, AreRuns, Follows, AreInOrder, Legal}
 use Rattle.mb_tree.specs.Laws.{AfterAppends, LegalSplits, LegalAppends, LegalGrows}
 use Rattle.mb_tree.specs.declared.machines.Machine.{Machine}
 

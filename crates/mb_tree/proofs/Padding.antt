@@ -1,5 +1,5 @@
 -- A piece copied over zeros is its name.
-use Rattle.std.proofs.Common.{◌≡◌, ℕ, zero, suc, ◌+◌, ◌-◌, ◌<◌, ◌≤◌, List, [], ◌∷◌, ◌++◌, length, take, drop, min, replicate, refl, sym, ap, ◌∙◌, arith, lit≤}
+use Rattle.std.proofs.Common.{◌≡◌, ℕ, zero, suc, ◌≤◌, List, [], ◌∷◌, ◌++◌, length, take, drop, min, replicate, refl, ap, ◌∙◌, arith, lit≤}
 use Rattle.mb_tree.specs.Lookup.{padded}
 
 zeros_taken : (w v : ℕ) → w ≤ v → replicate {A = ℕ} w 0 ≡ take w (replicate v 0)

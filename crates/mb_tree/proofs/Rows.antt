@@ -1,37 +1,28 @@
 -- No row is planned with a refusal, or with a reply of a fault or of the disk.
-use Rattle.std.specs.Prelude.{List, [], ◌∷◌, ℕ, ◌+◌, ◌-◌, Bool, true, false, not, ◌&&◌, ◌||◌, ◌==◌, if◌then◌else◌, length, Option, Some, None, Result, Ok, Err, ◌≡◌, ◌⊎◌, option_map, unwrap_or, ℤ, pos, negsuc, ◌+ℤ◌, nat_le, nat_lt, bit_and, slice_get, bytes_eq}
-use Rattle.std.specs.List.{list_any}
+use Rattle.std.specs.Prelude.{List, [], ◌∷◌, ℕ, ◌+◌, Bool, true, false, not, ◌&&◌, ◌==◌, if◌then◌else◌, length, Option, Some, None, Ok, Err, ℤ, pos, ◌+ℤ◌, nat_le}
 use Rattle.std.specs.FinMap as fin
-use Rattle.mb_kinds.specs.declared.credentials.Cred.{Cred}
-use Rattle.mb_kinds.specs.declared.replies.Stat.{Stat}
 use Rattle.mb_kinds.specs.declared.replies.Reply.{Reply}
-use Rattle.mb_kinds.specs.declared.replies.Reply.TheVariants.{Num, Got, Info, Refused, Restart, Device, Failed}
+use Rattle.mb_kinds.specs.declared.replies.Reply.TheVariants.{Num, Got, Info}
 use Rattle.mb_kinds.specs.declared.calls.How.{How}
-use Rattle.mb_kinds.specs.declared.calls.How.TheVariants.{Writing}
 use Rattle.mb_kinds.specs.declared.calls.Whence.{Whence}
-use Rattle.mb_kinds.specs.declared.calls.Whence.TheVariants.{Start, Here, End}
 use Rattle.mb_kinds.specs.declared.calls.Call.{Call}
 use Rattle.mb_kinds.specs.declared.calls.Call.TheVariants as call
-use Rattle.mb_kinds.specs.declared.errors.Errno.TheVariants.{EPERM, ENOENT, ENXIO, EBADF, EACCES, EBUSY, EEXIST, ENOTDIR, EISDIR, EINVAL, EMFILE, EFBIG, ENOSPC}
+use Rattle.mb_kinds.specs.declared.errors.Errno.TheVariants.{EPERM, ENXIO, EBADF, EACCES, EBUSY, EEXIST, ENOTDIR, EISDIR, EINVAL, EMFILE, EFBIG, ENOSPC}
 use Rattle.mb_tree.specs.Answers.{Answer, ◌>>=◌, ◌>>◌, need, some}
 use Rattle.mb_tree.specs.Maps.{Numbered}
-use Rattle.mb_tree.specs.Inodes.{is_directory, is_special, size_of, may, read_at}
+use Rattle.mb_tree.specs.Inodes.{is_directory, is_special, may}
 use Rattle.mb_tree.specs.Lookup.{stat_in, find_path, find_place, used_in}
-use Rattle.mb_tree.specs.Sessions.{reads, writes, free_descriptor, file_on, is_shared, inos_of, counts}
-use Rattle.mb_tree.specs.Effect.{dot, dot_dot}
+use Rattle.mb_tree.specs.Sessions.{reads, writes, free_descriptor, file_on, is_shared, inos_of}
 use Rattle.mb_tree.specs.declared.nodes.Node.{Node}
 use Rattle.mb_tree.specs.declared.seats.PlainFile.{PlainFile}
 use Rattle.mb_tree.specs.declared.seats.Seat.{Seat}
-use Rattle.mb_tree.specs.declared.machines.Machine.{Machine}
 use Rattle.mb_tree.specs.declared.lookups.Placed.{Placed}
 use Rattle.mb_tree.specs.declared.lookups.Placed.TheVariants.{Itself, At}
 use Rattle.mb_tree.specs.declared.plans.Plan.{Plan}
-use Rattle.mb_tree.specs.declared.seats.SessionChange.{SessionChange}
-use Rattle.mb_tree.specs.declared.seats.SessionChange.TheVariants.{Same, Fresh, Twin, Free, Move, Cwd, Mask, Clear}
-use Rattle.mb_tree.specs.declared.operations.FsOp.{FsOp}
+use Rattle.mb_tree.specs.declared.seats.SessionChange.TheVariants.{Free}
 use Rattle.mb_tree.specs.declared.operations.FsOp.TheVariants as op
 use Rattle.mb_kinds.specs.declared.errors.Errno.{Errno}
-use Rattle.mb_tree.specs.Rows.{open_row, creat_present, creat_missing, creat_at, creat_row, close_row, read_row, write_row, lseek_row, dup_row, link_at, link_row, unlink_named, unlink_at, unlink_row, mkdir_at, mkdir_row, rmdir_named, rmdir_at, rmdir_row, chdir_row, stat_row, fstat_row, chmod_row, chown_row, utime_row, access_row, umask_row, sync_row, exit_row, reply, seated, act, both, bits_of, masked, got, wrote, size_in, base_of, offset_at, is_busy, is_dots, is_owner, stored, exited, row, plan}
+use Rattle.mb_tree.specs.Rows.{open_row, creat_present, creat_missing, creat_at, creat_row, close_row, read_row, write_row, lseek_row, dup_row, link_at, link_row, unlink_named, unlink_at, unlink_row, mkdir_at, mkdir_row, rmdir_named, rmdir_at, rmdir_row, chdir_row, stat_row, fstat_row, chmod_row, chown_row, utime_row, access_row, umask_row, sync_row, exit_row, seated, both, bits_of, wrote, base_of, offset_at, is_busy, is_dots, is_owner, exited, row}
 use Rattle.mb_tree.proofs.Always.{Always, always_ok, always_err, always_bind, always_then}
 
 abbrev pub IsPlain : Reply → Type 0

@@ -1,23 +1,20 @@
 -- What a call that is served did.
-use Rattle.std.proofs.Common.{◌≡◌, ℕ, List, [], ◌∷◌, Bool, true, false, Option, Some, None, Result, Ok, Err, refl, sym, ap, subst, ◌∙◌}
-use Rattle.std.specs.Prelude.{slice_get, ℤ}
+use Rattle.std.proofs.Common.{◌≡◌, ℕ, Option, Ok, Err, refl, sym, ap, subst, ◌∙◌}
+use Rattle.std.specs.Prelude.{slice_get}
 use Rattle.mb_kinds.specs.declared.calls.Call.{Call}
-use Rattle.mb_kinds.specs.declared.calls.Call.TheVariants as call
 use Rattle.mb_kinds.specs.declared.errors.Errno.{Errno}
 use Rattle.mb_kinds.specs.declared.errors.Errno.TheVariants.{EINVAL}
 use Rattle.mb_kinds.specs.declared.replies.Reply.{Reply}
-use Rattle.mb_kinds.specs.declared.replies.Reply.TheVariants.{Num, Got, Info, Refused, Restart, Device, Failed}
-use Rattle.mb_tree.specs.Answers.{Answer, ◌>>=◌, ◌>>◌, need, some}
-use Rattle.mb_tree.specs.Maps.{Numbered}
+use Rattle.mb_kinds.specs.declared.replies.Reply.TheVariants.{Refused}
+use Rattle.mb_tree.specs.Answers.{Answer, some}
 use Rattle.mb_tree.specs.Sessions.{counts, with_change}
-use Rattle.mb_tree.specs.Effect.{Held}
-use Rattle.mb_tree.specs.Rows.{row, plan}
-use Rattle.mb_tree.specs.Step.{effect_of, serve, step, or_refused}
-use Rattle.mb_tree.specs.Laws.{RefusedStays, ServedByEffect, IsServed}
+use Rattle.mb_tree.specs.Rows.{plan}
+use Rattle.mb_tree.specs.Step.{effect_of, serve, or_refused}
+use Rattle.mb_tree.specs.Laws.{RefusedStays, ServedByEffect}
 use Rattle.mb_tree.specs.declared.machines.Machine.{Machine}
 use Rattle.mb_tree.specs.declared.plans.Plan.{Plan}
 use Rattle.mb_tree.proofs.Always.{bind_ok, same_ok}
-use Rattle.mb_tree.proofs.Rows.{IsPlain, PlainAnswer, plain_row}
+use Rattle.mb_tree.proofs.Rows.{IsPlain, plain_row}
 
 pub served : ServedByEffect
 served machine caller call moment pick reply next h =

@@ -1,5 +1,5 @@
 -- How a rule with refusals is written: line after line, where the first line that refuses is the answer.
-use Rattle.std.specs.Prelude.{Bool, true, false, if◌then◌else◌, Option, Some, None, Result, Ok, Err}
+use Rattle.std.specs.Prelude.{Bool, if◌then◌else◌, Option, Some, None, Result, Ok, Err}
 use Rattle.mb_kinds.specs.declared.errors.Errno.{Errno}
 
 -- a value, or the error that a call is refused with

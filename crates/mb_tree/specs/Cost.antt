@@ -1,14 +1,12 @@
 -- How many blocks the files of a tree hold: their parts and the index blocks that lead to them. Of the 13
 -- addresses of an inode, 10 are direct, and one each is single, double and triple indirect; an index block
 -- has 128 addresses (V7 filsys(5)).
-use Rattle.std.specs.Prelude.{List, [], ◌∷◌, ℕ, zero, suc, ◌+◌, ◌-◌, ◌*◌, ◌/◌, ◌^◌, Bool, not, ◌&&◌, nat_eq, nat_le, nat_lt, length, map, filter, Option, Some, None}
+use Rattle.std.specs.Prelude.{List, [], ◌∷◌, ℕ, zero, suc, ◌+◌, ◌-◌, ◌/◌, Bool, not, ◌&&◌, nat_eq, nat_le, nat_lt, length, map, filter, Option, Some, None}
 use Rattle.std.specs.List.{list_any}
 use Rattle.std.specs.FinMap as fin
 use Rattle.std.specs.FinSet as set
 use Rattle.std.specs.Ordering.{nat_cmp}
-use Rattle.mb_tree.specs.Maps.{Numbered}
 use Rattle.mb_tree.specs.Counting.{sum_below}
-use Rattle.mb_tree.specs.declared.nodes.PlainSlot.{PlainSlot}
 use Rattle.mb_tree.specs.declared.nodes.Node.{Node}
 use Rattle.mb_tree.specs.declared.nodes.Body.{Body}
 use Rattle.mb_tree.specs.declared.nodes.Body.TheVariants.{Regular, Directory, Special}

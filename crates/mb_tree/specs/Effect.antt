@@ -1,6 +1,6 @@
 -- What each operation of the file system does to the tree and to the counts of open files, and when it is
 -- refused. The effect speaks of operations that fit (specs/Fits.antt); what is missing is left as it is.
-use Rattle.std.specs.Prelude.{List, [], ◌∷◌, ◌++◌, ℕ, ◌+◌, ◌-◌, ◌*◌, ◌/◌, ◌%◌, Bool, not, ◌&&◌, ◌==◌, if◌then◌else◌, max, length, Option, Some, None, Ok, option_map, unwrap_or, position, slice_set, count_by, nat_eq, nat_le, nat_lt, bit_or, false}
+use Rattle.std.specs.Prelude.{List, [], ◌∷◌, ◌++◌, ℕ, ◌+◌, ◌-◌, ◌/◌, ◌%◌, Bool, not, ◌&&◌, ◌==◌, if◌then◌else◌, max, length, Option, Some, None, Ok, option_map, unwrap_or, position, slice_set, count_by, nat_eq, nat_le, nat_lt, bit_or, false}
 use Rattle.std.specs.List.{list_any}
 use Rattle.std.specs.FinMap as fin
 use Rattle.mb_kinds.specs.declared.errors.Errno.TheVariants.{ENOSPC, EFBIG, EMLINK}

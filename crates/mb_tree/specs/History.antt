@@ -1,5 +1,5 @@
 -- Which lists of entries are histories of a machine, and the machine after them.
-use Rattle.std.specs.Prelude.{List, [], ◌∷◌, ℕ, ◌≡◌, ◌≢◌, ◌<◌, take, Option, None, Some}
+use Rattle.std.specs.Prelude.{List, [], ◌∷◌, ℕ, ◌≡◌, ◌≢◌, ◌<◌, take, None}
 use Rattle.std.specs.List.{AllByRecursion}
 use Rattle.mb_kinds.specs.declared.entries.Entry.{Entry}
 use Rattle.mb_kinds.specs.declared.replies.Reply.{Reply}

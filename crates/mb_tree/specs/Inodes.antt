@@ -1,5 +1,5 @@
 -- What an inode's fields say (V7 filsys(5), stat(2)), and the bytes of its content.
-use Rattle.std.specs.Prelude.{List, [], ◌∷◌, ◌++◌, ℕ, zero, suc, ◌+◌, ◌-◌, ◌*◌, ◌/◌, ◌%◌, Bool, not, ◌&&◌, ◌||◌, ◌==◌, if◌then◌else◌, min, length, bit_and, Option, Some, None, option_map, unwrap_or, slice_get, slice_index}
+use Rattle.std.specs.Prelude.{List, [], ◌∷◌, ℕ, zero, suc, ◌+◌, ◌-◌, ◌*◌, ◌/◌, ◌%◌, Bool, ◌||◌, ◌==◌, if◌then◌else◌, min, length, bit_and, Option, Some, None, option_map, unwrap_or, slice_get, slice_index}
 use Rattle.std.specs.FinMap as fin
 use Rattle.mb_kinds.specs.declared.credentials.Cred.{Cred}
 use Rattle.mb_kinds.specs.declared.replies.Stat.{Stat}

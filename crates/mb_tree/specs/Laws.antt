@@ -1,15 +1,28 @@
 -- Laws of the step and of histories, each the contract of a function without a body.
-use Rattle.std.specs.Prelude.{List, [], ◌∷◌, ◌++◌, ℕ, ◌≡◌, ◌≤◌, ◌<◌, Option, Ok}
+use Rattle.std.specs.Prelude.{List, [], ◌∷◌, ◌++◌, ℕ, ◌≡◌, ◌≤◌, ◌<◌, ◌⊎◌, Option, Ok, Some, None}
 use Rattle.std.specs.List.{AllByRecursion}
 use Rattle.mb_kinds.specs.declared.calls.Call.{Call}
 use Rattle.mb_kinds.specs.declared.entries.Entry.{Entry}
 use Rattle.mb_kinds.specs.declared.replies.Reply.{Reply}
 use Rattle.mb_kinds.specs.declared.replies.Reply.TheVariants.{Refused}
 use Rattle.mb_kinds.specs.declared.errors.Errno.{Errno}
-use Rattle.mb_tree.specs.Sessions.{counts, with_change}
-use Rattle.mb_tree.specs.Effect.{Held}
+use Rattle.mb_tree.specs.Maps.{Numbered}
+use Rattle.mb_tree.specs.Sessions.{Counts, counts, with_change, changed}
+use Rattle.mb_tree.specs.Machines.{IsSeated, FitsSession}
+use Rattle.mb_tree.specs.declared.nodes.Node.{Node}
+use Rattle.mb_tree.specs.declared.seats.Seat.{Seat}
+use Rattle.mb_tree.specs.declared.seats.SessionChange.{SessionChange}
+use Rattle.mb_tree.specs.Effect.{Held, release, less_open, tree_after}
+use Rattle.mb_tree.specs.declared.operations.FsOp.{FsOp}
+use Rattle.mb_tree.specs.declared.operations.FsOp.TheVariants.{Empty, Put, SetMode, SetOwner, SetTimes, Hold}
 use Rattle.mb_tree.specs.Rows.{plan}
 use Rattle.mb_tree.specs.Step.{effect_of, serve, step}
+use Rattle.std.specs.FinMap as fin
+use Rattle.mb_tree.specs.Inodes.{slots_of}
+use Rattle.mb_tree.specs.Trees.{HasKind, HasSize, IsUsedAt, IsSound}
+use Rattle.mb_tree.specs.declared.nodes.PlainSlot.{PlainSlot}
+use Rattle.mb_tree.specs.declared.nodes.Body.TheVariants.{Directory}
+use Rattle.mb_tree.specs.declared.trees.Tree.{Tree}
 use Rattle.mb_tree.specs.Cost.{cost}
 use Rattle.mb_tree.specs.History.{after, Runs, Follows, Legal}
 use Rattle.mb_tree.specs.declared.machines.Machine.{Machine}
@@ -56,3 +69,55 @@ ServedByEffect = (machine : Machine) (caller : ℕ) (call : Call) (moment : ℕ)
 abbrev pub CostKept : Type 0
 CostKept = (machine : Machine) (caller : ℕ) (call : Call) (moment : ℕ) (pick : Option ℕ) → cost machine.tree ≤ machine.tree.cap
     → (cost (step machine caller call moment pick).1.tree ≤ machine.tree.cap) × ((step machine caller call moment pick).1.tree.cap ≡ machine.tree.cap)
+
+-- a session change that fits keeps a session valid
+abbrev pub SessionKept : Type 0
+SessionKept = (nodes : Numbered Node) (seat : Seat) (change : SessionChange) → IsSeated nodes seat → FitsSession nodes seat change → IsSeated nodes (changed seat change)
+
+-- an inode as another one was, but for its attributes and the bytes of a file
+pub record IsAlike (old new : Node) : Type 0 where
+  pub nlink : new.nlink ≡ old.nlink
+  pub slots : slots_of new.body ≡ slots_of old.body
+  pub kind : HasKind new.mode new.body
+  pub size : HasSize new.body
+
+abbrev pub AreAlike : Option Node → Option Node → Type 0
+AreAlike None None = Unit {0}
+AreAlike None (Some new) = ⊥
+AreAlike (Some old) None = ⊥
+AreAlike (Some old) (Some new) = IsAlike old new
+
+-- a tree stays sound where each inode keeps its slots and its link count, and there is room
+abbrev pub AlikeKept : Type 0
+AlikeKept = (tree : Tree) (nodes : Numbered Node) → IsSound tree → ((ino : ℕ) → AreAlike (fin.get tree.nodes ino) (fin.get nodes ino))
+    → cost (record tree { nodes = nodes }) ≤ tree.cap → IsSound (record tree { nodes = nodes })
+
+-- the operations that touch bytes or attributes alone
+abbrev pub IsQuiet : FsOp → Type 0
+IsQuiet (Empty ino moment) = Unit {0}
+IsQuiet (Put ino offset bytes moment) = Unit {0}
+IsQuiet (SetMode ino mode moment) = mode < 4096
+IsQuiet (SetOwner ino uid gid moment) = Unit {0}
+IsQuiet (SetTimes ino atime mtime moment) = Unit {0}
+IsQuiet (Hold ino) = Unit {0}
+IsQuiet _ = ⊥
+
+-- they keep a sound tree sound
+abbrev pub QuietKept : Type 0
+QuietKept = (tree : Tree) (opens : Counts) (made : FsOp) (pick : Option ℕ) (next : Tree) → IsSound tree → IsQuiet made
+    → tree_after tree opens made pick ≡ Ok next → IsSound next
+
+-- no used slot leads to an inode
+abbrev pub IsUnled : Tree → ℕ → Type 0
+IsUnled tree ino = (dir at : ℕ) (node : Node) (slots : List PlainSlot) (slot : PlainSlot)
+    → fin.get tree.nodes dir ≡ Some node → node.body ≡ Directory slots → IsUsedAt slots at slot → slot.ino ≡ ino → ⊥
+
+-- a tree stays sound where inodes are dropped to which no used slot leads, and there is room
+abbrev pub DropKept : Type 0
+DropKept = (tree : Tree) (nodes : Numbered Node) → IsSound tree
+    → ((ino : ℕ) → (fin.get nodes ino ≡ fin.get tree.nodes ino) ⊎ ((fin.get nodes ino ≡ None) × IsUnled tree ino))
+    → cost (record tree { nodes = nodes }) ≤ tree.cap → IsSound (record tree { nodes = nodes })
+
+-- releasing open files keeps a sound tree sound
+abbrev pub ReleaseKept : Type 0
+ReleaseKept = (tree : Tree) (opens : Counts) (inos : List ℕ) → IsSound tree → IsSound (record tree { nodes = less_open tree.nodes (release opens inos) inos })

@@ -1,5 +1,5 @@
 -- How a path leads to an inode.
-use Rattle.std.specs.Prelude.{List, [], ◌∷◌, ◌++◌, ℕ, ◌-◌, Bool, not, ◌&&◌, ◌==◌, if◌then◌else◌, length, map, filter, take, get_or, replicate, Option, Some, None, Ok, option_map, find, bytes_eq, slice_index, slice_index_or, count_by, unwrap_or, option_and_then}
+use Rattle.std.specs.Prelude.{List, [], ◌∷◌, ◌++◌, ℕ, Bool, not, ◌&&◌, ◌==◌, if◌then◌else◌, length, map, filter, take, get_or, replicate, Option, Ok, option_map, find, bytes_eq, slice_index, count_by, unwrap_or, option_and_then}
 use Rattle.std.specs.List.{slice_split}
 use Rattle.std.specs.FinMap as fin
 use Rattle.mb_kinds.specs.declared.credentials.Cred.{Cred}

@@ -1,5 +1,8 @@
 -- Which machines are valid: a sound tree, and sessions that fit it.
-use Rattle.std.specs.Prelude.{List, ℕ, ◌≤◌, ◌≡◌, ◌⊎◌, true, Option, Some, slice_get}
+use Rattle.std.specs.Prelude.{ℕ, ◌≤◌, ◌≡◌, true, Some, None, slice_get}
+use Rattle.mb_kinds.specs.declared.calls.How.{How}
+use Rattle.mb_tree.specs.declared.seats.SessionChange.{SessionChange}
+use Rattle.mb_tree.specs.declared.seats.SessionChange.TheVariants.{Fresh, Twin, Cwd}
 use Rattle.std.specs.FinMap as fin
 use Rattle.mb_tree.specs.Maps.{Numbered}
 use Rattle.mb_tree.specs.Sessions.{writes}
@@ -37,3 +40,23 @@ pub record IsValidFor (machine : Machine) (caller : ℕ) : Type 0 where
 -- for all of them
 abbrev pub IsValid : Machine → Type 0
 IsValid machine = (caller : ℕ) → IsValidFor machine caller
+
+-- the session changes that a valid session can make: what is opened can be open, what becomes the current
+-- directory is one, and a descriptor that comes into use is a free one of 3 to 19
+pub record FitsFresh (nodes : Numbered Node) (seat : Seat) (fd ino : ℕ) (how : How) : Type 0 where
+  pub above : 3 ≤ fd
+  pub within : fd ≤ 19
+  pub free : fin.get seat.fds fd ≡ None
+  pub openable : IsOpenable nodes ino
+  pub written : writes how ≡ true → IsRegularAt nodes ino
+
+pub record FitsTwin (seat : Seat) (to : ℕ) : Type 0 where
+  pub above : 3 ≤ to
+  pub within : to ≤ 19
+  pub free : fin.get seat.fds to ≡ None
+
+abbrev pub FitsSession : Numbered Node → Seat → SessionChange → Type 0
+FitsSession nodes seat (Fresh fd ino how) = FitsFresh nodes seat fd ino how
+FitsSession nodes seat (Twin fd to) = FitsTwin seat to
+FitsSession nodes seat (Cwd ino) = IsDirectoryAt nodes ino
+FitsSession nodes seat _ = Unit {0}

@@ -1,5 +1,5 @@
 -- Finite maps from numbers.
-use Rattle.std.specs.Prelude.{ℕ, Option, option_map, unwrap_or}
+use Rattle.std.specs.Prelude.{ℕ, option_map, unwrap_or}
 use Rattle.std.specs.FinMap as fin
 use Rattle.std.specs.Ordering.{nat_cmp}
 

@@ -1,7 +1,7 @@
 -- What each call is planned to do: one function for each call, with its refusals in the order in which they
 -- are tested and then the plan. The calls are those of V7's section 2; the order of a call's refusals is this
 -- project's choice. ENOSPC and EMLINK come with the effect of the operation.
-use Rattle.std.specs.Prelude.{List, [], ◌∷◌, ℕ, ◌+◌, ◌-◌, Bool, true, false, not, ◌&&◌, ◌||◌, ◌==◌, if◌then◌else◌, length, Option, Some, None, Ok, Err, option_map, unwrap_or, ℤ, pos, negsuc, ◌+ℤ◌, nat_le, nat_lt, bit_and, slice_get, bytes_eq}
+use Rattle.std.specs.Prelude.{List, [], ◌∷◌, ℕ, ◌+◌, ◌-◌, Bool, not, ◌&&◌, ◌||◌, ◌==◌, if◌then◌else◌, length, Option, Some, None, Ok, Err, option_map, unwrap_or, ℤ, pos, negsuc, ◌+ℤ◌, nat_le, nat_lt, bit_and, slice_get, bytes_eq}
 use Rattle.std.specs.List.{list_any}
 use Rattle.std.specs.FinMap as fin
 use Rattle.mb_kinds.specs.declared.credentials.Cred.{Cred}

@@ -1,5 +1,5 @@
 -- The callers' sessions: descriptors, open files, and what a call does to them.
-use Rattle.std.specs.Prelude.{List, [], ◌∷◌, ℕ, ◌+◌, ◌-◌, ◌<◌, Bool, true, false, not, ◌&&◌, ◌||◌, ◌==◌, if◌then◌else◌, Option, Some, None, is_some, option_map, option_and_then, unwrap_or, map, sum_by, slice_get, slice_set}
+use Rattle.std.specs.Prelude.{List, ℕ, ◌<◌, Bool, true, false, not, ◌==◌, if◌then◌else◌, Option, Some, None, option_map, option_and_then, unwrap_or, map, sum_by, slice_get, slice_set}
 use Rattle.std.specs.FinMap as fin
 use Rattle.mb_kinds.specs.declared.calls.How.{How}
 use Rattle.mb_kinds.specs.declared.calls.How.TheVariants.{Reading, Writing, Both}

@@ -1,11 +1,11 @@
 -- One call of the reference model: the plan of the call's row, then the effect of its operation, then its
 -- session change. A refused call leaves the machine as it was.
-use Rattle.std.specs.Prelude.{List, ℕ, ◌≡◌, ◌≤◌, ◌<◌, Option, Some, None, Ok, Err, IsSome}
+use Rattle.std.specs.Prelude.{ℕ, ◌≡◌, ◌≤◌, Option, Some, None, Ok, Err, IsSome}
 use Rattle.std.specs.FinMap as fin
 use Rattle.mb_kinds.specs.declared.calls.Call.{Call}
 use Rattle.mb_kinds.specs.declared.replies.Reply.{Reply}
 use Rattle.mb_kinds.specs.declared.replies.Reply.TheVariants.{Refused}
-use Rattle.mb_tree.specs.Answers.{Answer, ◌>>=◌, ◌>>◌}
+use Rattle.mb_tree.specs.Answers.{Answer, ◌>>=◌}
 use Rattle.mb_tree.specs.Sessions.{Counts, counts, with_change}
 use Rattle.mb_tree.specs.Effect.{Held, effect}
 use Rattle.mb_tree.specs.Rows.{plan}

@@ -1,6 +1,6 @@
 -- Which trees are sound: what the rules of a volume ask of its inodes, names and link counts (V7 filsys(5),
 -- dir(5)), without its blocks.
-use Rattle.std.specs.Prelude.{List, [], ◌∷◌, ℕ, ◌+◌, ◌*◌, ◌<◌, ◌≤◌, ◌≡◌, ◌≢◌, ◌⊎◌, Bool, true, false, ◌==◌, length, Option, Some, None, slice_get, slice_index, count_by, drop}
+use Rattle.std.specs.Prelude.{List, ℕ, ◌+◌, ◌<◌, ◌≤◌, ◌≡◌, ◌≢◌, Bool, true, false, ◌==◌, length, Option, Some, None, slice_get, slice_index, count_by, drop}
 use Rattle.std.specs.FinMap as fin
 use Rattle.mb_tree.specs.Maps.{Numbered}
 use Rattle.mb_tree.specs.Counting.{sum_below}

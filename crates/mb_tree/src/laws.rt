@@ -1,4 +1,4 @@
-ghost use Rattle.mb_tree.specs.Laws.{AfterAppends, LegalSplits, LegalAppends, LegalGrows, RefusedStays, ServedByEffect, CostKept};
+ghost use Rattle.mb_tree.specs.Laws.{AfterAppends, LegalSplits, LegalAppends, LegalGrows, RefusedStays, ServedByEffect, CostKept, SessionKept, AlikeKept, QuietKept, DropKept, ReleaseKept};
 
 /// The machine after two histories in a row is the one after the second, from the one after the first.
 pub fn after_appends()
@@ -33,4 +33,29 @@ pub fn served_by_effect()
 /// The files of a machine never hold more blocks than there are for them.
 pub fn cost_kept()
     ensures { CostKept }
+{}
+
+/// A session change that fits keeps a session valid.
+pub fn session_kept()
+    ensures { SessionKept }
+{}
+
+/// A tree stays sound where each inode keeps its slots and its link count, and there is room.
+pub fn alike_kept()
+    ensures { AlikeKept }
+{}
+
+/// An operation that touches bytes or attributes alone keeps a sound tree sound.
+pub fn quiet_kept()
+    ensures { QuietKept }
+{}
+
+/// A tree stays sound where inodes are dropped to which no used slot leads, and there is room.
+pub fn drop_kept()
+    ensures { DropKept }
+{}
+
+/// Releasing open files keeps a sound tree sound.
+pub fn release_kept()
+    ensures { ReleaseKept }
 {}

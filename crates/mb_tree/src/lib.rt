@@ -1,6 +1,13 @@
 //! The reference model: a plain tree of named nodes and the callers' descriptor tables, stepped by one
 //! call at a time, without blocks, caches, logs or faults. It is the yardstick of all claims on the
 //! restartable file system.
+//!
+//! `Machine::step` makes exactly the step of `specs/Step.antt`: the plan of the call's row
+//! (`specs/Rows.antt`), the effect of its one operation (`specs/Effect.antt`), and its session change
+//! (`specs/Sessions.antt`). Want of memory is the only error and leaves the machine as it was.
+//! `specs/Lookup.antt` says where a path leads, `specs/Cost.antt` how many blocks a tree holds,
+//! `specs/Trees.antt` and `specs/Machines.antt` which trees are sound and which machines are valid,
+//! `specs/History.antt` which lists of entries are histories, and `specs/Laws.antt` what holds of them.
 #![tactic(auto)]
 
 mod changes;
@@ -26,12 +33,12 @@ mod trees;
 
 pub use inodes::{is_directory, is_regular};
 pub use laws::{
-    after_appends, cost_kept, legal_appends, legal_grows, legal_splits, refused_stays,
-    served_by_effect,
+    after_appends, alike_kept, cost_kept, drop_kept, legal_appends, legal_grows, legal_splits,
+    quiet_kept, refused_stays, release_kept, served_by_effect, session_kept,
 };
 pub use lookups::{Placed, components, number_of};
 pub use machines::Machine;
-pub use maps::Map;
+pub use maps::{Copied, Map};
 pub use nodes::{Body, Node, Nodes, Parts, PlainSlot, PlainSlots};
 pub use operations::{FsOp, Inos};
 pub use plans::Plan;

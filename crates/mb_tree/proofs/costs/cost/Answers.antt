@@ -1,4 +1,4 @@
-use Rattle.std.proofs.Common.{◌∙◌, sym, arith}
+use Rattle.std.proofs.Common.{sym, arith}
 use Rattle.mb_tree.proofs.Searches.{sum_more, sum_none}
 use Rattle.mb_tree.proofs.costs.cost.Goals as goal
 

@@ -1,4 +1,4 @@
-use Rattle.std.proofs.Common.{◌≡◌, ◌+◌, ◌∙◌, sym, ap, length, arith}
+use Rattle.std.proofs.Common.{sym, ap, length, arith}
 use Rattle.std.proofs.lemmas.List.{nil_from_length}
 use Rattle.mb_tree.proofs.Groups.{one_more, none_more, all_counted}
 use Rattle.mb_tree.proofs.costs.touched.Goals as goal

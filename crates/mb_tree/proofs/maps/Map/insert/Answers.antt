@@ -1,4 +1,4 @@
-use Rattle.std.proofs.Common.{◌∙◌, sym, ap, subst, IsSome}
+use Rattle.std.proofs.Common.{◌∙◌, sym, ap}
 use Rattle.std.specs.FinMap as fin
 use Rattle.mb_tree.proofs.FiniteMaps.{get_view, given_view, none_there}
 use Rattle.mb_tree.proofs.maps.Map.insert.Goals as goal

@@ -1,6 +1,6 @@
-use Rattle.std.proofs.Common.{◌∙◌, ◌≡◌, sym, ap, subst, IsSome, Option, Some, None, refl}
+use Rattle.std.proofs.Common.{◌∙◌, sym, ap, subst, IsSome, Some, refl}
 use Rattle.std.specs.FinMap as fin
-use Rattle.mb_tree.proofs.FiniteMaps.{get_view, given_view, none_there, get_here}
+use Rattle.mb_tree.proofs.FiniteMaps.{get_view, given_view, none_there}
 use Rattle.mb_tree.proofs.maps.Map.swap.Goals as goal
 
 pub returns-in_default-clause-put : goal.returns-in_default-clause-put

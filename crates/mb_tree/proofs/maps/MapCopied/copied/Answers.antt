@@ -1,4 +1,4 @@
-use Rattle.std.proofs.Common.{◌∙◌, sym, ap, arith}
+use Rattle.std.proofs.Common.{◌∙◌, arith}
 use Rattle.mb_tree.proofs.MapCopies.{copied_none, copied_more, copied_all}
 use Rattle.mb_tree.proofs.maps.MapCopied.copied.Goals as goal
 

@@ -1,4 +1,4 @@
-use Rattle.std.proofs.Common.{◌≡◌, ◌≤◌, ◌-◌, ℕ, not}
+use Rattle.std.proofs.Common.{◌≡◌, ◌≤◌, ◌-◌}
 use Rattle.std.specs.FinMap as fin
 use Rattle.mb_tree.specs.Counting.{first_from}
 use Rattle.mb_tree.specs.Sessions.{is_at_place}

@@ -1,7 +1,6 @@
-use Rattle.std.proofs.Common.{◌≡◌, ◌≤◌, ◌-◌, ℕ, not}
+use Rattle.std.proofs.Common.{◌≡◌, ◌≤◌, ◌-◌, not}
 use Rattle.std.specs.FinMap as fin
 use Rattle.mb_tree.specs.Counting.{first_from}
-use Rattle.mb_tree.specs.Sessions.{is_at_place}
 use Rattle.mb_tree.proofs.tables.Files.first_free.Given as goal
 
 abbrev pub invariant-turns : goal.invariant-turns

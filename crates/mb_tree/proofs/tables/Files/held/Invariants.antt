@@ -1,4 +1,4 @@
-use Rattle.std.proofs.Common.{◌≡◌, ◌≤◌, ◌-◌, ℕ}
+use Rattle.std.proofs.Common.{◌≡◌, ◌≤◌, ◌-◌}
 use Rattle.std.specs.FinMap as fin
 use Rattle.mb_tree.specs.Counting.{sum_below}
 use Rattle.mb_tree.specs.Sessions.{held_by}
