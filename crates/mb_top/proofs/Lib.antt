@@ -1,4 +1,5 @@
 pub mod ContentLemmas
+pub mod Endings
 pub mod OpeningLemmas
 pub mod RunLemmas
 pub mod SeatLemmas

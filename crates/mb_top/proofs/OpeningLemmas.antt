@@ -1,6 +1,5 @@
 -- What an image is found to be, step by step.
 use Rattle.std.proofs.Common.{List, [], ◌∷◌, ℕ, zero, suc, ◌+◌, ◌*◌, ◌-◌, ◌<◌, ◌≤◌, ◌≡◌, ◌≢◌, Bool, true, false, ◌&&◌, length, slice_get, nat_le, nat_lt, refl, ap, sym, subst, ◌∙◌, arith, Option, Some, None, IfSome, inl, inr}
-use Rattle.std.specs.Bool.{Decides}
 use Rattle.std.proofs.lemmas.Bool.{cases_eq, cases_lt}
 use Rattle.std.proofs.lemmas.Bool.Decides.{nat_tests}
 use Rattle.mb_kinds.specs.Image.{Image}
@@ -10,8 +9,8 @@ use Rattle.mb_layout.specs.declared.super_blocks.Super.{Super}
 use Rattle.mb_tree.specs.Volume.{HasSizes, last_inode}
 use Rattle.mb_tree.specs.declared.nodes.PlainSlot.{PlainSlot}
 use Rattle.mb_top.specs.Contents.{inode_at}
-use Rattle.mb_top.specs.Openings.{IsOpened, Tests, Always, EndsAt, HasRoot, RootedTo, SmallAt, LeadsAt, AllLeadToSmall, AllHaveNames, sizes_fit}
-use Rattle.mb_top.specs.Simple.{IsSimple, IsSmallFile, HasSmallRoot, LeadsToSmall, HasName, root_slots}
+use Rattle.mb_top.specs.Openings.{Tests, Always, EndsAt, HasRoot, RootedTo, LeadsAt, AllLeadToSmall, AllHaveNames, sizes_fit}
+use Rattle.mb_top.specs.Simple.{IsSimple, HasSmallRoot, LeadsToSmall, HasName, root_slots}
 use Rattle.mb_top.proofs.ServingLemmas.{told_on}
 
 -- the inodes looked at so far have names

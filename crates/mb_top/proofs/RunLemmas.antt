@@ -1,5 +1,5 @@
 -- How a history grows by one served call after another.
-use Rattle.std.proofs.Common.{List, [], ◌∷◌, ◌++◌, ℕ, zero, suc, ◌+◌, ◌*◌, ◌-◌, ◌^◌, ◌<◌, ◌≤◌, ◌≡◌, ◌≢◌, Bool, true, false, cond, length, map, filter, take, get_or, nat_eq, min, refl, ap, sym, subst, ◌∙◌, arith, Option, None, Some, All, count_by, append-nil, append_assoc}
+use Rattle.std.proofs.Common.{List, [], ◌∷◌, ◌++◌, ℕ, suc, ◌+◌, ◌<◌, ◌≤◌, ◌≡◌, Bool, true, false, cond, length, map, filter, take, get_or, nat_eq, refl, ap, sym, subst, ◌∙◌, arith, Option, None, Some, All, count_by}
 use Rattle.std.specs.FinMap as fin
 use Rattle.std.specs.Ordering.{nat_cmp}
 use Rattle.std.proofs.lemmas.List.{map_push, map-id}
@@ -8,10 +8,8 @@ use Rattle.std.proofs.lemmas.List.{length-map, take_all}
 use Rattle.std.proofs.lemmas.List.FromFn.{length-range_with_len}
 use Rattle.std.proofs.Math.Seq.{take-suc}
 use Rattle.std.specs.List.{range_with_len, AllByRecursion}
-use Rattle.std.proofs.lemmas.Bool.Decides.{nat_tests}
 use Rattle.std.proofs.lemmas.List.FromFn.{map-range_with_len_more}
 use Rattle.mb_edge.specs.Causes.{Rose}
-use Rattle.mb_job.specs.Job.{the_caller}
 use Rattle.mb_job.specs.Small.{IsSmall}
 use Rattle.mb_job.specs.declared.jobs.Caller.{Caller}
 use Rattle.mb_job.specs.declared.jobs.Job.{Job}
@@ -22,16 +20,16 @@ use Rattle.mb_kinds.specs.declared.calls.Call.{Call}
 use Rattle.mb_kinds.specs.declared.entries.Entry.{Entry}
 use Rattle.mb_kinds.specs.declared.replies.Reply.{Reply}
 use Rattle.mb_kinds.specs.declared.replies.Reply.TheVariants.{Num, Got, Info, Refused, Restart, Device, Failed}
-use Rattle.mb_tree.specs.History.{Legal, Runs, AreRuns, AreInOrder, Follows, IsFailed, after, past}
+use Rattle.mb_tree.specs.History.{Runs, AreRuns, AreInOrder, Follows, IsFailed, after, past}
 use Rattle.mb_tree.specs.Opening.{swept, first_seat, opening}
 use Rattle.mb_tree.specs.declared.seats.PlainFile.{PlainFile}
-use Rattle.mb_tree.specs.Views.{Kept, IsLost}
+use Rattle.mb_tree.specs.Views.{Kept}
 use Rattle.mb_tree.specs.Volume.{IsVolume}
 use Rattle.mb_tree.specs.declared.machines.Machine.{Machine}
 use Rattle.mb_tree.specs.declared.seats.Seat.{Seat}
 use Rattle.mb_tree.specs.declared.trees.Tree.{Tree}
-use Rattle.mb_top.specs.Runs.{IsRun, IsHistory, HasHistory, HasOwnCalls, HasMoments, begun, calls_of, is_device, FewDevices}
-use Rattle.mb_top.specs.Serving.{machine_of, IsReady, Passes, Serves, IsServed, IsAnswered, entry_of}
+use Rattle.mb_top.specs.Runs.{HasHistory, HasOwnCalls, begun, is_device, FewDevices}
+use Rattle.mb_top.specs.Serving.{machine_of, IsReady, Passes, IsAnswered, entry_of}
 use Rattle.mb_top.specs.Simple.{IsSimple}
 use Rattle.mb_top.proofs.VolumeLemmas.{swept_same}
 

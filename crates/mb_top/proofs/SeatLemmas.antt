@@ -1,5 +1,5 @@
 -- What a caller has open stays among the small files of the root.
-use Rattle.std.proofs.Common.{List, [], ◌∷◌, ℕ, ◌≡◌, ◌≢◌, ◌<◌, ◌≤◌, Bool, true, false, ◌&&◌, ◌||◌, cond, map, nat_eq, refl, ap, sym, subst, ◌∙◌, arith, Option, Some, None, option_map, option_and_then, unwrap_or, T, inl, inr}
+use Rattle.std.proofs.Common.{List, [], ◌∷◌, ℕ, ◌≡◌, ◌≤◌, Bool, true, false, ◌&&◌, ◌||◌, cond, map, nat_eq, refl, ap, sym, subst, ◌∙◌, arith, Option, Some, None, option_map, option_and_then, unwrap_or, T, inl, inr}
 use Rattle.std.specs.FinMap as fin
 use Rattle.std.specs.FinMap.Entries.{find, below_all, is_sorted}
 use Rattle.std.specs.List.{list_any}
@@ -9,7 +9,7 @@ use Rattle.std.specs.declared.cmp.Ordering.TheVariants.{Less, Equal, Greater}
 use Rattle.mb_kinds.specs.declared.calls.How.{How}
 use Rattle.std.proofs.lemmas.Bool.Decides.{nat_tests}
 use Rattle.mb_tree.proofs.FiniteMaps.{get_here, get_there, gone_here, gone_there, one_or_not, is_here, is_apart}
-use Rattle.mb_tree.specs.Maps.{Numbered, changed_at}
+use Rattle.mb_tree.specs.Maps.{Numbered}
 use Rattle.mb_tree.specs.Sessions.{file_on, inos_of, changed, opened, closed, moved, free_place, has_place}
 use Rattle.mb_tree.specs.declared.seats.PlainFile.{PlainFile}
 use Rattle.mb_tree.specs.declared.seats.Seat.{Seat}

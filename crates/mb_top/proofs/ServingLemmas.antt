@@ -1,7 +1,6 @@
 -- Each call of a small job, served over a simple volume, is the reference model's step.
-use Rattle.std.proofs.Common.{List, [], ◌∷◌, ◌++◌, ℕ, zero, suc, ◌+◌, ◌*◌, ◌-◌, ◌/◌, ◌%◌, ◌≡◌, ◌≢◌, ◌<◌, ◌≤◌, ◌==◌, Bool, true, false, not, ◌&&◌, length, map, min, take, slice_get, get_or, cond, bytes_eq, codes, refl, ap, sym, subst, ◌∙◌, arith, Option, Some, None, Result, Ok, Err, All, IfSome, is_some, option_map, find, replicate}
+use Rattle.std.proofs.Common.{List, [], ◌∷◌, ℕ, zero, suc, ◌+◌, ◌-◌, ◌/◌, ◌≡◌, ◌≢◌, ◌≤◌, Bool, true, false, ◌&&◌, length, min, slice_get, get_or, cond, bytes_eq, refl, ap, sym, subst, ◌∙◌, arith, Option, Some, None, Ok, IfSome, is_some, option_map, find}
 use Rattle.std.specs.FinMap as fin
-use Rattle.std.specs.List.{range_with_len}
 use Rattle.std.proofs.lemmas.Bool.Decides.{nat_tests}
 use Rattle.std.proofs.lemmas.Slice.Eq.{bytes_eq-Decides}
 use Rattle.mb_job.specs.Small.{IsPlainName, IsPlainPath}
@@ -11,19 +10,16 @@ use Rattle.mb_kinds.specs.declared.calls.Call.{Call}
 use Rattle.mb_kinds.specs.declared.calls.Call.TheVariants as call
 use Rattle.mb_kinds.specs.declared.calls.How.TheVariants.{Reading}
 use Rattle.mb_kinds.specs.declared.errors.Errno.TheVariants.{ENOENT, EMFILE, EBADF}
-use Rattle.mb_kinds.specs.declared.replies.Reply.{Reply}
 use Rattle.mb_kinds.specs.declared.replies.Reply.TheVariants.{Num, Got, Refused, Device}
-use Rattle.mb_kinds.specs.declared.replies.Stat.{Stat}
 use Rattle.mb_layout.specs.declared.dinodes.Dinode.{Dinode}
-use Rattle.mb_tree.specs.Answers.{Answer, ◌>>=◌, some}
+use Rattle.mb_tree.specs.Answers.{◌>>=◌, some}
 use Rattle.mb_tree.specs.Effect.{dot, dot_dot}
 use Rattle.mb_tree.specs.Inodes.{stat_of, is_regular, read_at}
 use Rattle.mb_tree.specs.Lookup.{components, padded, is_named, is_used, number_of, stat_in, find_path}
 use Rattle.mb_tree.specs.Opening.{swept}
 use Rattle.mb_tree.specs.Sessions.{free_descriptor, file_on, changed, reads}
-use Rattle.mb_tree.specs.Trees.{AreSlots}
-use Rattle.mb_tree.specs.Volume.{IsVolume, last_inode}
-use Rattle.mb_tree.specs.declared.nodes.Body.TheVariants.{Directory, Regular}
+use Rattle.mb_tree.specs.Volume.{IsVolume}
+use Rattle.mb_tree.specs.declared.nodes.Body.TheVariants.{Directory}
 use Rattle.mb_tree.specs.declared.nodes.Node.{Node}
 use Rattle.mb_tree.specs.declared.nodes.PlainSlot.{PlainSlot}
 use Rattle.mb_tree.specs.declared.seats.PlainFile.{PlainFile}
@@ -31,11 +27,11 @@ use Rattle.mb_tree.specs.declared.seats.Seat.{Seat}
 use Rattle.mb_tree.specs.declared.seats.SessionChange.TheVariants.{Fresh, Free, Move, Clear}
 use Rattle.mb_tree.specs.declared.trees.Tree.{Tree}
 use Rattle.mb_top.specs.Contents.{inode_at, direct_part, slots_in, bytes_in}
-use Rattle.mb_top.specs.Serving.{machine_of, IsReady, Passes, Serves, IsServed, IsAnswered, IsPlain, entry_of}
+use Rattle.mb_top.specs.Serving.{IsReady, Passes, Serves, IsAnswered, entry_of}
 use Rattle.mb_top.specs.Simple.{IsSimple, IsSmallFile, HasSmallRoot, root_slots}
 use Rattle.mb_top.proofs.SeatLemmas.{never_one, file_small, fresh_ready, move_ready, free_ready, clear_ready}
 use Rattle.mb_top.proofs.StepLemmas.{alone, one_component, find_in_root, open_missing, open_full, open_done, read_bad, read_unreadable, read_done, close_bad, close_served, exit_served, AllLinked, passes_plain, passes_device}
-use Rattle.mb_top.proofs.VolumeLemmas.{Stands, stands, IsFileNode, is_file_node, is_directory_node, directory_used, regular_used, slots_direct, bytes_direct, fields_of, is_linked, swept_same}
+use Rattle.mb_top.proofs.VolumeLemmas.{Stands, stands, is_file_node, is_directory_node, directory_used, regular_used, slots_direct, bytes_direct, is_linked, swept_same}
 
 -- what a disk that tells the same as before says of its image
 pub told_on : (start now : Option Image) (P : Image → Type 0) → now ≡ start → IfSome now P → IfSome start P

@@ -1,5 +1,5 @@
 -- What the reference model answers to the calls of a small job, for a caller with uid 0.
-use Rattle.std.proofs.Common.{List, [], ◌∷◌, ◌++◌, ℕ, zero, suc, ◌+◌, ◌*◌, ◌-◌, ◌/◌, ◌%◌, ◌≡◌, ◌≢◌, ◌<◌, ◌≤◌, ◌==◌, Bool, true, false, not, ◌&&◌, ◌||◌, cond, length, map, min, slice_index, slice_get, nat_eq, nat_lt, refl, ap, sym, subst, ◌∙◌, arith, Option, Some, None, Result, Ok, Err, All, inl, inr, unwrap_or, option_map, filter, IsSome}
+use Rattle.std.proofs.Common.{List, [], ◌∷◌, ℕ, ◌+◌, ◌≡◌, ◌≢◌, ◌≤◌, ◌==◌, Bool, true, false, not, ◌&&◌, cond, length, map, nat_eq, refl, ap, sym, ◌∙◌, arith, Option, Some, None, Ok, Err, All, inl, inr, filter, IsSome}
 use Rattle.std.specs.FinMap as fin
 use Rattle.std.specs.List.{slice_split, list_any}
 use Rattle.std.proofs.lemmas.Bool.Decides.{nat_tests}
@@ -7,36 +7,29 @@ use Rattle.std.proofs.lemmas.Bool.{cases_eq}
 use Rattle.std.specs.Cmp.{nat_cmp_total}
 use Rattle.std.proofs.Math.Bool.{and-false}
 use Rattle.std.proofs.lemmas.List.Splits.{slice_split_none}
-use Rattle.mb_kinds.specs.declared.calls.Call.{Call}
 use Rattle.mb_kinds.specs.declared.calls.Call.TheVariants as call
-use Rattle.mb_kinds.specs.declared.calls.How.{How}
 use Rattle.mb_kinds.specs.declared.calls.How.TheVariants.{Reading}
 use Rattle.mb_kinds.specs.declared.credentials.Cred.{Cred}
 use Rattle.mb_kinds.specs.declared.entries.Entry.{Entry}
-use Rattle.mb_kinds.specs.declared.errors.Errno.{Errno}
 use Rattle.mb_kinds.specs.declared.errors.Errno.TheVariants.{ENOENT, EMFILE, EBADF}
 use Rattle.mb_kinds.specs.declared.replies.Reply.{Reply}
 use Rattle.mb_kinds.specs.declared.replies.Reply.TheVariants.{Num, Got, Info, Refused, Restart, Device, Failed}
 use Rattle.mb_kinds.specs.declared.replies.Stat.{Stat}
-use Rattle.mb_tree.specs.Answers.{Answer, ◌>>=◌, ◌>>◌, need, some}
-use Rattle.mb_tree.specs.Effect.{effect, less_open, release, is_lost, Held}
-use Rattle.mb_tree.specs.Inodes.{is_directory, is_regular, is_special, may, stat_of, slots_of, read_at, kind_of}
-use Rattle.mb_tree.specs.Lookup.{components, padded, slash, start_of, walk, enter, look, number_of, stat_in, find_path}
+use Rattle.mb_tree.specs.Answers.{Answer, ◌>>=◌, some}
+use Rattle.mb_tree.specs.Effect.{less_open, release, is_lost}
+use Rattle.mb_tree.specs.Inodes.{is_directory, is_regular, is_special, may, stat_of, slots_of, read_at}
+use Rattle.mb_tree.specs.Lookup.{components, padded, slash, number_of, stat_in, find_path}
 use Rattle.mb_tree.specs.Maps.{Numbered}
-use Rattle.mb_tree.specs.Rows.{open_row, read_row, close_row, exit_row, exited, both, seated, row, plan}
-use Rattle.mb_tree.specs.Sessions.{free_descriptor, file_on, is_shared, inos_of, changed, counts, with_change, reads, writes}
-use Rattle.mb_tree.specs.History.{Runs, past, past_reply, stepped, IsStep}
-use Rattle.mb_tree.specs.Step.{step, serve, or_refused, effect_of, IsLawful, Makes}
+use Rattle.mb_tree.specs.Sessions.{free_descriptor, file_on, is_shared, inos_of, changed, counts, reads}
+use Rattle.mb_tree.specs.History.{Runs, past_reply, stepped, IsStep}
+use Rattle.mb_tree.specs.Step.{step, IsLawful}
 use Rattle.mb_top.specs.Serving.{Passes, IsPlain}
 use Rattle.mb_tree.specs.declared.machines.Machine.{Machine}
-use Rattle.mb_tree.specs.declared.nodes.Body.TheVariants.{Directory, Regular}
+use Rattle.mb_tree.specs.declared.nodes.Body.TheVariants.{Directory}
 use Rattle.mb_tree.specs.declared.nodes.Node.{Node}
 use Rattle.mb_tree.specs.declared.nodes.PlainSlot.{PlainSlot}
-use Rattle.mb_tree.specs.declared.operations.FsOp.TheVariants as op
-use Rattle.mb_tree.specs.declared.plans.Plan.{Plan}
 use Rattle.mb_tree.specs.declared.seats.PlainFile.{PlainFile}
 use Rattle.mb_tree.specs.declared.seats.Seat.{Seat}
-use Rattle.mb_tree.specs.declared.seats.SessionChange.{SessionChange}
 use Rattle.mb_tree.specs.declared.seats.SessionChange.TheVariants.{Fresh, Free, Move, Clear}
 use Rattle.mb_tree.specs.declared.trees.Tree.{Tree}
 

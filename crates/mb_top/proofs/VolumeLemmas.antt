@@ -1,24 +1,21 @@
 -- What an image that is a volume of a tree says of the tree's nodes, read off its blocks.
-use Rattle.std.proofs.Common.{List, [], ◌∷◌, ◌++◌, ℕ, zero, suc, ◌+◌, ◌*◌, ◌-◌, ◌/◌, ◌%◌, ◌≡◌, ◌≢◌, ◌<◌, ◌≤◌, Bool, true, false, not, ◌&&◌, cond, length, map, min, slice_index, slice_get, nat_eq, nat_lt, refl, ap, sym, subst, ◌∙◌, arith, Option, Some, None, unwrap_or, IfSome, inl, inr}
+use Rattle.std.proofs.Common.{List, ◌∷◌, ℕ, zero, suc, ◌+◌, ◌/◌, ◌%◌, ◌≡◌, ◌≢◌, ◌<◌, ◌≤◌, Bool, true, false, not, cond, length, map, slice_index, nat_eq, nat_lt, refl, ap, sym, ◌∙◌, arith, Option, Some, None, unwrap_or, inl, inr}
 use Rattle.std.specs.FinMap as fin
 use Rattle.std.specs.List.{range_with_len}
-use Rattle.std.specs.Ordering.{nat_cmp}
 use Rattle.std.proofs.lemmas.Bool.Decides.{nat_tests}
 use Rattle.std.proofs.lemmas.Bool.{cases_eq}
 use Rattle.std.specs.Cmp.{nat_cmp_total}
 use Rattle.std.proofs.Math.Bool.{and-false}
-use Rattle.std.proofs.lemmas.List.{get_or-drop}
 use Rattle.mb_layout.proofs.InodeBytes.{address_in_area}
 use Rattle.mb_kinds.specs.Image.{Image, zeros}
-use Rattle.mb_word.specs.Fields.{inode_block, inode_place, mode_of, nlink_of, size_of, address_of}
-use Rattle.mb_layout.specs.Inode.{dinode_at, address_in}
-use Rattle.mb_layout.specs.Addresses.{AddressesInArea}
-use Rattle.mb_tree.specs.Blocks.{part_in, part_bytes, part_address, pointers, bytes_at, slot_of, slot_in}
+use Rattle.mb_word.specs.Fields.{inode_block, inode_place, address_of}
+use Rattle.mb_layout.specs.Inode.{address_in}
+use Rattle.mb_tree.specs.Blocks.{part_in, part_bytes, slot_of, slot_in}
 use Rattle.mb_tree.specs.Cost.{most_parts}
-use Rattle.mb_tree.specs.Inodes.{part_at, byte_at, bytes_from, read_at, is_regular, is_directory, is_special, kind_of}
+use Rattle.mb_tree.specs.Inodes.{part_at, bytes_from, is_regular, is_directory, is_special}
 use Rattle.mb_tree.specs.Maps.{Numbered}
 use Rattle.mb_tree.specs.Opening.{swept, is_nameless}
-use Rattle.mb_tree.specs.Places.{Top, Under, place_of}
+use Rattle.mb_tree.specs.Places.{Top, place_of}
 use Rattle.mb_tree.specs.Trees.{HasKind}
 use Rattle.mb_tree.specs.Volume.{IsVolume, HasInode, HasNode, HasBody, HasFile, HasDirectory, last_inode}
 use Rattle.mb_tree.specs.declared.nodes.Body.{Body}
@@ -26,8 +23,8 @@ use Rattle.mb_tree.specs.declared.nodes.Body.TheVariants.{Regular, Directory, Sp
 use Rattle.mb_tree.specs.declared.nodes.Node.{Node}
 use Rattle.mb_tree.specs.declared.nodes.PlainSlot.{PlainSlot}
 use Rattle.mb_tree.specs.declared.trees.Tree.{Tree}
-use Rattle.mb_top.specs.Contents.{inode_at, direct_part, slots_in, bytes_in, behind}
-use Rattle.mb_top.specs.Simple.{IsSimple, IsSmallFile, root_slots}
+use Rattle.mb_top.specs.Contents.{inode_at, direct_part, slots_in, bytes_in}
+use Rattle.mb_top.specs.Simple.{IsSimple}
 
 -- an inode in use, and its node
 pub record Stands (blocks : ℕ → List ℕ) (tree : Tree) (ino : ℕ) : Type 0 where

@@ -1,5 +1,5 @@
 -- What an inode and its first ten parts hold, read from the blocks of a disk.
-use Rattle.std.specs.Prelude.{List, [], ◌∷◌, ℕ, zero, suc, ◌+◌, ◌/◌, ◌%◌, ◌-◌, min, map, slice_index, unwrap_or}
+use Rattle.std.specs.Prelude.{List, [], ◌∷◌, ℕ, zero, suc, ◌+◌, ◌/◌, ◌%◌, map, slice_index, unwrap_or}
 use Rattle.std.specs.List.{range_with_len}
 use Rattle.mb_kinds.specs.Image.{zeros}
 use Rattle.mb_word.specs.Fields.{inode_block, inode_place}

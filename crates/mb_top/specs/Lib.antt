@@ -1,4 +1,5 @@
 pub mod Commands
+pub mod Completes
 pub mod Contents
 pub mod Held
 pub mod Openings

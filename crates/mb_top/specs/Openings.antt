@@ -1,5 +1,5 @@
 -- What an image is found to be when it is opened.
-use Rattle.std.specs.Prelude.{ℕ, Bool, ◌&&◌, ◌+◌, ◌*◌, ◌-◌, ◌<◌, ◌≤◌, ◌≡◌, ◌≢◌, nat_le, nat_lt, Decides, Option, None, Some, IfSome}
+use Rattle.std.specs.Prelude.{ℕ, Bool, ◌&&◌, ◌<◌, ◌≤◌, ◌≡◌, ◌≢◌, nat_le, nat_lt, Decides, Option, None, Some}
 use Rattle.mb_kinds.specs.Image.{Image}
 use Rattle.mb_layout.specs.declared.super_blocks.Super.{Super}
 use Rattle.mb_tree.specs.declared.nodes.PlainSlot.{PlainSlot}

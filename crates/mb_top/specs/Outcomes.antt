@@ -1,5 +1,5 @@
 -- How the program ends: the order of the causes, and for each of them its status and its text.
-use Rattle.std.specs.Prelude.{List, [], ◌∷◌, ◌++◌, ℕ, ◌≡◌, ◌≢◌, ◌<◌, ◌≤◌, ◌⊎◌, codes, true, false, length, take, Option, None, Some, Ok, Err, IfSome}
+use Rattle.std.specs.Prelude.{List, ◌++◌, ℕ, ◌≡◌, ◌≢◌, ◌<◌, ◌≤◌, ◌⊎◌, codes, true, false, length, take, Option, Ok, Err, IfSome}
 use Rattle.std.specs.Io.KnownBytes.{Appends}
 use Rattle.mb_edge.specs.Transfers.{TakesFront}
 use Rattle.mb_job.specs.Job.{job_in}

@@ -1,6 +1,6 @@
 -- What it means that a job was run over an image: one legal history of the reference model, in which
 -- each caller's calls stand once, in its order.
-use Rattle.std.specs.Prelude.{List, [], ◌∷◌, ℕ, Bool, true, false, ◌+◌, ◌-◌, ◌^◌, ◌<◌, ◌≤◌, ◌≡◌, Option, None, Some, map, filter, count_by, nat_eq, length}
+use Rattle.std.specs.Prelude.{List, ℕ, Bool, true, false, ◌+◌, ◌-◌, ◌^◌, ◌<◌, ◌≤◌, ◌≡◌, Option, None, Some, map, filter, count_by, nat_eq, length}
 use Rattle.std.specs.List.{range_with_len}
 use Rattle.mb_job.specs.declared.jobs.Caller.{Caller}
 use Rattle.mb_job.specs.declared.jobs.Job.{Job}
@@ -8,7 +8,6 @@ use Rattle.mb_job.specs.declared.jobs.JobCall.{JobCall}
 use Rattle.mb_kinds.specs.Image.{Image}
 use Rattle.mb_kinds.specs.Own.{own}
 use Rattle.mb_kinds.specs.declared.calls.Call.{Call}
-use Rattle.mb_kinds.specs.declared.credentials.Cred.{Cred}
 use Rattle.mb_kinds.specs.declared.entries.Entry.{Entry}
 use Rattle.mb_kinds.specs.declared.replies.Reply.{Reply}
 use Rattle.mb_kinds.specs.declared.replies.Reply.TheVariants.{Device}

@@ -6,7 +6,7 @@ use Rattle.mb_kinds.specs.Image.{Image}
 use Rattle.mb_kinds.specs.declared.calls.Call.{Call}
 use Rattle.mb_kinds.specs.declared.entries.Entry.{Entry}
 use Rattle.mb_kinds.specs.declared.replies.Reply.{Reply}
-use Rattle.mb_kinds.specs.declared.replies.Reply.TheVariants.{Num, Got, Info, Refused, Restart, Device, Failed}
+use Rattle.mb_kinds.specs.declared.replies.Reply.TheVariants.{Num, Got, Info, Refused}
 use Rattle.mb_tree.specs.History.{Runs, past}
 use Rattle.mb_tree.specs.Opening.{swept}
 use Rattle.mb_tree.specs.Volume.{IsVolume}

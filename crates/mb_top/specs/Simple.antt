@@ -1,8 +1,7 @@
 -- The images that this version of the program runs on: a root directory and regular files in it, all
 -- of at most 5120 bytes, ten parts. An image may be simple and no volume.
-use Rattle.std.specs.Prelude.{List, ℕ, ◌+◌, ◌-◌, ◌*◌, ◌/◌, ◌%◌, ◌<◌, ◌≤◌, ◌≡◌, ◌≢◌, true, Some, slice_get}
+use Rattle.std.specs.Prelude.{List, ℕ, ◌/◌, ◌%◌, ◌<◌, ◌≤◌, ◌≡◌, ◌≢◌, true, Some, slice_get}
 use Rattle.mb_kinds.specs.Image.{Image}
-use Rattle.mb_layout.specs.Inode.{dinode_at}
 use Rattle.mb_tree.specs.Inodes.{is_directory, is_regular}
 use Rattle.mb_tree.specs.Volume.{HasSizes, last_inode}
 use Rattle.mb_tree.specs.declared.nodes.PlainSlot.{PlainSlot}

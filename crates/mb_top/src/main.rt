@@ -10,6 +10,7 @@ mod errors;
 mod files;
 mod findings;
 mod finish;
+mod laws;
 mod membrane;
 mod opening;
 mod outcomes;

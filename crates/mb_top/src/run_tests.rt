@@ -215,3 +215,91 @@ fn a_call_that_the_disk_fails_changes_nothing(rt: HostRuntime) -> Result<(), Fai
     );
     Ok(())
 }
+
+// What a change of some bytes of the example volume makes of it.
+#[test]
+fn near_misses_of_a_simple_image_are_told_apart(rt: HostRuntime) -> Result<(), Fail> {
+    let not_built = b"not built\n".as_slice();
+    let bad_sizes = b"volume refused: block 1 rule 2\n".as_slice();
+    for (at, bytes, status, printed) in [
+        (512, [2, 0].as_slice(), 3, bad_sizes),
+        (516, [101, 0].as_slice(), 3, bad_sizes),
+        (1088, [0xff, 0x81].as_slice(), 9, not_built),
+        (1098, [0x10, 0x14].as_slice(), 9, not_built),
+        (1098, [49, 0].as_slice(), 9, not_built),
+        (1162, [0x01, 0x14].as_slice(), 9, not_built),
+        (1154, [0, 0].as_slice(), 9, not_built),
+        (2080, [1, 0].as_slice(), 9, not_built),
+        (2080, [2, 0].as_slice(), 9, not_built),
+        (2080, [17, 0].as_slice(), 9, not_built),
+        (
+            2080,
+            [0, 0].as_slice(),
+            0,
+            b"1 a open /hello r = ENOENT\n2 a exit = 0\nend 2 faults 0 seal 2\n".as_slice(),
+        ),
+    ] {
+        let mut image = hello_volume(rt.alloc())?;
+        put(&mut image, at, bytes);
+        let end = run(
+            rt.alloc(),
+            &["run", "v"],
+            image,
+            b"calls = [\"a open /hello r\"]",
+            NOTHING_FAILS,
+        )?;
+        assert_eq!(rt; end.status, status);
+        assert_eq!(rt; end.printed.as_slice(), printed);
+    }
+    Ok(())
+}
+
+// A file of ten parts: part p is at block 5 + p and filled with that number, but part 3 is a hole.
+fn ten_parts(alloc: Global) -> Result<Vec<u8>, AllocError> {
+    let mut image = hello_volume(alloc)?;
+    put(&mut image, 1160, &[0, 0, 0, 0x14]);
+    for part in 0..10u8 {
+        let block = 5 + usize::from(part);
+        put(&mut image, 512 * block, &[5 + part; 512]);
+        let address = if part == 3 { 0 } else { 5 + part };
+        put(&mut image, 1164 + 3 * usize::from(part), &[0, address, 0]);
+    }
+    Ok(image)
+}
+
+fn push_hex(out: &mut Vec<u8>, digits: &[u8], count: usize) -> Result<(), AllocError> {
+    for _ in 0..count {
+        out.extend_from_slice(digits)?;
+    }
+    Ok(())
+}
+
+#[test]
+fn a_file_of_ten_parts_is_read_in_pieces(rt: HostRuntime) -> Result<(), Fail> {
+    let job =
+        b"calls = [\"a open /hello r\", \"a read 3 1\", \"a read 3 511\", \"a read 3 512\", \"a read 3 513\", \"a read 3 65535\", \"a read 3 1\"]";
+    let end = run(
+        rt.alloc(),
+        &["run", "v"],
+        ten_parts(rt.alloc())?,
+        job,
+        NOTHING_FAILS,
+    )?;
+    let mut wanted = b"1 a open /hello r = 3\n2 a read 3 1 = 1 05\n3 a read 3 511 = 511 ".to_vec(
+        rt.alloc(),
+    )?;
+    push_hex(&mut wanted, b"05", 511)?;
+    wanted.extend_from_slice(b"\n4 a read 3 512 = 512 ")?;
+    push_hex(&mut wanted, b"06", 512)?;
+    wanted.extend_from_slice(b"\n5 a read 3 513 = 513 ")?;
+    push_hex(&mut wanted, b"07", 512)?;
+    wanted.extend_from_slice(b"00\n6 a read 3 65535 = 3583 ")?;
+    push_hex(&mut wanted, b"00", 511)?;
+    for digits in [b"09", b"0a", b"0b", b"0c", b"0d", b"0e"] {
+        push_hex(&mut wanted, digits.as_slice(), 512)?;
+    }
+    wanted.extend_from_slice(b"\n7 a read 3 1 = 0\n8 a exit = 0\nend 8 faults 0 seal 8\n")?;
+    assert_eq!(rt; end.status, 0);
+    assert_eq!(rt; end.printed.as_slice(), wanted.as_slice());
+    Ok(())
+}

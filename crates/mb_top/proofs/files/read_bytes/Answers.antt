@@ -1,4 +1,4 @@
-use Rattle.std.proofs.Common.{ℕ, ◌≡◌, ◌≤◌, ◌<◌, ◌-◌, refl, ◌∙◌, arith, length, sym, ap, length-append, length-take, length-drop}
+use Rattle.std.proofs.Common.{◌≡◌, refl, ◌∙◌, arith, length, ap}
 use Rattle.mb_top.proofs.ContentLemmas.{bytes_begin, bytes_go_on, bytes_end, longer}
 use Rattle.mb_top.proofs.files.read_bytes.Goals as goal
 

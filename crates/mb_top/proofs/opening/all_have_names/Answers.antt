@@ -1,4 +1,4 @@
-use Rattle.std.proofs.Common.{◌≡◌, ◌≤◌, ◌<◌, arith}
+use Rattle.std.proofs.Common.{arith}
 use Rattle.mb_top.proofs.OpeningLemmas.{named_none}
 use Rattle.mb_top.proofs.opening.all_have_names.Goals as goal
 

@@ -1,8 +1,5 @@
-use Rattle.std.proofs.Common.{◌≡◌, ◌≤◌, ◌∙◌, ◌<◌, arith, ap, sym, subst, Option, IfSome, List}
+use Rattle.std.proofs.Common.{◌∙◌, arith}
 use Rattle.std.proofs.lemmas.Option.{slice_get-get_or}
-use Rattle.mb_kinds.specs.Image.{Image}
-use Rattle.mb_tree.specs.declared.nodes.PlainSlot.{PlainSlot}
-use Rattle.mb_top.specs.Simple.{HasSmallRoot, root_slots}
 use Rattle.mb_top.proofs.OpeningLemmas.{leading_more, leading_all, all_known}
 use Rattle.mb_top.proofs.opening.all_lead_to_small.Goals as goal
 

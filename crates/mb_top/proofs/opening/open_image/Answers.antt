@@ -1,4 +1,4 @@
-use Rattle.std.proofs.Common.{◌≡◌, ◌≤◌, ◌∙◌, ◌<◌, ◌*◌, ◌-◌, arith, ap, sym, refl}
+use Rattle.std.proofs.Common.{◌∙◌, sym, refl}
 use Rattle.mb_top.proofs.OpeningLemmas.{opened_simple}
 use Rattle.mb_top.proofs.opening.open_image.Goals as goal
 

@@ -1,6 +1,5 @@
-use Rattle.mb_edge.specs.Causes.{Rose}
 use Rattle.mb_top.proofs.ContentLemmas.{slots_begin, slots_go_on}
-use Rattle.std.proofs.Common.{◌≤◌, refl, ap, min, ◌∙◌, arith}
+use Rattle.std.proofs.Common.{refl, ◌∙◌, arith}
 use Rattle.mb_top.proofs.roots.read_slots.Goals as goal
 
 pub loop-part-init : goal.loop-part-init

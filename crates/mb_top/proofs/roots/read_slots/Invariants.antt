@@ -1,4 +1,4 @@
-use Rattle.std.proofs.Common.{◌≡◌, ◌≤◌, ◌*◌, ◌/◌, min, IfSome}
+use Rattle.std.proofs.Common.{◌≡◌, ◌≤◌, ◌*◌, min, IfSome}
 use Rattle.mb_top.specs.Contents.{direct_part, slots_in}
 use Rattle.mb_top.proofs.roots.read_slots.Given as goal
 

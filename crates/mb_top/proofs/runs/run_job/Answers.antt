@@ -1,4 +1,4 @@
-use Rattle.std.proofs.Common.{◌≡◌, ◌≤◌, ◌<◌, ◌∙◌, ◌+◌, refl, sym, ap, arith, map}
+use Rattle.std.proofs.Common.{◌∙◌, refl, ap, arith, map}
 use Rattle.mb_kinds.specs.declared.entries.Entry.{Entry}
 use Rattle.mb_top.proofs.RunLemmas.{goes_on_begin, goes_on_more, over_begin, over_more, over_end, few_begin, few_more, calls_more, calls_all, moments_all, own_calls}
 use Rattle.mb_top.proofs.runs.run_job.Goals as goal

@@ -1,7 +1,6 @@
-use Rattle.std.proofs.Common.{◌≡◌, sym, ◌∙◌, ap, subst, refl, false, true, None, is_some}
+use Rattle.std.proofs.Common.{sym, ◌∙◌, ap, subst, is_some}
 use Rattle.mb_kinds.specs.declared.calls.Call.TheVariants as call
 use Rattle.mb_kinds.specs.declared.replies.Reply.TheVariants.{Num}
-use Rattle.mb_tree.specs.Sessions.{file_on}
 use Rattle.mb_tree.specs.declared.seats.Seat.{Seat}
 use Rattle.mb_top.specs.Serving.{IsAnswered}
 use Rattle.mb_top.proofs.ServingLemmas.{bad_close_answered, close_answered, is_open, is_bad}

@@ -1,7 +1,6 @@
-use Rattle.std.proofs.Common.{◌≡◌, sym, ◌∙◌, ap, subst, refl, slice_get, List, ℕ, Some, None}
+use Rattle.std.proofs.Common.{◌≡◌, sym, ◌∙◌, ap, subst, slice_get, ℕ, Some, None}
 use Rattle.mb_kinds.specs.declared.calls.Call.TheVariants as call
 use Rattle.mb_kinds.specs.declared.calls.How.TheVariants.{Reading}
-use Rattle.mb_kinds.specs.declared.replies.Reply.{Reply}
 use Rattle.mb_kinds.specs.declared.replies.Reply.TheVariants.{Num}
 use Rattle.mb_tree.specs.Lookup.{components, number_of}
 use Rattle.mb_tree.specs.declared.seats.Seat.{Seat}

@@ -1,4 +1,4 @@
-use Rattle.std.proofs.Common.{◌≡◌, ◌+◌, sym, ◌∙◌, ap, subst, refl, ℕ, length, IfSome, false, true, not}
+use Rattle.std.proofs.Common.{◌≡◌, ◌+◌, sym, ◌∙◌, ap, subst, length, false, true}
 use Rattle.mb_kinds.specs.declared.calls.Call.TheVariants as call
 use Rattle.mb_kinds.specs.declared.replies.Reply.TheVariants.{Got}
 use Rattle.mb_tree.specs.Sessions.{reads}

@@ -1,0 +1,5 @@
+use Rattle.mb_top.proofs.Endings.{completes}
+use Rattle.mb_top.proofs.laws.runs_complete.Goals as goal
+
+pub returns : goal.returns
+returns c = completes
