@@ -116,6 +116,24 @@ fn keeps_the_limit_on_reads(rt: HostRuntime) -> Result<(), JobFault> {
     Ok(())
 }
 
+fn closes(alloc: Global, times: u32) -> Result<Vec<u8>, AllocError> {
+    let mut text = b"calls = [".to_vec(alloc)?;
+    let calls = repeated(alloc, b"\"a close 3\",", times)?;
+    text.extend_from_slice(&calls)?;
+    text.extend_from_slice(b"]")?;
+    Ok(text)
+}
+
+#[test]
+fn keeps_the_limit_on_calls(rt: HostRuntime) -> Result<(), JobFault> {
+    let alloc = rt.alloc();
+    let within = closes(alloc, 100_000)?;
+    let past = closes(alloc, 100_001)?;
+    assert!(rt; job_of(alloc, &within).is_ok());
+    assert!(rt; job_of(alloc, &past).err() == Some(JobFault::NotBuilt));
+    Ok(())
+}
+
 #[test]
 fn refuses_a_long_text(rt: HostRuntime) -> Result<(), AllocError> {
     let long = repeated(rt.alloc(), b" ", 4_194_305)?;
