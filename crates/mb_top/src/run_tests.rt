@@ -231,7 +231,21 @@ fn near_misses_of_a_simple_image_are_told_apart(rt: HostRuntime) -> Result<(), F
         (1154, [0, 0].as_slice(), 9, not_built),
         (2080, [1, 0].as_slice(), 9, not_built),
         (2080, [2, 0].as_slice(), 9, not_built),
+        (2080, [16, 0].as_slice(), 9, not_built),
         (2080, [17, 0].as_slice(), 9, not_built),
+        (2080, [0xff, 0xff].as_slice(), 9, not_built),
+        (
+            1100,
+            [0xff, 0xff, 0xff].as_slice(),
+            0,
+            b"1 a open /hello r = ENOENT\n2 a exit = 0\nend 2 faults 0 seal 2\n".as_slice(),
+        ),
+        (
+            2082,
+            b"hellohellohell".as_slice(),
+            0,
+            b"1 a open /hello r = ENOENT\n2 a exit = 0\nend 2 faults 0 seal 2\n".as_slice(),
+        ),
         (
             2080,
             [0, 0].as_slice(),
