@@ -28,7 +28,7 @@ impl<T: Booked> Model for Card<T> {
 }
 
 impl<T: Booked> Card<T> {
-    // The card of a caller that sees the value.
+    /// The card of a caller that sees the value.
     pub fn of(value: &T, caller: u8) -> Card<T>
         requires { IsSome (T.stand value.now caller) }
         ensures { result ≡ (caller, value.now) }
@@ -40,7 +40,7 @@ impl<T: Booked> Card<T> {
         }
     }
 
-    // The caller sees a value in which it stands as before.
+    /// The caller sees a value in which it stands as before.
     pub fn see(&mut self, value: &T)
         requires { T.stand value.now self.old.0 ≡ T.stand self.old.1 self.old.0 }
         ensures { self.new ≡ (self.old.0, value.now) }
@@ -48,12 +48,14 @@ impl<T: Booked> Card<T> {
         self.saw = Snapshot::of(value);
     }
 
+    /// The caller's number.
     pub fn caller(&self) -> u8
         ensures { result ≡ self.now.0 }
     {
         self.caller
     }
 
+    /// How many calls of the caller had begun in the value that it saw.
     pub fn begun(&self) -> u32
         ensures { Begins (T.stand self.now.1 self.now.0) result }
     {
