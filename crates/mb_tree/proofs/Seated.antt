@@ -17,7 +17,7 @@ use Rattle.mb_tree.proofs.FiniteMaps.{get_here, get_there, gone_here, gone_there
 
 -- ---- searches
 
-passes : (p : ℕ → Bool) (low n k : ℕ) → first_from p low n ≡ Some k → p k ≡ true
+pub passes : (p : ℕ → Bool) (low n k : ℕ) → first_from p low n ≡ Some k → p k ≡ true
 unfolding first_from
 passes p low zero k h = cc
 passes p low (suc n) k h = elim (p low) as (λ b. p low ≡ b → (if b then Some low else first_from p (low + 1) n) ≡ Some k → p k ≡ true) [
@@ -25,7 +25,16 @@ passes p low (suc n) k h = elim (p low) as (λ b. p low ≡ b → (if b then Som
   | false ↦ λ e s. passes p (low + 1) n k s
 ] refl h
 
-fails : (p : ℕ → Bool) (low n k : ℕ) → first_from p low n ≡ None → low ≤ k → k < low + n → p k ≡ false
+-- what is found is one of the numbers
+pub in_row : (p : ℕ → Bool) (low n k : ℕ) → first_from p low n ≡ Some k → k < low + n
+unfolding first_from
+in_row p low zero k h = cc
+in_row p low (suc n) k h = elim (p low) as (λ b. (if b then Some low else first_from p (low + 1) n) ≡ Some k → k < low + suc n) [
+  | true ↦ λ s. let at : low ≡ k = cc in omega (arith, at)
+  | false ↦ λ s. omega (arith, in_row p (low + 1) n k s)
+] h
+
+pub fails : (p : ℕ → Bool) (low n k : ℕ) → first_from p low n ≡ None → low ≤ k → k < low + n → p k ≡ false
 unfolding first_from
 fails p low zero k h a b = absurd (omega arith)
 fails p low (suc n) k h a b = elim (p low) as (λ v. p low ≡ v → (if v then Some low else first_from p (low + 1) n) ≡ None → p k ≡ false) [
@@ -38,36 +47,36 @@ fails p low (suc n) k h a b = elim (p low) as (λ v. p low ≡ v → (if v then 
 
 -- ---- options
 
-apart_some : {X : Type 0} (o : Option X) (x : X) → o ≡ None → o ≡ Some x → ⊥
+pub apart_some : {X : Type 0} (o : Option X) (x : X) → o ≡ None → o ≡ Some x → ⊥
 apart_some o x n s = cc
 
-same_some : {X : Type 0} (x y : X) → Some x ≡ Some y → x ≡ y
+pub same_some : {X : Type 0} (x y : X) → Some x ≡ Some y → x ≡ y
 same_some x y h = cc
 
-none_of : {X : Type 0} (o : Option X) → not (is_some o) ≡ true → o ≡ None
+pub none_of : {X : Type 0} (o : Option X) → not (is_some o) ≡ true → o ≡ None
 none_of None h = refl
 none_of (Some x) h = cc
 
-at_place : (place : ℕ) (o : Option ℕ) → is_at_place place o ≡ true → o ≡ Some place
+pub at_place : (place : ℕ) (o : Option ℕ) → is_at_place place o ≡ true → o ≡ Some place
 at_place place None h = cc
 at_place place (Some other) h = let e : other ≡ place = grind (arith, nat_tests) in ap Some e
 
-not_at_place : (place other : ℕ) (o : Option ℕ) → is_at_place place o ≡ false → o ≡ Some other → other ≢ place
+pub not_at_place : (place other : ℕ) (o : Option ℕ) → is_at_place place o ≡ false → o ≡ Some other → other ≢ place
 not_at_place place other o h s e = let t : is_at_place place (Some place) ≡ true = grind (arith, nat_tests) in
     let f : is_at_place place (Some place) ≡ false = subst (λ (q : Option ℕ). is_at_place place q ≡ false) (s ∙ ap Some e) h in cc
 
-found : (b : Option ℕ) → is_some b ≡ true → (k : ℕ) × (b ≡ Some k)
+pub found : (b : Option ℕ) → is_some b ≡ true → (k : ℕ) × (b ≡ Some k)
 found None h = cc
 found (Some k) h = (k, refl)
 
-missing : (b : Option ℕ) → is_some b ≡ false → b ≡ None
+pub missing : (b : Option ℕ) → is_some b ≡ false → b ≡ None
 missing None h = refl
 missing (Some k) h = cc
 
 module _ (nodes : Numbered Node) (seat : Seat) (valid : IsSeated nodes seat) where
   -- a file at a place, where the one there is replaced
-  opened_kept : (fd : ℕ) (file : PlainFile) (place : ℕ) → FitsFresh nodes seat fd file.ino file.how → fin.get seat.files place ≡ None → IsSeated nodes (opened seat fd file (Some place))
-  opened_kept fd file place fits free = record {
+  opened_kept : (fd : ℕ) (file : PlainFile) (place : ℕ) → place < 17 → FitsFresh nodes seat fd file.ino file.how → fin.get seat.files place ≡ None → IsSeated nodes (opened seat fd file (Some place))
+  opened_kept fd file place within fits free = record {
     cwd = valid.cwd;
     descriptors = λ q pl h. elim (one_or_not q fd) [
       | inl is ↦
@@ -83,12 +92,12 @@ module _ (nodes : Numbered Node) (seat : Seat) (valid : IsSeated nodes seat) whe
     files = λ pl f h. elim (one_or_not pl place) [
       | inl is ↦
           let at : file ≡ f = same_some file f (sym (get_here seat.files place file) ∙ ap (fin.get (fin.insert seat.files place file)) (sym is) ∙ h) in
-          subst (λ (g : PlainFile). IsOpenFile nodes (opened seat fd file (Some place)) pl g) at (record { fd = fd; has = get_here seat.fds fd place ∙ ap Some (sym is); openable = fits.openable; written = fits.written })
+          subst (λ (g : PlainFile). IsOpenFile nodes (opened seat fd file (Some place)) pl g) at (record { within = subst (λ j. j < 17) (sym is) within; fd = fd; has = get_here seat.fds fd place ∙ ap Some (sym is); openable = fits.openable; written = fits.written })
       | inr apart ↦
           let old = valid.files pl f (sym (get_there seat.files place file pl apart) ∙ h) in
           elim (one_or_not old.fd fd) [
             | inl is ↦ absurd (apart_some (fin.get seat.fds fd) pl fits.free (ap (fin.get seat.fds) (sym is) ∙ old.has))
-            | inr other ↦ record { fd = old.fd; has = get_there seat.fds fd place old.fd other ∙ old.has; openable = old.openable; written = old.written }
+            | inr other ↦ record { within = old.within; fd = old.fd; has = get_there seat.fds fd place old.fd other ∙ old.has; openable = old.openable; written = old.written }
           ]
     ];
   }
@@ -97,7 +106,7 @@ module _ (nodes : Numbered Node) (seat : Seat) (valid : IsSeated nodes seat) whe
   fresh_kept fd file fits =
       elim (free_place seat) as (λ (o : Option ℕ). free_place seat ≡ o → IsSeated nodes (opened seat fd file o)) [
         | None ↦ λ e. valid
-        | Some place ↦ λ e. opened_kept fd file place fits (none_of _ (passes (λ place. not (fin.contains_key seat.files place)) 0 17 place e))
+        | Some place ↦ λ e. opened_kept fd file place (in_row (λ place. not (fin.contains_key seat.files place)) 0 17 place e) fits (none_of _ (passes (λ place. not (fin.contains_key seat.files place)) 0 17 place e))
       ] refl
 
   twin_kept : (fd to : ℕ) → FitsTwin seat to → IsSeated nodes (doubled seat to (fin.get seat.fds fd))
@@ -117,7 +126,7 @@ module _ (nodes : Numbered Node) (seat : Seat) (valid : IsSeated nodes seat) whe
               let old = valid.files pl f h in
               elim (one_or_not old.fd to) [
                 | inl is ↦ absurd (apart_some (fin.get seat.fds to) pl fits.free (ap (fin.get seat.fds) (sym is) ∙ old.has))
-                | inr other ↦ record { fd = old.fd; has = get_there seat.fds to place old.fd other ∙ old.has; openable = old.openable; written = old.written }
+                | inr other ↦ record { within = old.within; fd = old.fd; has = get_there seat.fds to place old.fd other ∙ old.has; openable = old.openable; written = old.written }
               ];
         }
       ] refl
@@ -141,8 +150,8 @@ module _ (nodes : Numbered Node) (seat : Seat) (valid : IsSeated nodes seat) whe
             elim (one_or_not old.fd fd) [
               | inl is ↦
                   let at : place ≡ pl = same_some place pl (sym e ∙ ap (fin.get seat.fds) (sym is) ∙ old.has) in
-                  record { fd = other.0; has = same_place ∙ ap Some at; openable = old.openable; written = old.written }
-              | inr apart ↦ record { fd = old.fd; has = gone_there seat.fds fd old.fd apart ∙ old.has; openable = old.openable; written = old.written }
+                  record { within = old.within; fd = other.0; has = same_place ∙ ap Some at; openable = old.openable; written = old.written }
+              | inr apart ↦ record { within = old.within; fd = old.fd; has = gone_there seat.fds fd old.fd apart ∙ old.has; openable = old.openable; written = old.written }
             ];
       }
 
@@ -160,7 +169,7 @@ module _ (nodes : Numbered Node) (seat : Seat) (valid : IsSeated nodes seat) whe
             let apart : pl ≢ place = λ is. apart_some _ f (ap (fin.get (fin.remove seat.files place)) is ∙ gone_here seat.files place) h in
             let old = valid.files pl f (sym (gone_there seat.files place pl apart) ∙ h) in
             let other : old.fd ≢ fd = λ is. apart (same_some pl place (sym old.has ∙ ap (fin.get seat.fds) is ∙ e)) in
-            record { fd = old.fd; has = gone_there seat.fds fd old.fd other ∙ old.has; openable = old.openable; written = old.written };
+            record { within = old.within; fd = old.fd; has = gone_there seat.fds fd old.fd other ∙ old.has; openable = old.openable; written = old.written };
       }
 
   free_kept : (fd : ℕ) → IsSeated nodes (closed seat fd (fin.get seat.fds fd))
@@ -186,8 +195,8 @@ module _ (nodes : Numbered Node) (seat : Seat) (valid : IsSeated nodes seat) whe
       | inl is ↦
           let at : ◌≡◌ {A = PlainFile} (record file { offset = offset }) f = same_some _ f (sym (get_here seat.files place _) ∙ ap (fin.get (fin.insert seat.files place (record file { offset = offset }))) (sym is) ∙ h) in
           let old = valid.files place file e in
-          subst (λ (g : PlainFile). IsOpenFile nodes (record seat { files = fin.insert seat.files place (record file { offset = offset }) }) pl g) at (record { fd = old.fd; has = old.has ∙ ap Some (sym is); openable = old.openable; written = old.written })
-      | inr apart ↦ let old = valid.files pl f (sym (get_there seat.files place _ pl apart) ∙ h) in record { fd = old.fd; has = old.has; openable = old.openable; written = old.written }
+          subst (λ (g : PlainFile). IsOpenFile nodes (record seat { files = fin.insert seat.files place (record file { offset = offset }) }) pl g) at (record { within = subst (λ j. j < 17) (sym is) old.within; fd = old.fd; has = old.has ∙ ap Some (sym is); openable = old.openable; written = old.written })
+      | inr apart ↦ let old = valid.files pl f (sym (get_there seat.files place _ pl apart) ∙ h) in record { within = old.within; fd = old.fd; has = old.has; openable = old.openable; written = old.written }
     ];
   }
 
@@ -209,12 +218,12 @@ session_kept nodes seat (Move fd offset) valid fits = move_kept nodes seat valid
 session_kept nodes seat (Cwd ino) valid fits = record {
   cwd = fits;
   descriptors = λ q pl h. let old = valid.descriptors q pl h in record { above = old.above; within = old.within; file = old.file; has = old.has };
-  files = λ pl f h. let old = valid.files pl f h in record { fd = old.fd; has = old.has; openable = old.openable; written = old.written };
+  files = λ pl f h. let old = valid.files pl f h in record { within = old.within; fd = old.fd; has = old.has; openable = old.openable; written = old.written };
 }
 session_kept nodes seat (Mask mask) valid fits = record {
   cwd = valid.cwd;
   descriptors = λ q pl h. let old = valid.descriptors q pl h in record { above = old.above; within = old.within; file = old.file; has = old.has };
-  files = λ pl f h. let old = valid.files pl f h in record { fd = old.fd; has = old.has; openable = old.openable; written = old.written };
+  files = λ pl f h. let old = valid.files pl f h in record { within = old.within; fd = old.fd; has = old.has; openable = old.openable; written = old.written };
 }
 session_kept nodes seat Clear valid fits = record {
   cwd = valid.cwd;

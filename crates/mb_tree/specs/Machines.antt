@@ -1,5 +1,5 @@
 -- Which machines are valid: a sound tree, and sessions that fit it.
-use Rattle.std.specs.Prelude.{ℕ, ◌≤◌, ◌≡◌, true, Some, None, slice_get}
+use Rattle.std.specs.Prelude.{ℕ, ◌<◌, ◌≤◌, ◌≡◌, true, Some, None, slice_get}
 use Rattle.mb_kinds.specs.declared.calls.How.{How}
 use Rattle.mb_tree.specs.declared.seats.SessionChange.{SessionChange}
 use Rattle.mb_tree.specs.declared.seats.SessionChange.TheVariants.{Fresh, Twin, Cwd}
@@ -20,8 +20,10 @@ pub record IsDescriptor (seat : Seat) (fd place : ℕ) : Type 0 where
   pub file : PlainFile
   pub has : fin.get seat.files place ≡ Some file
 
--- an open file has a descriptor, and its inode can be open; what is written is a regular file
+-- an open file is at one of 17 places, as many as there are descriptors; it has a descriptor, and its inode
+-- can be open; what is written is a regular file
 pub record IsOpenFile (nodes : Numbered Node) (seat : Seat) (place : ℕ) (file : PlainFile) : Type 0 where
+  pub within : place < 17
   pub fd : ℕ
   pub has : fin.get seat.fds fd ≡ Some place
   pub openable : IsOpenable nodes file.ino
