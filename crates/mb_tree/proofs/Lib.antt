@@ -4,11 +4,15 @@ pub mod Arms
 pub mod CellMaps
 pub mod Changed
 pub mod Cheaper
+pub mod CountsFollow
 pub mod Dropped
 pub mod FiniteMaps
+pub mod FreePlaces
 pub mod Groups
 pub mod Histories
 pub mod MapCopies
+pub mod OpenCounts
+pub mod Outcomes
 pub mod Padding
 pub mod Quiet
 pub mod Released
@@ -16,4 +20,5 @@ pub mod Rows
 pub mod Searches
 pub mod Seated
 pub mod Served
+pub mod Sums
 pub mod Swaps

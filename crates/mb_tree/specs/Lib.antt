@@ -17,6 +17,7 @@ pub mod Opening
 pub mod Places
 pub mod Results
 pub mod Rows
+pub mod SessionLaws
 pub mod Sessions
 pub mod Step
 pub mod Trees

@@ -25,6 +25,7 @@ mod operations;
 mod path_rows;
 mod plans;
 mod seats;
+mod session_laws;
 mod stops;
 mod tables;
 #[cfg(test)]
@@ -43,6 +44,7 @@ pub use nodes::{Body, Node, Nodes, Parts, PlainSlot, PlainSlots};
 pub use operations::{FsOp, Inos};
 pub use plans::Plan;
 pub use seats::{PlainFile, Seat, Seats, SessionChange, reads};
+pub use session_laws::counts_follow;
 pub use stops::NoMemory;
 pub use tables::{Fds, Files};
 pub use trees::Tree;
