@@ -30,7 +30,7 @@ use Rattle.mb_tree.proofs.Outcomes.Outcome.{answered, opened, emptied, created, 
 
 -- ---- one seat among all
 
-seat_least : (seats : List Seat) (caller : ℕ) (seat : Seat) (ino : ℕ) → slice_get seats caller ≡ Some seat → held_in seat ino ≤ counts seats ino
+pub seat_least : (seats : List Seat) (caller : ℕ) (seat : Seat) (ino : ℕ) → slice_get seats caller ≡ Some seat → held_in seat ino ≤ counts seats ino
 seat_least [] caller seat ino h = let e : None ≡ Some seat = h in cc
 seat_least (first ∷ seats) zero seat ino h =
     let is : first ≡ seat = cc in
@@ -48,7 +48,7 @@ seat_changed seats caller seat new ino h =
 -- ---- one seat
 
 -- the counts after the operation of a plan
-abbrev opens_of : Counts → Option FsOp → Option ℕ → Counts
+abbrev pub opens_of : Counts → Option FsOp → Option ℕ → Counts
 opens_of opens None pick = opens
 opens_of opens (Some op) pick = opens_after opens op pick
 
@@ -117,7 +117,7 @@ module _ (nodes : Numbered Node) (seats : List Seat) (seat : Seat) (moment : ℕ
       let all : count_by (nat_eq ino) (inos_of seat) ≡ count_by (nat_eq ino) (first ∷ inos) = ap (count_by (nat_eq ino)) h in
       omega (arith, least, all, clear_count nodes seat valid ino, cleared_count nodes seat valid ino)
 
-held_opens : (tree : Tree) (opens : Counts) (op : Option FsOp) (pick : Option ℕ) (held : Held) → effect_of tree opens op pick ≡ Ok held → opens_of opens op pick ≡ held.opens
+pub held_opens : (tree : Tree) (opens : Counts) (op : Option FsOp) (pick : Option ℕ) (held : Held) → effect_of tree opens op pick ≡ Ok held → opens_of opens op pick ≡ held.opens
 held_opens tree opens None pick held h = ap (λ (x : Held). x.opens) (same_ok (record { tree = tree; opens = opens }) held h)
 held_opens tree opens (Some op) pick held h =
     let one = bind_ok (tree_after tree opens op pick) _ held h in

@@ -25,7 +25,7 @@ use Rattle.mb_tree.proofs.Cheaper.{after_op}
 
 -- ---- counts of nothing
 
-sum_zero : (g : ℕ → ℕ) (n k : ℕ) → sum_below g n ≡ 0 → k < n → g k ≡ 0
+pub sum_zero : (g : ℕ → ℕ) (n k : ℕ) → sum_below g n ≡ 0 → k < n → g k ≡ 0
 unfolding sum_below
 sum_zero g zero k h b = absurd (omega arith)
 sum_zero g (suc n) k h b = elim (nat_eq k n) as (λ t. nat_eq k n ≡ t → g k ≡ 0) [
@@ -33,7 +33,7 @@ sum_zero g (suc n) k h b = elim (nat_eq k n) as (λ t. nat_eq k n ≡ t → g k 
   | false ↦ λ e. let apart : k ≢ n = grind (arith, nat_tests) in let low : k < n = omega arith in let rest : sum_below g n ≡ 0 = omega arith in sum_zero g n k rest low
 ] refl
 
-count_zero : {X : Type 0} (p : X → Bool) (xs : List X) (at : ℕ) (x : X) → count_by p xs ≡ 0 → slice_get xs at ≡ Some x → p x ≡ true → ⊥
+pub count_zero : {X : Type 0} (p : X → Bool) (xs : List X) (at : ℕ) (x : X) → count_by p xs ≡ 0 → slice_get xs at ≡ Some x → p x ≡ true → ⊥
 count_zero p [] at x h has t = let e : None ≡ Some x = has in cc
 count_zero p (y ∷ ys) zero x h has t =
     let e : y ≡ x = cc in
@@ -46,7 +46,7 @@ module _ (tree : Tree) (sound : IsSound tree) where
   used_self ino h = grind (arith, nat_tests)
 
   -- an inode to which no used slot leads is no directory, since a directory's first slot leads to it
-  no_directory : (ino : ℕ) (node : Node) (slots : List PlainSlot) → IsUnled tree ino → fin.get tree.nodes ino ≡ Some node → node.body ≡ Directory slots → ⊥
+  pub no_directory : (ino : ℕ) (node : Node) (slots : List PlainSlot) → IsUnled tree ino → fin.get tree.nodes ino ≡ Some node → node.body ≡ Directory slots → ⊥
   no_directory ino node slots unled has body =
       let s = sound.slots ino node slots has body in
       unled ino 0 node slots (record { ino = ino; name = dot }) has body (record { has = s.first; used = used_self ino (sound.numbers ino node has).0 }) refl
@@ -144,7 +144,7 @@ module _ (tree : Tree) (sound : IsSound tree) where
     }
 
   -- an inode of link count 0 has no used slot that leads to it; to inode 1 none ever leads
-  nameless : (ino : ℕ) (node : Node) → fin.get tree.nodes ino ≡ Some node → node.nlink ≡ 0 → IsUnled tree ino
+  pub nameless : (ino : ℕ) (node : Node) → fin.get tree.nodes ino ≡ Some node → node.nlink ≡ 0 → IsUnled tree ino
   nameless ino node has none dir at other slots slot in_tree body used is =
       elim (nat_eq ino 1) as (λ t. nat_eq ino 1 ≡ t → ⊥) [
         | true ↦ λ e. let one : ino ≡ 1 = grind (arith, nat_tests) in ((sound.slots dir other slots in_tree body).leads at slot used).0 (is ∙ one)
@@ -158,7 +158,7 @@ module _ (tree : Tree) (sound : IsSound tree) where
             count_zero (leads_to ino) slots at slot few used.has leads
       ] refl
 
-  lost_nlink : (opens : Counts) (ino : ℕ) (node : Node) → is_lost opens ino (Some node) ≡ true → node.nlink ≡ 0
+  pub lost_nlink : (opens : Counts) (ino : ℕ) (node : Node) → is_lost opens ino (Some node) ≡ true → node.nlink ≡ 0
   lost_nlink opens ino node h = elim (nat_eq node.nlink 0) as (λ b. nat_eq node.nlink 0 ≡ b → (b && nat_eq (opens ino) 0) ≡ true → node.nlink ≡ 0) [
     | true ↦ λ e s. grind (arith, nat_tests)
     | false ↦ λ e s. cc
@@ -168,7 +168,7 @@ module _ (tree : Tree) (sound : IsSound tree) where
   lost_drop opens ino None kept e k h = inl k
   lost_drop opens ino (Some node) kept e k h = inr (k, nameless ino node e (lost_nlink opens ino node h))
 
-  released : (opens : Counts) (inos : List ℕ) (ino : ℕ) → (fin.get (less_open tree.nodes opens inos) ino ≡ fin.get tree.nodes ino) ⊎ ((fin.get (less_open tree.nodes opens inos) ino ≡ None) × IsUnled tree ino)
+  pub released : (opens : Counts) (inos : List ℕ) (ino : ℕ) → (fin.get (less_open tree.nodes opens inos) ino ≡ fin.get tree.nodes ino) ⊎ ((fin.get (less_open tree.nodes opens inos) ino ≡ None) × IsUnled tree ino)
   released opens inos ino =
       let p : ℕ → Bool = λ q. not (list_any (nat_eq q) inos && is_lost opens q (fin.get tree.nodes q)) in
       let got : fin.get (less_open tree.nodes opens inos) ino ≡ cond (p ino) (fin.get tree.nodes ino) None = get-retain_keys tree.nodes p ino (λ x t. ap p (sym (nat_cmp-IsAntisymmetric ino x t))) in

@@ -7,14 +7,18 @@ pub mod Cheaper
 pub mod CountsFollow
 pub mod Dropped
 pub mod FiniteMaps
+pub mod Fitting
 pub mod FreePlaces
 pub mod Groups
 pub mod Histories
+pub mod InodeKinds
 pub mod MapCopies
 pub mod OpenCounts
 pub mod Outcomes
 pub mod Padding
 pub mod Quiet
+pub mod QuietValid
+pub mod ReleaseValid
 pub mod Released
 pub mod Rows
 pub mod Searches
@@ -22,3 +26,4 @@ pub mod Seated
 pub mod Served
 pub mod Sums
 pub mod Swaps
+pub mod ValidStays

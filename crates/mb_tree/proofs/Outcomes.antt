@@ -76,7 +76,7 @@ not_true : (b : Bool) → not b ≡ true → b ≡ false
 not_true true h = cc
 not_true false h = refl
 
-some_ok : {A : Type 0} (o : Option A) (e : Errno) (x : A) → some o e ≡ Ok x → o ≡ Some x
+pub some_ok : {A : Type 0} (o : Option A) (e : Errno) (x : A) → some o e ≡ Ok x → o ≡ Some x
 some_ok (Some y) e x h = let is : y ≡ x = same_ok y x h in ap Some is
 some_ok None e x h = cc
 

@@ -1,16 +1,60 @@
 -- Laws of the callers' sessions: how the counts of open files follow the calls, and what keeps a machine valid.
-use Rattle.std.specs.Prelude.{ℕ, ◌≡◌, Option, Ok}
+use Rattle.std.specs.Prelude.{List, ℕ, ◌≡◌, Option, Some, None, Ok, slice_get}
+use Rattle.std.specs.FinMap as fin
 use Rattle.mb_kinds.specs.declared.calls.Call.{Call}
+use Rattle.mb_kinds.specs.declared.replies.Reply.{Reply}
+use Rattle.mb_tree.specs.Maps.{Numbered}
 use Rattle.mb_tree.specs.Sessions.{counts, with_change}
 use Rattle.mb_tree.specs.Effect.{Held}
 use Rattle.mb_tree.specs.Rows.{plan}
-use Rattle.mb_tree.specs.Step.{effect_of}
-use Rattle.mb_tree.specs.Machines.{IsValidFor}
+use Rattle.mb_tree.specs.Step.{effect_of, serve}
+use Rattle.mb_tree.specs.Trees.{IsDirectoryAt, IsRegularAt, IsSound}
+use Rattle.mb_tree.specs.Machines.{IsValidFor, IsValid}
+use Rattle.mb_tree.specs.Laws.{IsQuiet}
 use Rattle.mb_tree.specs.declared.machines.Machine.{Machine}
+use Rattle.mb_tree.specs.declared.nodes.Node.{Node}
+use Rattle.mb_tree.specs.declared.operations.FsOp.{FsOp}
+use Rattle.mb_tree.specs.declared.operations.FsOp.TheVariants.{Release}
 use Rattle.mb_tree.specs.declared.plans.Plan.{Plan}
+use Rattle.mb_tree.specs.declared.seats.PlainFile.{PlainFile}
+use Rattle.mb_tree.specs.declared.seats.Seat.{Seat}
 
 -- the counts of open files after a call are those that its operation leaves
 abbrev pub CountsFollow : Type 0
 CountsFollow = (machine : Machine) (caller : ℕ) (call : Call) (moment : ℕ) (pick : Option ℕ) (planned : Plan) (held : Held)
     → IsValidFor machine caller → plan machine caller call moment pick ≡ Ok planned → effect_of machine.tree (counts machine.seats) planned.op pick ≡ Ok held
     → counts (with_change machine.seats caller planned.session) ≡ held.opens
+
+-- a directory or regular file stays one
+pub record KeepsKind (old new : Numbered Node) (ino : ℕ) : Type 0 where
+  pub directory : IsDirectoryAt old ino → IsDirectoryAt new ino
+  pub regular : IsRegularAt old ino → IsRegularAt new ino
+
+-- the current directory of a session stays a directory, and the inodes of its open files keep their kinds
+pub record KeepsUsed (old new : Numbered Node) (seat : Seat) : Type 0 where
+  pub cwd : IsDirectoryAt old seat.cwd → IsDirectoryAt new seat.cwd
+  pub files : (place : ℕ) (file : PlainFile) → fin.get seat.files place ≡ Some file → KeepsKind old new file.ino
+
+-- the inodes that the sessions after a call use are of the kinds that they had before it
+abbrev pub KeepsOpenable : Machine → Machine → Type 0
+KeepsOpenable machine next = (caller : ℕ) (seat : Seat) → slice_get next.seats caller ≡ Some seat → KeepsUsed machine.tree.nodes next.tree.nodes seat
+
+-- a call that is served keeps a machine valid where the next tree is sound and what the sessions use is kept
+abbrev pub ValidStays : Type 0
+ValidStays = (machine : Machine) (caller : ℕ) (call : Call) (moment : ℕ) (pick : Option ℕ) (reply : Reply) (next : Machine)
+    → IsValid machine → serve machine caller call moment pick ≡ Ok (reply, next) → IsSound next.tree → KeepsOpenable machine next → IsValid next
+
+-- no operation, or one that touches bytes or attributes alone
+abbrev pub IsQuietPlan : Option FsOp → Type 0
+IsQuietPlan None = Unit {0}
+IsQuietPlan (Some made) = IsQuiet made
+
+-- a call with such a plan keeps a machine valid
+abbrev pub QuietValid : Type 0
+QuietValid = (machine : Machine) (caller : ℕ) (call : Call) (moment : ℕ) (pick : Option ℕ) (reply : Reply) (next : Machine) (planned : Plan)
+    → IsValid machine → serve machine caller call moment pick ≡ Ok (reply, next) → plan machine caller call moment pick ≡ Ok planned → IsQuietPlan planned.op → IsValid next
+
+-- and so does one that releases open files: what is dropped with its last open file nobody uses any longer
+abbrev pub ReleaseValid : Type 0
+ReleaseValid = (machine : Machine) (caller : ℕ) (call : Call) (moment : ℕ) (pick : Option ℕ) (reply : Reply) (next : Machine) (planned : Plan) (inos : List ℕ)
+    → IsValid machine → serve machine caller call moment pick ≡ Ok (reply, next) → plan machine caller call moment pick ≡ Ok planned → planned.op ≡ Some (Release inos) → IsValid next

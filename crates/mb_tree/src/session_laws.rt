@@ -1,6 +1,23 @@
-ghost use Rattle.mb_tree.specs.SessionLaws.{CountsFollow};
+ghost use Rattle.mb_tree.specs.SessionLaws.{CountsFollow, ValidStays, QuietValid, ReleaseValid};
 
 /// The counts of open files after a call are those that its operation leaves.
 pub fn counts_follow()
     ensures { CountsFollow }
+{}
+
+/// A call that is served keeps a machine valid where the next tree is sound and what the sessions use
+/// is kept.
+pub fn valid_stays()
+    ensures { ValidStays }
+{}
+
+/// A call without an operation, or with one that touches bytes or attributes alone, keeps a machine
+/// valid.
+pub fn quiet_valid()
+    ensures { QuietValid }
+{}
+
+/// A call that releases open files keeps a machine valid.
+pub fn release_valid()
+    ensures { ReleaseValid }
 {}
