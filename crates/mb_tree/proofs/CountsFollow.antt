@@ -70,7 +70,7 @@ hold_count opens file ino = elim (one_or_not ino file.ino) [
 ]
 
 -- the place and the file of a descriptor
-on_place : (seat : Seat) (fd : ℕ) (file : PlainFile) → file_on seat fd ≡ Some file → (place : ℕ) × (fin.get seat.fds fd ≡ Some place) × (fin.get seat.files place ≡ Some file)
+pub on_place : (seat : Seat) (fd : ℕ) (file : PlainFile) → file_on seat fd ≡ Some file → (place : ℕ) × (fin.get seat.fds fd ≡ Some place) × (fin.get seat.files place ≡ Some file)
 on_place seat fd file h = elim (fin.get seat.fds fd) as (λ (o : Option ℕ). option_and_then (fin.get seat.files) o ≡ Some file → (place : ℕ) × (o ≡ Some place) × (fin.get seat.files place ≡ Some file)) [
   | None ↦ λ e. let no : None ≡ Some file = e in cc
   | Some place ↦ λ e. (place, refl, e)

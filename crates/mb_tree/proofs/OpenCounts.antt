@@ -17,7 +17,7 @@ use Rattle.mb_tree.specs.declared.nodes.Node.{Node}
 use Rattle.mb_tree.specs.declared.seats.PlainFile.{PlainFile}
 use Rattle.mb_tree.specs.declared.seats.Seat.{Seat}
 use Rattle.mb_tree.proofs.FiniteMaps.{get_here, get_there, gone_here, gone_there, one_or_not, is_here, is_apart}
-use Rattle.mb_tree.proofs.Sums.{sum_same, sum_but, sum_nothing}
+use Rattle.mb_tree.proofs.RowSums.{sum_same, sum_but, sum_nothing}
 use Rattle.mb_tree.proofs.Seated.{passes, in_row, none_of}
 use Rattle.mb_tree.proofs.FreePlaces.{place_for}
 
@@ -45,15 +45,15 @@ strict Less h = refl
 strict Equal h = absurd h
 strict Greater h = absurd h
 
-left_of : (a b : Bool) → T (a && b) → T a
+pub left_of : (a b : Bool) → T (a && b) → T a
 left_of true b h = tt
 left_of false b h = absurd h
 
-right_of : (a b : Bool) → T (a && b) → T b
+pub right_of : (a b : Bool) → T (a && b) → T b
 right_of true b h = h
 right_of false b h = absurd h
 
-none_below : (k : ℕ) (es : List (ℕ × PlainFile)) → T (below_all nat_cmp k es) → fin.find nat_cmp k es ≡ None
+pub none_below : (k : ℕ) (es : List (ℕ × PlainFile)) → T (below_all nat_cmp k es) → fin.find nat_cmp k es ≡ None
 none_below k [] h = refl
 none_below k (e ∷ es) h =
     ap (λ b. cond b (Some e.1) (fin.find nat_cmp k es)) (strict (nat_cmp k e.0) (left_of (is_lt (nat_cmp k e.0)) (below_all nat_cmp k es) h))
@@ -71,7 +71,7 @@ one_count ino file = elim (one_or_not ino file.ino) [
       ap (λ b. cond {A = ℕ} b 1 0) s ∙ sym (ap (λ b. if◌then◌else◌ {A = ℕ} b 1 0) t)
 ]
 
-abbrev inos_in : List (ℕ × PlainFile) → List ℕ
+abbrev pub inos_in : List (ℕ × PlainFile) → List ℕ
 inos_in es = map (λ (file : PlainFile). file.ino) (map (λ e. e.1) es)
 
 entry_count : (es : List (ℕ × PlainFile)) (n ino : ℕ) → T (fin.is_sorted nat_cmp es) → ((p : ℕ) (file : PlainFile) → fin.find nat_cmp p es ≡ Some file → p < n)

@@ -1,4 +1,4 @@
-ghost use Rattle.mb_tree.specs.SessionLaws.{CountsFollow, ValidStays, QuietValid, ReleaseValid};
+ghost use Rattle.mb_tree.specs.SessionLaws.{CountsFollow, ValidStays, QuietValid, ReleaseValid, OperationsFit};
 
 /// The counts of open files after a call are those that its operation leaves.
 pub fn counts_follow()
@@ -20,4 +20,10 @@ pub fn quiet_valid()
 /// A call that releases open files keeps a machine valid.
 pub fn release_valid()
     ensures { ReleaseValid }
+{}
+
+/// The operation of a call's plan fits the tree and the counts of open files on which the call is
+/// planned.
+pub fn operations_fit()
+    ensures { OperationsFit }
 {}
