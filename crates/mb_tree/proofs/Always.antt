@@ -9,7 +9,7 @@ pub record Always {A : Type 0} (P : A → Type 0) (answer : Answer A) : Type 0 w
 pub same_ok : {A : Type 0} (x y : A) → ◌≡◌ {A = Answer A} (Ok x) (Ok y) → x ≡ y
 same_ok x y h = cc
 
-not_ok : {A : Type 0} (e : Errno) (y : A) → ◌≡◌ {A = Answer A} (Err e) (Ok y) → ⊥
+pub not_ok : {A : Type 0} (e : Errno) (y : A) → ◌≡◌ {A = Answer A} (Err e) (Ok y) → ⊥
 not_ok e y h = cc
 
 pub bind_ok : {A B : Type 0} (r : Answer A) (f : A → Answer B) (y : B) → (r >>= f) ≡ Ok y → (x : A) × (r ≡ Ok x) × (f x ≡ Ok y)

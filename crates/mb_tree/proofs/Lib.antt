@@ -13,6 +13,7 @@ pub mod Groups
 pub mod Histories
 pub mod InodeKinds
 pub mod MapCopies
+pub mod NamedKinds
 pub mod OpenCounts
 pub mod OperationsFit
 pub mod Outcomes
@@ -29,4 +30,5 @@ pub mod Searches
 pub mod Seated
 pub mod Served
 pub mod Swaps
+pub mod ValidKept
 pub mod ValidStays

@@ -58,10 +58,10 @@ each_file P (e ∷ es) sorted h =
 masked_low : (mode : ℕ) (seat : Seat) → masked mode seat < 512
 masked_low mode seat = omega (arith, and_le_l (bit_and mode 0x1FF) (0xFFFF - seat.umask), and_le_r mode 0x1FF)
 
-stored_low : (mode : ℕ) (cred : Cred) → stored mode cred < 4096
+pub stored_low : (mode : ℕ) (cred : Cred) → stored mode cred < 4096
 stored_low mode cred = elim (cred.uid == 0) as (λ b. bit_and mode (if b then 0xFFF else 0xDFF) < 4096) [ true ↦ omega (arith, and_le_r mode 0xFFF) | false ↦ omega (arith, and_le_r mode 0xDFF) ]
 
-or_none : (a b c : Bool) → (a || b || c) ≡ false → (b ≡ false) × (c ≡ false)
+pub or_none : (a b c : Bool) → (a || b || c) ≡ false → (b ≡ false) × (c ≡ false)
 or_none true b c h = absurd (let no : true ≡ false = h in cc)
 or_none false true c h = absurd (let no : true ≡ false = h in cc)
 or_none false false c h = (refl, h)

@@ -44,7 +44,9 @@ pub use nodes::{Body, Node, Nodes, Parts, PlainSlot, PlainSlots};
 pub use operations::{FsOp, Inos};
 pub use plans::Plan;
 pub use seats::{PlainFile, Seat, Seats, SessionChange, reads};
-pub use session_laws::{counts_follow, operations_fit, quiet_valid, release_valid, valid_stays};
+pub use session_laws::{
+    counts_follow, operations_fit, quiet_valid, release_valid, valid_kept, valid_stays,
+};
 pub use stops::NoMemory;
 pub use tables::{Fds, Files};
 pub use trees::Tree;

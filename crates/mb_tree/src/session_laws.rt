@@ -1,4 +1,4 @@
-ghost use Rattle.mb_tree.specs.SessionLaws.{CountsFollow, ValidStays, QuietValid, ReleaseValid, OperationsFit};
+ghost use Rattle.mb_tree.specs.SessionLaws.{CountsFollow, ValidStays, QuietValid, ReleaseValid, OperationsFit, ValidKept};
 
 /// The counts of open files after a call are those that its operation leaves.
 pub fn counts_follow()
@@ -26,4 +26,10 @@ pub fn release_valid()
 /// planned.
 pub fn operations_fit()
     ensures { OperationsFit }
+{}
+
+/// Where each operation that fits keeps a sound tree sound, a step with a lawful pick keeps a valid
+/// machine valid.
+pub fn valid_kept()
+    ensures { ValidKept }
 {}
