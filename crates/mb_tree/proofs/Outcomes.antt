@@ -29,6 +29,7 @@ use Rattle.mb_tree.specs.declared.operations.FsOp.TheVariants as op
 use Rattle.mb_tree.specs.declared.machines.Machine.{Machine}
 use Rattle.mb_tree.proofs.Always.{Always, always_ok, always_err, bind_ok, same_ok}
 
+-- a call, the plan that its row gives, and the tests that the row has passed on the way there
 pub data Outcome (nodes : Numbered Node) (seats : List Seat) (seat : Seat) (moment : ℕ) (pick : Option ℕ) : Call → Plan → Type 0 where
   answered : (asked : Call) (answer : Reply) → Outcome nodes seats seat moment pick asked (reply answer)
   opened : (path : List ℕ) (how : How) (stat : Stat) (fd : ℕ) → find_path nodes seat.cred seat.cwd path ≡ Ok stat → (is_directory stat.mode && writes how) ≡ false
