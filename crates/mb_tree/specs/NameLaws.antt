@@ -1,0 +1,17 @@
+-- Laws of the operations on names, each the contract of a function without a body.
+use Rattle.std.specs.Prelude.{List, ℕ, ◌≡◌, Option, Ok}
+use Rattle.mb_tree.specs.Sessions.{Counts}
+use Rattle.mb_tree.specs.Effect.{tree_after}
+use Rattle.mb_tree.specs.Fits.{Fits}
+use Rattle.mb_tree.specs.Trees.{IsSound}
+use Rattle.mb_tree.specs.declared.trees.Tree.{Tree}
+use Rattle.mb_tree.specs.declared.operations.FsOp.{FsOp}
+use Rattle.mb_tree.specs.declared.operations.FsOp.TheVariants.{Enlink}
+
+-- an operation that fits keeps a sound tree sound
+abbrev pub Keeps : FsOp → Type 0
+Keeps op = (tree : Tree) (opens : Counts) (pick : Option ℕ) (next : Tree) → IsSound tree → Fits tree opens op pick → tree_after tree opens op pick ≡ Ok next → IsSound next
+
+-- one name more
+abbrev pub EnlinkKept : Type 0
+EnlinkKept = (dir : ℕ) (name : List ℕ) (ino moment : ℕ) → Keeps (Enlink dir name ino moment)
