@@ -144,7 +144,7 @@ module _ (tree : Tree) (sound : IsSound tree) where
     }
 
   -- an inode of link count 0 has no used slot that leads to it; to inode 1 none ever leads
-  nameless : (ino : ℕ) (node : Node) → fin.get tree.nodes ino ≡ Some node → node.nlink ≡ 0 → IsUnled tree ino
+  pub nameless : (ino : ℕ) (node : Node) → fin.get tree.nodes ino ≡ Some node → node.nlink ≡ 0 → IsUnled tree ino
   nameless ino node has none dir at other slots slot in_tree body used is =
       elim (nat_eq ino 1) as (λ t. nat_eq ino 1 ≡ t → ⊥) [
         | true ↦ λ e. let one : ino ≡ 1 = grind (arith, nat_tests) in ((sound.slots dir other slots in_tree body).leads at slot used).0 (is ∙ one)
@@ -158,7 +158,7 @@ module _ (tree : Tree) (sound : IsSound tree) where
             count_zero (leads_to ino) slots at slot few used.has leads
       ] refl
 
-  lost_nlink : (opens : Counts) (ino : ℕ) (node : Node) → is_lost opens ino (Some node) ≡ true → node.nlink ≡ 0
+  pub lost_nlink : (opens : Counts) (ino : ℕ) (node : Node) → is_lost opens ino (Some node) ≡ true → node.nlink ≡ 0
   lost_nlink opens ino node h = elim (nat_eq node.nlink 0) as (λ b. nat_eq node.nlink 0 ≡ b → (b && nat_eq (opens ino) 0) ≡ true → node.nlink ≡ 0) [
     | true ↦ λ e s. grind (arith, nat_tests)
     | false ↦ λ e s. cc

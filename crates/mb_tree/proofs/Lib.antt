@@ -9,6 +9,7 @@ pub mod Entering
 pub mod FiniteMaps
 pub mod Groups
 pub mod Histories
+pub mod Leaving
 pub mod MapCopies
 pub mod NewNames
 pub mod Padding

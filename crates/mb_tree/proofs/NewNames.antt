@@ -61,21 +61,21 @@ entered_body name ino body old e = ap (on_slots (entered name ino)) e
 
 -- ---- inodes
 
-leaf_of : (nodes : Numbered Node) (ino : ℕ) → IsLeafAt nodes ino → IsNoDirectory nodes ino
+pub leaf_of : (nodes : Numbered Node) (ino : ℕ) → IsLeafAt nodes ino → IsNoDirectory nodes ino
 leaf_of nodes ino leaf node slots has body =
     let same : leaf.node ≡ node = let e : ◌≡◌ {A = Option Node} (Some leaf.node) (Some node) = sym leaf.has ∙ has in cc in
     let no : ◌≡◌ {A = Option (List PlainSlot)} None (Some slots) = sym leaf.body ∙ ap (λ (n : Node). slots_of n.body) same ∙ ap slots_of body in
     cc
 
-no_slots : (body : Body) (slots : List PlainSlot) → slots_of body ≡ None → body ≡ Directory slots → ⊥
+pub no_slots : (body : Body) (slots : List PlainSlot) → slots_of body ≡ None → body ≡ Directory slots → ⊥
 no_slots body slots none e = let no : ◌≡◌ {A = Option (List PlainSlot)} None (Some slots) = sym none ∙ ap slots_of e in cc
 
 module _ (tree : Tree) (sound : IsSound tree) where
-  not_root : (ino : ℕ) → IsNoDirectory tree.nodes ino → ino ≢ 2
+  pub not_root : (ino : ℕ) → IsNoDirectory tree.nodes ino → ino ≢ 2
   not_root ino leaf e = leaf sound.root.node sound.root.slots (ap (fin.get tree.nodes) e ∙ sound.root.has) sound.root.body
 
   -- inode 1 is no directory
-  not_one : (dir : ℕ) (x : Node) (old : List PlainSlot) → fin.get tree.nodes dir ≡ Some x → x.body ≡ Directory old → dir ≢ 1
+  pub not_one : (dir : ℕ) (x : Node) (old : List PlainSlot) → fin.get tree.nodes dir ≡ Some x → x.body ≡ Directory old → dir ≢ 1
   not_one dir x old has body =
       let a = sound.slots dir x old has body in
       let low = (sound.numbers dir x has).0 in

@@ -6,7 +6,7 @@ use Rattle.mb_tree.specs.Fits.{Fits}
 use Rattle.mb_tree.specs.Trees.{IsSound}
 use Rattle.mb_tree.specs.declared.trees.Tree.{Tree}
 use Rattle.mb_tree.specs.declared.operations.FsOp.{FsOp}
-use Rattle.mb_tree.specs.declared.operations.FsOp.TheVariants.{Enlink}
+use Rattle.mb_tree.specs.declared.operations.FsOp.TheVariants.{Enlink, Delink}
 
 -- an operation that fits keeps a sound tree sound
 abbrev pub Keeps : FsOp → Type 0
@@ -15,3 +15,7 @@ Keeps op = (tree : Tree) (opens : Counts) (pick : Option ℕ) (next : Tree) → 
 -- one name more
 abbrev pub EnlinkKept : Type 0
 EnlinkKept = (dir : ℕ) (name : List ℕ) (ino moment : ℕ) → Keeps (Enlink dir name ino moment)
+
+-- one name less
+abbrev pub DelinkKept : Type 0
+DelinkKept = (dir : ℕ) (name : List ℕ) (moment : ℕ) → Keeps (Delink dir name moment)
