@@ -40,7 +40,7 @@ pub record CanBeEntered (tree : Tree) (dir ino : ℕ) (name : List ℕ) (x y z :
   pub few_above : dir ≢ 1 → y.nlink ≤ 32767
   pub others : (q : ℕ) → q ≢ 0 → q ≢ ino → q ≢ dir → links_from q z.body ≡ 0
 
-used_number : (q : ℕ) (name : List ℕ) → q ≢ 0 → is_used (record { ino = q; name = name }) ≡ true
+pub used_number : (q : ℕ) (name : List ℕ) → q ≢ 0 → is_used (record { ino = q; name = name }) ≡ true
 used_number q name some = grind (arith, nat_tests)
 
 leads_itself : (slot : PlainSlot) → leads_to slot.ino slot ≡ true

@@ -11,6 +11,7 @@ pub mod Groups
 pub mod Histories
 pub mod Leaving
 pub mod MapCopies
+pub mod NewInodes
 pub mod NewNames
 pub mod Padding
 pub mod Quiet

@@ -31,14 +31,14 @@ need_ok : (test : Bool) (e : Errno) (u : Unit {0}) → need test e ≡ Ok u → 
 need_ok true e u h = refl
 need_ok false e u h = cc
 
-some_ok : {A : Type 0} (o : Option A) (e : Errno) (x : A) → some o e ≡ Ok x → o ≡ Some x
+pub some_ok : {A : Type 0} (o : Option A) (e : Errno) (x : A) → some o e ≡ Ok x → o ≡ Some x
 some_ok None e x h = cc
 some_ok (Some y) e x h = let is : y ≡ x = cc in ap Some is
 
 pub changed_is : (nodes : Numbered Node) (k : ℕ) (f : Node → Node) (x : Node) → fin.get nodes k ≡ Some x → changed_at nodes k f ≡ fin.insert nodes k (f x)
 changed_is nodes k f x has = ap (λ (o : Option Node). unwrap_or (option_map (λ x. fin.insert nodes k (f x)) o) nodes) has
 
-swapped : (nodes : Numbered Node) (i j : ℕ) (x y : Node) → i ≢ j → fin.insert (fin.insert nodes i x) j y ≡ fin.insert (fin.insert nodes j y) i x
+pub swapped : (nodes : Numbered Node) (i j : ℕ) (x y : Node) → i ≢ j → fin.insert (fin.insert nodes i x) j y ≡ fin.insert (fin.insert nodes j y) i x
 swapped nodes i j x y apart = same _ _ (λ q. elim (one_or_not q i) [
   | inl is ↦
       let other : q ≢ j = (λ e. apart (sym is ∙ e)) in
@@ -56,7 +56,7 @@ sound_at tree next nodes made are is room sound =
     let all : ◌≡◌ {A = Tree} (record tree { nodes = made }) next = ap (λ n. record tree { nodes = n }) (sym are) ∙ is in
     subst IsSound all (sound (subst (λ (t : Tree). cost t ≤ tree.cap) (sym all) room))
 
-entered_body : (name : List ℕ) (ino : ℕ) (body : Body) (old : List PlainSlot) → body ≡ Directory old → on_slots (entered name ino) body ≡ Directory (entered name ino old)
+pub entered_body : (name : List ℕ) (ino : ℕ) (body : Body) (old : List PlainSlot) → body ≡ Directory old → on_slots (entered name ino) body ≡ Directory (entered name ino old)
 entered_body name ino body old e = ap (on_slots (entered name ino)) e
 
 -- ---- inodes
@@ -119,7 +119,7 @@ module _ (tree : Tree) (sound : IsSound tree) where
 nlink_is : (nodes : Numbered Node) (ino : ℕ) (x : Node) → fin.get nodes ino ≡ Some x → nlink_in nodes ino ≡ x.nlink
 nlink_is nodes ino x has = ap (λ (o : Option Node). unwrap_or (option_map (λ (node : Node). node.nlink) o) 0) has
 
-few_of : (nodes : Numbered Node) (ino : ℕ) (x : Node) (u : Unit {0}) → fin.get nodes ino ≡ Some x → need (nat_lt (nlink_in nodes ino) 32767) EMLINK ≡ Ok u → x.nlink < 32767
+pub few_of : (nodes : Numbered Node) (ino : ℕ) (x : Node) (u : Unit {0}) → fin.get nodes ino ≡ Some x → need (nat_lt (nlink_in nodes ino) 32767) EMLINK ≡ Ok u → x.nlink < 32767
 few_of nodes ino x u has h =
     let test = need_ok (nat_lt (nlink_in nodes ino) 32767) EMLINK u h in
     let is = nlink_is nodes ino x has in
@@ -127,7 +127,7 @@ few_of nodes ino x u has h =
     omega (arith, is, less)
 
 -- what fitted is the tree that was asked for
-fitted_is : (tree next : Tree) (nodes : Numbered Node) → fitting tree nodes ≡ Ok next → record tree { nodes = nodes } ≡ next
+pub fitted_is : (tree next : Tree) (nodes : Numbered Node) → fitting tree nodes ≡ Ok next → record tree { nodes = nodes } ≡ next
 fitted_is tree next nodes h =
     let two = then_ok (need (nat_le (cost (record tree { nodes = nodes })) tree.cap) ENOSPC) (Ok (record tree { nodes = nodes })) next h in
     same_ok {A = Tree} (record tree { nodes = nodes }) next two.2

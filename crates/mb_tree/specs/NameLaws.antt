@@ -6,7 +6,7 @@ use Rattle.mb_tree.specs.Fits.{Fits}
 use Rattle.mb_tree.specs.Trees.{IsSound}
 use Rattle.mb_tree.specs.declared.trees.Tree.{Tree}
 use Rattle.mb_tree.specs.declared.operations.FsOp.{FsOp}
-use Rattle.mb_tree.specs.declared.operations.FsOp.TheVariants.{Enlink, Delink}
+use Rattle.mb_tree.specs.declared.operations.FsOp.TheVariants.{Create, MakeDir, Enlink, Delink}
 
 -- an operation that fits keeps a sound tree sound
 abbrev pub Keeps : FsOp → Type 0
@@ -19,3 +19,11 @@ EnlinkKept = (dir : ℕ) (name : List ℕ) (ino moment : ℕ) → Keeps (Enlink 
 -- one name less
 abbrev pub DelinkKept : Type 0
 DelinkKept = (dir : ℕ) (name : List ℕ) (moment : ℕ) → Keeps (Delink dir name moment)
+
+-- a file made under a missing name, with a free number
+abbrev pub CreateKept : Type 0
+CreateKept = (dir : ℕ) (name : List ℕ) (mode uid gid moment : ℕ) → Keeps (Create dir name mode uid gid moment)
+
+-- a directory made so
+abbrev pub MakeDirKept : Type 0
+MakeDirKept = (dir : ℕ) (name : List ℕ) (mode uid gid moment : ℕ) → Keeps (MakeDir dir name mode uid gid moment)

@@ -1,4 +1,4 @@
-ghost use Rattle.mb_tree.specs.NameLaws.{EnlinkKept, DelinkKept};
+ghost use Rattle.mb_tree.specs.NameLaws.{EnlinkKept, DelinkKept, CreateKept, MakeDirKept};
 
 /// A name entered for an inode that is there keeps a sound tree sound.
 pub fn enlink_kept()
@@ -8,4 +8,14 @@ pub fn enlink_kept()
 /// A name taken from a leaf keeps a sound tree sound, where the leaf stays or is dropped.
 pub fn delink_kept()
     ensures { DelinkKept }
+{}
+
+/// A file made under a missing name keeps a sound tree sound.
+pub fn create_kept()
+    ensures { CreateKept }
+{}
+
+/// A directory made under a missing name keeps a sound tree sound.
+pub fn make_dir_kept()
+    ensures { MakeDirKept }
 {}
