@@ -43,7 +43,7 @@ pub record CanBeEntered (tree : Tree) (dir ino : ℕ) (name : List ℕ) (x y z :
 pub used_number : (q : ℕ) (name : List ℕ) → q ≢ 0 → is_used (record { ino = q; name = name }) ≡ true
 used_number q name some = grind (arith, nat_tests)
 
-leads_itself : (slot : PlainSlot) → leads_to slot.ino slot ≡ true
+pub leads_itself : (slot : PlainSlot) → leads_to slot.ino slot ≡ true
 leads_itself slot = grind (arith, nat_tests)
 
 unused_leads : (q : ℕ) (slot : PlainSlot) → q ≢ 0 → is_used slot ≡ false → leads_to q slot ≡ false

@@ -103,7 +103,7 @@ module _ (tree : Tree) (dir ino : ℕ) (name : List ℕ) (x y : Node) (old : Lis
 
 -- ---- a leaf that loses a name
 
-emptied_body : (name : List ℕ) (ino : ℕ) (body : Body) (old : List PlainSlot) (found : IsFound old name ino) → body ≡ Directory old → on_slots (emptied name) body ≡ Directory (slice_set old found.at (vacant name))
+pub emptied_body : (name : List ℕ) (ino : ℕ) (body : Body) (old : List PlainSlot) (found : IsFound old name ino) → body ≡ Directory old → on_slots (emptied name) body ≡ Directory (slice_set old found.at (vacant name))
 emptied_body name ino body old found e = ap (on_slots (emptied name)) e ∙ ap Directory found.is
 
 module _ (tree : Tree) (sound : IsSound tree) (dir ino : ℕ) (name : List ℕ) (moment : ℕ) (x : Node) (old : List PlainSlot) (has : fin.get tree.nodes dir ≡ Some x) (body : x.body ≡ Directory old) (found : IsFound old name ino) (leaf : IsLeafAt tree.nodes ino) where

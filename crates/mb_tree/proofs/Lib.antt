@@ -16,6 +16,7 @@ pub mod NewNames
 pub mod Padding
 pub mod Quiet
 pub mod Released
+pub mod RemovedDirectories
 pub mod Rewritten
 pub mod Rows
 pub mod Searches

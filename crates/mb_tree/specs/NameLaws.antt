@@ -6,7 +6,7 @@ use Rattle.mb_tree.specs.Fits.{Fits}
 use Rattle.mb_tree.specs.Trees.{IsSound}
 use Rattle.mb_tree.specs.declared.trees.Tree.{Tree}
 use Rattle.mb_tree.specs.declared.operations.FsOp.{FsOp}
-use Rattle.mb_tree.specs.declared.operations.FsOp.TheVariants.{Create, MakeDir, Enlink, Delink}
+use Rattle.mb_tree.specs.declared.operations.FsOp.TheVariants.{Create, MakeDir, RemoveDir, Enlink, Delink}
 
 -- an operation that fits keeps a sound tree sound
 abbrev pub Keeps : FsOp → Type 0
@@ -27,3 +27,7 @@ CreateKept = (dir : ℕ) (name : List ℕ) (mode uid gid moment : ℕ) → Keeps
 -- a directory made so
 abbrev pub MakeDirKept : Type 0
 MakeDirKept = (dir : ℕ) (name : List ℕ) (mode uid gid moment : ℕ) → Keeps (MakeDir dir name mode uid gid moment)
+
+-- a directory with two used slots removed
+abbrev pub RemoveDirKept : Type 0
+RemoveDirKept = (dir : ℕ) (name : List ℕ) (moment : ℕ) → Keeps (RemoveDir dir name moment)

@@ -1,4 +1,4 @@
-ghost use Rattle.mb_tree.specs.NameLaws.{EnlinkKept, DelinkKept, CreateKept, MakeDirKept};
+ghost use Rattle.mb_tree.specs.NameLaws.{EnlinkKept, DelinkKept, CreateKept, MakeDirKept, RemoveDirKept};
 
 /// A name entered for an inode that is there keeps a sound tree sound.
 pub fn enlink_kept()
@@ -18,4 +18,9 @@ pub fn create_kept()
 /// A directory made under a missing name keeps a sound tree sound.
 pub fn make_dir_kept()
     ensures { MakeDirKept }
+{}
+
+/// A directory removed that has no names but its own two keeps a sound tree sound.
+pub fn remove_dir_kept()
+    ensures { RemoveDirKept }
 {}
