@@ -5,6 +5,7 @@ pub mod CellMaps
 pub mod Changed
 pub mod Cheaper
 pub mod Dropped
+pub mod EachOperation
 pub mod Entering
 pub mod FiniteMaps
 pub mod Groups

@@ -1,4 +1,4 @@
--- Laws of the operations on names, each the contract of a function without a body.
+-- Laws of the operations on names, and of all operations, each the contract of a function without a body.
 use Rattle.std.specs.Prelude.{List, ℕ, ◌≡◌, Option, Ok}
 use Rattle.mb_tree.specs.Sessions.{Counts}
 use Rattle.mb_tree.specs.Effect.{tree_after}
@@ -31,3 +31,7 @@ MakeDirKept = (dir : ℕ) (name : List ℕ) (mode uid gid moment : ℕ) → Keep
 -- a directory with two used slots removed
 abbrev pub RemoveDirKept : Type 0
 RemoveDirKept = (dir : ℕ) (name : List ℕ) (moment : ℕ) → Keeps (RemoveDir dir name moment)
+
+-- each operation that fits
+abbrev pub OperationKept : Type 0
+OperationKept = (tree : Tree) (opens : Counts) (op : FsOp) (pick : Option ℕ) (next : Tree) → IsSound tree → Fits tree opens op pick → tree_after tree opens op pick ≡ Ok next → IsSound next

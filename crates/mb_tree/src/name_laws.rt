@@ -1,4 +1,4 @@
-ghost use Rattle.mb_tree.specs.NameLaws.{EnlinkKept, DelinkKept, CreateKept, MakeDirKept, RemoveDirKept};
+ghost use Rattle.mb_tree.specs.NameLaws.{EnlinkKept, DelinkKept, CreateKept, MakeDirKept, RemoveDirKept, OperationKept};
 
 /// A name entered for an inode that is there keeps a sound tree sound.
 pub fn enlink_kept()
@@ -23,4 +23,9 @@ pub fn make_dir_kept()
 /// A directory removed that has no names but its own two keeps a sound tree sound.
 pub fn remove_dir_kept()
     ensures { RemoveDirKept }
+{}
+
+/// Each operation that fits keeps a sound tree sound.
+pub fn operation_kept()
+    ensures { OperationKept }
 {}
