@@ -37,13 +37,13 @@ unfolding sum_below
 sum_le g h zero each = omega arith
 sum_le g h (suc n) each = omega (arith, each n, sum_le g h n each)
 
-abbrev IsCheaper : Numbered Node → Numbered Node → Type 0
+abbrev pub IsCheaper : Numbered Node → Numbered Node → Type 0
 IsCheaper new old = (q : ℕ) → cost_at (fin.get new q) ≤ cost_at (fin.get old q)
 
-cheaper_cost : (tree : Tree) (nodes : Numbered Node) → IsCheaper nodes tree.nodes → cost (record tree { nodes = nodes }) ≤ cost tree
+pub cheaper_cost : (tree : Tree) (nodes : Numbered Node) → IsCheaper nodes tree.nodes → cost (record tree { nodes = nodes }) ≤ cost tree
 cheaper_cost tree nodes h = sum_le (λ ino. cost_at (fin.get tree.nodes ino)) (λ ino. cost_at (fin.get nodes ino)) (tree.last + 1) h
 
-cheaper_trans : (a b c : Numbered Node) → IsCheaper a b → IsCheaper b c → IsCheaper a c
+pub cheaper_trans : (a b c : Numbered Node) → IsCheaper a b → IsCheaper b c → IsCheaper a c
 cheaper_trans a b c h k q = omega (arith, h q, k q)
 
 at_least_none : (o : Option Node) → cost_at None ≤ cost_at o
@@ -54,7 +54,7 @@ le_same m n e = omega arith
 
 -- ---- maps
 
-cheaper_inserted : (m : Numbered Node) (k : ℕ) (x y : Node) → fin.get m k ≡ Some x → body_cost y.body ≤ body_cost x.body → IsCheaper (fin.insert m k y) m
+pub cheaper_inserted : (m : Numbered Node) (k : ℕ) (x y : Node) → fin.get m k ≡ Some x → body_cost y.body ≤ body_cost x.body → IsCheaper (fin.insert m k y) m
 cheaper_inserted m k x y has h q = elim (one_or_not q k) [
   | inl is ↦ rw is (subst (λ (o : Option Node). cost_at o ≤ cost_at (fin.get m k)) (sym (get_here m k y)) (subst (λ (o : Option Node). body_cost y.body ≤ cost_at o) (sym has) h))
   | inr apart ↦ le_same _ _ (ap cost_at (get_there m k y q apart))
@@ -89,7 +89,7 @@ length_emptied name slots =
       | Some at ↦ length-set slots at _
     ]
 
-emptied_cost : (name : List ℕ) (body : Body) → body_cost (on_slots (emptied name) body) ≤ body_cost body
+pub emptied_cost : (name : List ℕ) (body : Body) → body_cost (on_slots (emptied name) body) ≤ body_cost body
 emptied_cost name (Regular size parts) = omega arith
 emptied_cost name (Directory slots) = le_same _ _ (ap (λ n. length (first_parts (parts_for n)) + index_blocks (first_parts (parts_for n))) (length_emptied name slots))
 emptied_cost name (Special size area) = omega arith

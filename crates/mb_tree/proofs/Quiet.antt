@@ -30,7 +30,7 @@ use Rattle.mb_tree.proofs.Cheaper.{after_op}
 
 -- ---- bodies
 
-abbrev ArePartsBelow : Numbered (List ℕ) → Type 0
+abbrev pub ArePartsBelow : Numbered (List ℕ) → Type 0
 ArePartsBelow parts = (part : ℕ) (bytes : List ℕ) → fin.get parts part ≡ Some bytes → part < most_parts
 
 put_below : (parts : Numbered (List ℕ)) (index byte : ℕ) → index < 1082201088 → ArePartsBelow parts → ArePartsBelow (put_byte parts index byte)
@@ -43,7 +43,7 @@ puts_below : (parts : Numbered (List ℕ)) (index : ℕ) (bytes : List ℕ) → 
 puts_below parts index [] h below = below
 puts_below parts index (byte ∷ bytes) h below = puts_below (put_byte parts index byte) (index + 1) bytes (omega arith) (put_below parts index byte (omega arith) below)
 
-none_below : ArePartsBelow fin.empty
+pub none_below : ArePartsBelow fin.empty
 none_below part bytes has = let e : None ≡ Some bytes = sym (get-empty nat_cmp part) ∙ has in cc
 
 kind_cleared : (mode : ℕ) (body : Body) → HasKind mode body → HasKind mode (cleared body)
@@ -78,7 +78,7 @@ slots_written offset bytes (Special size area) = refl
 
 -- ---- modes
 
-kind_set : (old mode : ℕ) → mode < 4096 → kind_of (bit_or (kind_of old) mode) ≡ kind_of old
+pub kind_set : (old mode : ℕ) → mode < 4096 → kind_of (bit_or (kind_of old) mode) ≡ kind_of old
 kind_set old mode h =
     let high : bit_and mode 0xF000 ≡ 0 = and_high mode 4 12 ∙ (let z : mode / 4096 % 16 * 4096 ≡ 0 = omega arith in z) in
     and_or_apart 0xF000 (bit_and old 0xF000) mode high ∙ and_high_mask_twice 16 12 (lit≤ tt) old 12 (lit≤ tt)

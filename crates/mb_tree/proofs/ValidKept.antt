@@ -17,7 +17,8 @@ use Rattle.mb_tree.specs.Step.{effect_of, serve, or_refused, IsFree, IsLawful}
 use Rattle.mb_tree.specs.Trees.{IsDirectoryAt, IsSound}
 use Rattle.mb_tree.specs.Fits.{IsLeafAt, Fits}
 use Rattle.mb_tree.specs.Machines.{IsSeated, IsValid}
-use Rattle.mb_tree.specs.SessionLaws.{KeepsUsed, IsQuietPlan, IsCall, OperationKept, ValidKept}
+use Rattle.mb_tree.specs.SessionLaws.{KeepsUsed, IsQuietPlan, IsCall, ValidKept}
+use Rattle.mb_tree.specs.NameLaws.{OperationKept}
 use Rattle.mb_tree.specs.declared.machines.Machine.{Machine}
 use Rattle.mb_tree.specs.declared.nodes.Node.{Node}
 use Rattle.mb_tree.specs.declared.nodes.PlainSlot.{PlainSlot}
@@ -31,6 +32,7 @@ use Rattle.mb_tree.proofs.Always.{not_ok, then_ok, same_ok}
 use Rattle.mb_tree.proofs.Served.{served}
 use Rattle.mb_tree.proofs.Outcomes.{Outcome, outcome}
 use Rattle.mb_tree.proofs.Outcomes.Outcome.{answered, opened, emptied, created, closed_shared, closed_last, moved, put, doubled, linked, unlinked, made, removed, entered, mode_set, owner_set, times_set, masked_off, left, left_open}
+use Rattle.mb_tree.proofs.EachOperation.{operation_kept}
 use Rattle.mb_tree.proofs.Fitting.{each_seat}
 use Rattle.mb_tree.proofs.InodeKinds.{is_leaf_at}
 use Rattle.mb_tree.proofs.PlacedNames.{place_ok}
@@ -196,8 +198,8 @@ free_pick machine caller asked moment None h = tt
 free_pick machine caller asked moment (Some ino) h = h.0
 
 pub valid_kept : ValidKept
-valid_kept keeps machine caller asked moment pick valid good lawful =
+valid_kept machine caller asked moment pick valid good lawful =
     elim (serve machine caller asked moment pick) as (λ (r : Answer (Reply × Machine)). serve machine caller asked moment pick ≡ r → IsValid (or_refused machine r).1) [
-      | Ok s ↦ λ is. served_kept keeps machine caller asked moment pick s.0 s.1 valid good (free_pick machine caller asked moment pick lawful) is
+      | Ok s ↦ λ is. served_kept operation_kept machine caller asked moment pick s.0 s.1 valid good (free_pick machine caller asked moment pick lawful) is
       | Err e ↦ λ is. valid
     ] refl

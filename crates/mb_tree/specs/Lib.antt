@@ -13,6 +13,7 @@ pub mod Laws
 pub mod Lookup
 pub mod Machines
 pub mod Maps
+pub mod NameLaws
 pub mod Opening
 pub mod Places
 pub mod Results

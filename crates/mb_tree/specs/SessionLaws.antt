@@ -6,8 +6,8 @@ use Rattle.mb_kinds.specs.declared.calls.Call.{Call}
 use Rattle.mb_kinds.specs.declared.calls.Call.TheVariants as call
 use Rattle.mb_kinds.specs.declared.replies.Reply.{Reply}
 use Rattle.mb_tree.specs.Maps.{Numbered}
-use Rattle.mb_tree.specs.Sessions.{Counts, counts, with_change}
-use Rattle.mb_tree.specs.Effect.{Held, tree_after}
+use Rattle.mb_tree.specs.Sessions.{counts, with_change}
+use Rattle.mb_tree.specs.Effect.{Held}
 use Rattle.mb_tree.specs.Rows.{plan}
 use Rattle.mb_tree.specs.Step.{IsFree, IsLawful, effect_of, serve, step}
 use Rattle.mb_tree.specs.Trees.{IsDirectoryAt, IsRegularAt, IsSound}
@@ -21,7 +21,6 @@ use Rattle.mb_tree.specs.declared.operations.FsOp.TheVariants.{Release}
 use Rattle.mb_tree.specs.declared.plans.Plan.{Plan}
 use Rattle.mb_tree.specs.declared.seats.PlainFile.{PlainFile}
 use Rattle.mb_tree.specs.declared.seats.Seat.{Seat}
-use Rattle.mb_tree.specs.declared.trees.Tree.{Tree}
 
 -- the counts of open files after a call are those that its operation leaves
 abbrev pub CountsFollow : Type 0
@@ -86,12 +85,7 @@ OperationsFit = (machine : Machine) (caller : ℕ) (made : Call) (moment : ℕ) 
     → IsValidFor machine caller → IsCall made → plan machine caller made moment pick ≡ Ok planned → planned.op ≡ Some op → IfSome pick (IsFree machine.tree)
     → Fits machine.tree (counts machine.seats) op pick
 
--- each operation that fits keeps a sound tree sound: the premise of the law below
-abbrev pub OperationKept : Type 0
-OperationKept = (tree : Tree) (opens : Counts) (op : FsOp) (pick : Option ℕ) (next : Tree) → IsSound tree → Fits tree opens op pick
-    → tree_after tree opens op pick ≡ Ok next → IsSound next
-
--- where they do, a step with a lawful pick keeps a valid machine valid
+-- a step with a lawful pick keeps a valid machine valid
 abbrev pub ValidKept : Type 0
-ValidKept = OperationKept → (machine : Machine) (caller : ℕ) (made : Call) (moment : ℕ) (pick : Option ℕ) → IsValid machine → IsCall made
+ValidKept = (machine : Machine) (caller : ℕ) (made : Call) (moment : ℕ) (pick : Option ℕ) → IsValid machine → IsCall made
     → IsLawful machine caller made moment pick → IsValid (step machine caller made moment pick).1

@@ -21,6 +21,7 @@ mod laws;
 mod lookups;
 mod machines;
 mod maps;
+mod name_laws;
 mod nodes;
 mod operations;
 mod path_rows;
@@ -41,6 +42,9 @@ pub use laws::{
 pub use lookups::{Placed, components, number_of};
 pub use machines::Machine;
 pub use maps::{Copied, Map};
+pub use name_laws::{
+    create_kept, delink_kept, enlink_kept, make_dir_kept, operation_kept, remove_dir_kept,
+};
 pub use nodes::{Body, Node, Nodes, Parts, PlainSlot, PlainSlots};
 pub use operations::{FsOp, Inos};
 pub use plans::Plan;

@@ -28,8 +28,7 @@ pub fn operations_fit()
     ensures { OperationsFit }
 {}
 
-/// Where each operation that fits keeps a sound tree sound, a step with a lawful pick keeps a valid
-/// machine valid.
+/// A step with a lawful pick keeps a valid machine valid.
 pub fn valid_kept()
     ensures { ValidKept }
 {}

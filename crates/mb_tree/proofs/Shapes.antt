@@ -1,0 +1,168 @@
+-- Trees that are sound but for their link counts, their cost and what leads to one inode.
+use Rattle.std.proofs.Common.{◌≡◌, ◌≢◌, inl, inr, ℕ, ◌+◌, ◌≤◌, List, Option, Some, None, refl, sym, ap, subst, ◌∙◌, arith}
+use Rattle.std.specs.FinMap as fin
+use Rattle.mb_tree.specs.Maps.{Numbered}
+use Rattle.mb_tree.specs.Cost.{cost}
+use Rattle.mb_tree.specs.Trees.{IsThere, HasKind, HasSize, AreSlots, links_from, late_links_from, links_at, late_links_at, links, late_links, Leads, Reached, HasParent, IsRoot, Each, EachDirectory, IsSound}
+use Rattle.mb_tree.specs.Trees.Reached.{root, down}
+use Rattle.mb_tree.specs.declared.nodes.PlainSlot.{PlainSlot}
+use Rattle.mb_tree.specs.declared.nodes.Node.{Node}
+use Rattle.mb_tree.specs.declared.nodes.Body.{Body}
+use Rattle.mb_tree.specs.declared.nodes.Body.TheVariants.{Regular, Directory, Special}
+use Rattle.mb_tree.specs.declared.trees.Tree.{Tree}
+use Rattle.mb_tree.proofs.FiniteMaps.{get_here, get_there, one_or_not}
+use Rattle.mb_tree.proofs.Sums.{sum_put}
+
+-- sound but for link counts and room, and for what leads to the inode with the number free
+pub record IsShaped (tree : Tree) (free : ℕ) : Type 0 where
+  pub numbers : Each tree (λ ino node. (1 ≤ ino) × (ino ≤ tree.last))
+  pub kinds : Each tree (λ ino node. HasKind node.mode node.body)
+  pub sizes : Each tree (λ ino node. HasSize node.body)
+  pub root : IsRoot tree
+  pub slots : EachDirectory tree (AreSlots tree.nodes)
+  pub parents : EachDirectory tree (λ ino slots. ino ≢ 2 → ino ≢ free → HasParent tree ino slots)
+
+-- no late slot of an inode is used
+abbrev pub IsBarren : Numbered Node → ℕ → Type 0
+IsBarren nodes ino = (at other : ℕ) → Leads nodes ino at other → ⊥
+
+-- an inode is no directory
+abbrev pub IsNoDirectory : Numbered Node → ℕ → Type 0
+IsNoDirectory nodes ino = (node : Node) (slots : List PlainSlot) → fin.get nodes ino ≡ Some node → node.body ≡ Directory slots → ⊥
+
+pub barren_leaf : (nodes : Numbered Node) (ino : ℕ) → IsNoDirectory nodes ino → IsBarren nodes ino
+barren_leaf nodes ino leaf at other h = leaf h.node h.slots h.has h.body
+
+pub shape_of : (tree : Tree) (free : ℕ) → IsSound tree → IsShaped tree free
+shape_of tree free sound = record {
+  numbers = sound.numbers;
+  kinds = sound.kinds;
+  sizes = sound.sizes;
+  root = sound.root;
+  slots = sound.slots;
+  parents = λ ino node slots has body under other. sound.parents ino node slots has body under;
+}
+
+pub sound_of : (tree : Tree) (free : ℕ) → IsShaped tree free
+    → ((node : Node) (slots : List PlainSlot) → fin.get tree.nodes free ≡ Some node → node.body ≡ Directory slots → free ≢ 2 → HasParent tree free slots)
+    → Each tree (λ ino node. ino ≢ 1 → (node.nlink ≡ links tree ino) × (node.nlink ≤ 32767)) → cost tree ≤ tree.cap → IsSound tree
+sound_of tree free shape led counted room = record {
+  numbers = shape.numbers;
+  kinds = shape.kinds;
+  sizes = shape.sizes;
+  root = shape.root;
+  slots = shape.slots;
+  parents = λ ino node slots has body under. elim (one_or_not ino free) [
+    | inl is ↦ subst (λ q. HasParent tree q slots) (sym is) (led node slots (sym (ap (fin.get tree.nodes) is) ∙ has) body (λ e. under (is ∙ e)))
+    | inr apart ↦ shape.parents ino node slots has body under apart
+  ];
+  counted = λ ino node has other. (counted ino node has other).0;
+  few = λ ino node has other. (counted ino node has other).1;
+  room = room;
+}
+
+-- the slots of a directory whose targets stay
+pub slots_stay : (old new : Numbered Node) (ino : ℕ) (slots : List PlainSlot) → ((q : ℕ) → IsThere old q → IsThere new q) → AreSlots old ino slots → AreSlots new ino slots
+slots_stay old new ino slots there h = record {
+  first = h.first;
+  parent = h.parent;
+  second = h.second;
+  upward = h.upward;
+  no_dots = h.no_dots;
+  leads = λ at slot u. let l = h.leads at slot u in (l.0, there slot.ino l.1);
+  names = h.names;
+  distinct = h.distinct;
+}
+
+-- what the root leads to, where all that leads stays
+pub reached_stays : (old new : Numbered Node) → ((dir at q : ℕ) → Leads old dir at q → Leads new dir at q) → (q : ℕ) → Reached old q → Reached new q
+reached_stays old new leads q root = root
+reached_stays old new leads q (down dir at r l) = down dir at (reached_stays old new leads dir r) (leads dir at _ l)
+
+-- what is no directory leads nowhere
+pub no_links_leaf : (q : ℕ) (body : Body) → ((slots : List PlainSlot) → body ≡ Directory slots → ⊥) → links_from q body ≡ 0
+no_links_leaf q (Regular size parts) leaf = refl
+no_links_leaf q (Directory slots) leaf = absurd (leaf slots refl)
+no_links_leaf q (Special size area) leaf = refl
+
+pub no_late_leaf : (q : ℕ) (body : Body) → ((slots : List PlainSlot) → body ≡ Directory slots → ⊥) → late_links_from q body ≡ 0
+no_late_leaf q (Regular size parts) leaf = refl
+no_late_leaf q (Directory slots) leaf = absurd (leaf slots refl)
+no_late_leaf q (Special size area) leaf = refl
+
+-- ---- an inode put under a number that is free or a leaf's
+
+pub record CanBePut (tree : Tree) (ino : ℕ) (x : Node) : Type 0 where
+  pub low : 1 ≤ ino
+  pub high : ino ≤ tree.last
+  pub under : ino ≢ 2
+  pub leaf : IsNoDirectory tree.nodes ino
+  pub kind : HasKind x.mode x.body
+  pub size : HasSize x.body
+  pub slots : (slots : List PlainSlot) → x.body ≡ Directory slots → AreSlots (fin.insert tree.nodes ino x) ino slots
+  pub late : (q : ℕ) → late_links_from q x.body ≡ 0
+
+module _ (tree : Tree) (ino : ℕ) (x : Node) (shape : IsShaped tree ino) (h : CanBePut tree ino x) where
+  abbrev next : Tree
+  next = record tree { nodes = fin.insert tree.nodes ino x }
+
+  links_before : (q : ℕ) (o : Option Node) → fin.get tree.nodes ino ≡ o → links_at q o ≡ 0
+  links_before q None e = refl
+  links_before q (Some old) e = no_links_leaf q old.body (λ slots body. h.leaf old slots e body)
+
+  late_before : (q : ℕ) (o : Option Node) → fin.get tree.nodes ino ≡ o → late_links_at q o ≡ 0
+  late_before q None e = refl
+  late_before q (Some old) e = no_late_leaf q old.body (λ slots body. h.leaf old slots e body)
+
+  pub links_put : (q : ℕ) → links next q ≡ links tree q + links_from q x.body
+  links_put q =
+      let all = sum_put (links_at q) tree.nodes ino (tree.last + 1) (omega (arith, h.high)) x in
+      let none = links_before q (fin.get tree.nodes ino) refl in
+      omega (arith, all, none)
+
+  pub late_put : (q : ℕ) → late_links next q ≡ late_links tree q
+  late_put q =
+      let all = sum_put (late_links_at q) tree.nodes ino (tree.last + 1) (omega (arith, h.high)) x in
+      let none = late_before q (fin.get tree.nodes ino) refl in
+      let more = h.late q in
+      omega (arith, all, none, more)
+
+  there_put : (q : ℕ) → IsThere tree.nodes q → IsThere next.nodes q
+  there_put q t = elim (one_or_not q ino) [
+    | inl is ↦ record { node = x; has = ap (fin.get next.nodes) is ∙ get_here tree.nodes ino x }
+    | inr apart ↦ record { node = t.node; has = get_there tree.nodes ino x q apart ∙ t.has }
+  ]
+
+  -- a directory that was there has another number
+  pub directory_apart : (q : ℕ) (node : Node) (slots : List PlainSlot) → fin.get tree.nodes q ≡ Some node → node.body ≡ Directory slots → q ≢ ino
+  directory_apart q node slots has body e = h.leaf node slots (sym (ap (fin.get tree.nodes) e) ∙ has) body
+
+  leads_put : (dir at q : ℕ) → Leads tree.nodes dir at q → Leads next.nodes dir at q
+  leads_put dir at q l = record { node = l.node; slots = l.slots; slot = l.slot; has = get_there tree.nodes ino x dir (directory_apart dir l.node l.slots l.has l.body) ∙ l.has; body = l.body; late = l.late; entry = l.entry; leads = l.leads }
+
+  -- each inode is the new one, or was there
+  each_put : (P : ℕ → Node → Type 0) → P ino x → Each tree P → Each next P
+  each_put P one all q node has = elim (one_or_not q ino) [
+    | inl is ↦
+        let same : x ≡ node = let e : ◌≡◌ {A = Option Node} (Some x) (Some node) = sym (get_here tree.nodes ino x) ∙ sym (ap (fin.get next.nodes) is) ∙ has in cc in
+        subst (λ i. P i node) (sym is) (subst (P ino) same one)
+    | inr apart ↦ all q node (sym (get_there tree.nodes ino x q apart) ∙ has)
+  ]
+
+  root_put : IsRoot next
+  root_put =
+      let r = shape.root in
+      record { node = r.node; slots = r.slots; has = get_there tree.nodes ino x 2 (λ e. h.under (sym e)) ∙ r.has; body = r.body; upward = r.upward; top = late_put 2 ∙ r.top }
+
+  pub shape_put : IsShaped next ino
+  shape_put = record {
+    numbers = each_put (λ q node. (1 ≤ q) × (q ≤ tree.last)) (h.low, h.high) shape.numbers;
+    kinds = each_put (λ q node. HasKind node.mode node.body) h.kind shape.kinds;
+    sizes = each_put (λ q node. HasSize node.body) h.size shape.sizes;
+    root = root_put;
+    slots = λ q node slots has. each_put (λ q node. node.body ≡ Directory slots → AreSlots next.nodes q slots) (h.slots slots)
+        (λ q node has body. slots_stay tree.nodes next.nodes q slots there_put (shape.slots q node slots has body)) q node has;
+    parents = λ q node slots has body under apart.
+        let old = shape.parents q node slots (sym (get_there tree.nodes ino x q apart) ∙ has) body under apart in
+        record { one = late_put q ∙ old.one; parent = old.parent; at = old.at; upward = old.upward; entry = leads_put old.parent old.at q old.entry; reached = reached_stays tree.nodes next.nodes leads_put q old.reached };
+  }
