@@ -27,8 +27,7 @@ use Rattle.mb_fsops.proofs.Fields.{length-both, both_same, both_first, both_last
 use Rattle.mb_fsops.proofs.Frames.{Framed}
 use Rattle.mb_fsops.proofs.Volumes.{HasFields, HasFieldsOf, body_in, volume_framed, kept_framed}
 
--- ---- modes
-
+-- a set mode is a word, and never that of a free inode
 pub new_mode-lt : (old mode : ℕ) → mode < 4096 → new_mode old mode < 65536
 new_mode-lt old mode small =
     let kind : bit_and old 0xF000 ≤ 0xF000 = and_le_r old 0xF000 in
@@ -44,8 +43,7 @@ new_mode_used old mode used none =
     let le : kind_of old ≤ bit_or (kind_of old) mode = le_or_l (kind_of old) mode in
     used (omega (arith, le, none))
 
--- ---- a block replaced
-
+-- the replaced block, and the others
 pub replaced_same : (blocks : ℕ → List ℕ) (block : ℕ) (bytes : List ℕ) → replaced blocks block bytes block ≡ bytes
 unfolding replaced
 replaced_same blocks block bytes = grind (arith, nat_tests)
@@ -54,8 +52,7 @@ pub replaced_other : (blocks : ℕ → List ℕ) (block : ℕ) (bytes : List ℕ
 unfolding replaced
 replaced_other blocks block bytes other apart = grind (arith, nat_tests)
 
--- ---- the bytes of the block
-
+-- the bytes of the block
 module _ (b : List ℕ) (ino mode moment : ℕ) (long : length b ≡ 512) where
   pub length-mode_set : length (mode_set b ino mode moment) ≡ 512
   unfolding mode_set
@@ -100,8 +97,7 @@ fields_kept old new ino (Some node) front back has =
       ctime = long_at-same a b (at + 60) (λ k low high. back k (omega arith) (omega arith)) ∙ has.ctime;
     }
 
--- ---- volumes
-
+-- a volume on which the mode of an inode was set
 module _ (image : Image) (tree : Tree) (ino mode moment : ℕ) (volume : IsVolume image tree) (there : IsThere tree.nodes ino) (small : mode < 4096) (soon : moment < 4294967296) where
   abbrev bytes : List ℕ
   bytes = mode_set (image.at (inode_block ino)) ino mode moment
