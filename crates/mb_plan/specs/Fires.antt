@@ -1,0 +1,42 @@
+-- At which fault points the rules of a plan fire, and the damage that is done there (this project's choice).
+use Rattle.std.specs.Prelude.{◌+◌, ◌≡◌, ◌&&◌, nat_eq, nat_lt, nat_le, Bool, true, List, [], Option, Some, None, All, find}
+use Rattle.std.specs.List.{list_any}
+use Rattle.mb_kinds.specs.declared.faults.Kind.{Kind}
+use Rattle.mb_edge.specs.Crossings.{place_of}
+use Rattle.mb_edge.specs.declared.crossings.Crossing.{Crossing}
+use Rattle.mb_edge.specs.declared.strokes.Stroke.{Stroke}
+use Rattle.mb_plan.specs.declared.rules.Rule.{Rule}
+
+-- two kinds are one
+abbrev pub same_kind : Kind → Kind → Bool
+same_kind first second = nat_eq (place_of first) (place_of second)
+
+-- the crossing is one of the rule's call and kind
+abbrev pub is_meant : Rule → Crossing → Bool
+is_meant rule at = (nat_eq rule.caller at.caller && nat_eq rule.ordinal at.ordinal) && same_kind rule.kind at.kind
+
+-- a rule fires at the crossings of its call and kind whose number is above `skip` and at most `skip` plus `times`
+abbrev pub rule_fires : Rule → Crossing → Bool
+rule_fires rule at = is_meant rule at && (nat_lt rule.skip at.nth && nat_le at.nth (rule.skip + rule.times))
+
+-- a plan fires where one of its rules does
+abbrev pub fires : List Rule → Crossing → Bool
+fires rules at = list_any (λ (rule : Rule). rule_fires rule at) rules
+
+-- the damage of a rule, and none where there is no rule
+abbrev pub damage_of : Option Rule → List Stroke
+damage_of (Some rule) = rule.damage
+damage_of None = []
+
+-- where several rules fire, the first one's damage is done
+abbrev pub damage_at : List Rule → Crossing → List Stroke
+damage_at rules at = damage_of (find (λ (rule : Rule). rule_fires rule at) rules)
+
+-- a rule that fires at its first crossing alone
+pub record IsSingle (rule : Rule) : Type 0 where
+  pub skip : rule.skip ≡ 0
+  pub times : rule.times ≡ 1
+
+-- such rules fire at the first crossing of a call and a kind alone
+abbrev pub SingleFiresFirst : Type 0
+SingleFiresFirst = (rules : List Rule) (at : Crossing) → All IsSingle rules → fires rules at ≡ true → at.nth ≡ 1

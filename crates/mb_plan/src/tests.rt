@@ -1,0 +1,85 @@
+ghost use Rattle.std.specs.Prelude.{IsSome};
+
+use crate::{Plan, Rule};
+use mb_edge::{Crossing, Damage, Hook, Stroke, Word};
+use mb_kinds::Kind;
+use std::alloc::{AllocError, Global};
+
+fn wipe(alloc: Global, byte: u8) -> Result<Damage, AllocError> {
+    Ok(Damage::from_vec(vec![in alloc; Stroke::Wipe(byte)]?))
+}
+
+fn at(ordinal: u32, kind: Kind, nth: u32) -> Crossing {
+    Crossing {
+        caller: 1,
+        ordinal,
+        kind,
+        nth,
+    }
+}
+
+/// Two rules of one call: at the crossings 3 and 4, and at the crossing 4 alone.
+fn two_rules(alloc: Global) -> Result<Plan, AllocError> {
+    let mut rules = Vec::new(alloc);
+    for (skip, times, byte) in [(2, 2, 7), (3, 1, 9)] {
+        rules.push(Rule {
+            caller: 1,
+            ordinal: 5,
+            kind: Kind::Gather,
+            skip,
+            times,
+            damage: wipe(alloc, byte)?,
+        })?;
+    }
+    Ok(Plan::from_vec(rules))
+}
+
+fn wipes<H: Hook>(hook: &H, byte: u8) -> bool
+    requires { IsSome (H.struck hook.now) }
+{
+    match hook.damage().as_slice() {
+        [Stroke::Wipe(with)] => *with == byte,
+        _ => false,
+    }
+}
+
+#[test]
+fn a_rule_fires_at_its_call_its_kind_and_its_numbers(rt: HostRuntime) -> Result<(), AllocError> {
+    let plan = two_rules(rt.alloc())?;
+    let mut hook = plan.hook();
+    assert_eq!(rt; plan.len(), 2);
+    for (crossing, word) in [
+        (at(5, Kind::Gather, 2), Word::Go),
+        (at(5, Kind::Gather, 3), Word::Fault),
+        (at(5, Kind::Gather, 4), Word::Fault),
+        (at(5, Kind::Gather, 5), Word::Go),
+        (at(5, Kind::Finish, 3), Word::Go),
+        (at(6, Kind::Gather, 3), Word::Go),
+    ] {
+        assert_eq!(rt; hook.cross(&crossing), word);
+    }
+    let other = Crossing {
+        caller: 2,
+        ..at(5, Kind::Gather, 3)
+    };
+    assert_eq!(rt; hook.cross(&other), Word::Go);
+    Ok(())
+}
+
+#[test]
+fn the_first_rule_that_fires_does_its_damage(rt: HostRuntime) -> Result<(), AllocError> {
+    let plan = two_rules(rt.alloc())?;
+    let mut hook = plan.hook();
+    if hook.cross(&at(5, Kind::Gather, 4)) == Word::Fault {
+        assert!(rt; wipes(&hook, 7));
+    }
+    Ok(())
+}
+
+#[test]
+fn a_plan_without_rules_strikes_nothing(rt: HostRuntime) {
+    let plan = Plan::new(rt.alloc());
+    let mut hook = plan.hook();
+    assert_eq!(rt; hook.cross(&at(1, Kind::Enter, 1)), Word::Go);
+    assert_eq!(rt; plan.as_slice().len(), 0);
+}
