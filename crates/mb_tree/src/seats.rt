@@ -182,6 +182,19 @@ impl Seat {
         }
     }
 
+    /// The same session again; needs no memory.
+    pub fn copied(&self) -> Seat
+        ensures { result ≡ self.now }
+    {
+        Seat {
+            cred: self.cred,
+            cwd: self.cwd,
+            umask: self.umask,
+            fds: self.fds.copied(),
+            files: self.files.copied(),
+        }
+    }
+
     /// A session without a descriptor.
     pub fn new(cred: Cred, cwd: u16) -> Seat
         ensures { result ≡ record { cred = cred; cwd = cwd; umask = 0; fds = fin.empty; files = fin.empty } }

@@ -69,6 +69,13 @@ impl Fds {
         self.cells[at] = None;
     }
 
+    /// The same descriptors again.
+    pub fn copied(&self) -> Fds
+        ensures { result ≡ self.now }
+    {
+        Fds { cells: self.cells }
+    }
+
     /// The descriptors without one of them.
     pub fn without(&self, fd: u16) -> Fds
         ensures { result ≡ fin.remove self.now fd }
@@ -156,6 +163,13 @@ impl Files {
         ensures { result ≡ fin.empty }
     {
         Files { cells: [None; 17] }
+    }
+
+    /// The same open files again.
+    pub fn copied(&self) -> Files
+        ensures { result ≡ self.now }
+    {
+        Files { cells: self.cells }
     }
 
     /// The open file at a place.
