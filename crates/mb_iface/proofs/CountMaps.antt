@@ -1,5 +1,5 @@
 -- Maps of counts: no count in them is 0.
-use Rattle.std.proofs.Common.{ℕ, Bool, ◌≡◌, ◌≢◌, ◌<◌, inl, inr, Option, Some, None, Bor, option_copied, cond, true, false, nat_eq, unwrap_or, refl, sym, ap, ◌∙◌, arith}
+use Rattle.std.proofs.Common.{ℕ, Bool, ◌≡◌, ◌≢◌, ◌<◌, inl, inr, Option, Some, None, Bor, option_copied, cond, true, false, nat_eq, unwrap_or, Result, Ok, Err, OnErr, refl, sym, ap, ◌∙◌, arith}
 use Rattle.std.proofs.lemmas.Bool.Decides.{nat_tests}
 use Rattle.std.specs.FinMap as fin
 use Rattle.std.specs.FinMap.{get-empty}
@@ -53,3 +53,8 @@ same_look (Some count) (Some other) o_counts p_counts same = ap Some same
 -- two maps without zeros are equal where they count alike
 pub counts_tell : (m n : fin.FinMap nat_cmp ℕ) → AreCounts m → AreCounts n → ((ino : ℕ) → count_of m ino ≡ count_of n ino) → m ≡ n
 counts_tell m n m_counts n_counts alike = same m n (λ ino. same_look (fin.get m ino) (fin.get n ino) (m_counts ino) (n_counts ino) (alike ino))
+
+-- a fact that holds holds where there is an error
+pub on_err : {T E P : Type 0} (result : Result T E) → P → OnErr result P
+on_err (Ok value) holds = tt
+on_err (Err error) holds = holds

@@ -1,4 +1,4 @@
-ghost use Rattle.std.specs.Prelude.{◌≡◌, ◌<◌, ℕ, OnOk, OnErr, IfOk, Some};
+ghost use Rattle.std.specs.Prelude.{◌≡◌, ◌<◌, ℕ, OnOk, OnErr, IfOk, Some, None};
 ghost use Rattle.std.specs.FinMap as fin;
 ghost use Rattle.mb_iface.specs.OpenCounts.{count_of, with_count, AreCounts};
 
@@ -54,6 +54,7 @@ impl Opens {
     /// want of memory, for an inode that had none; the map is then as before.
     pub fn set(&mut self, ino: u16, count: u32) -> Result<(), AllocError>
         ensures ok { OnOk result (self.new ≡ with_count self.old ino count) }
+        ensures absent { OnErr result (fin.get self.old ino ≡ None) }
         ensures err { OnErr result (self.new ≡ self.old) }
     {
         if count == 0 {
