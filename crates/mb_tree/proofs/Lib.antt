@@ -31,7 +31,6 @@ pub mod ReleaseValid
 pub mod Released
 pub mod RemovedDirectories
 pub mod Rewritten
-pub mod RowSums
 pub mod Rows
 pub mod Searches
 pub mod Seated
