@@ -20,6 +20,7 @@ pub mod NamedKinds
 pub mod NewInodes
 pub mod NewNames
 pub mod OpenCounts
+pub mod Opened
 pub mod OperationsFit
 pub mod Outcomes
 pub mod Padding
@@ -40,5 +41,6 @@ pub mod SlotLists
 pub mod Slotted
 pub mod Sums
 pub mod Swaps
+pub mod ValidHistories
 pub mod ValidKept
 pub mod ValidStays

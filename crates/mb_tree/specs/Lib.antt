@@ -22,5 +22,6 @@ pub mod SessionLaws
 pub mod Sessions
 pub mod Step
 pub mod Trees
+pub mod ValidLaws
 pub mod Views
 pub mod Volume

@@ -33,6 +33,7 @@ mod tables;
 #[cfg(test)]
 mod tests;
 mod trees;
+mod valid_laws;
 
 pub use inodes::{is_directory, is_regular};
 pub use laws::{
@@ -55,3 +56,4 @@ pub use session_laws::{
 pub use stops::NoMemory;
 pub use tables::{Fds, Files};
 pub use trees::Tree;
+pub use valid_laws::{history_valid, opening_valid};
