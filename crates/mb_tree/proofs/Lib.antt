@@ -19,6 +19,7 @@ pub mod MapCopies
 pub mod NamedKinds
 pub mod NewInodes
 pub mod NewNames
+pub mod OneTrees
 pub mod OpenCounts
 pub mod Opened
 pub mod OperationsFit

@@ -14,6 +14,7 @@ pub mod Lookup
 pub mod Machines
 pub mod Maps
 pub mod NameLaws
+pub mod OneTree
 pub mod Opening
 pub mod Places
 pub mod Results

@@ -56,4 +56,4 @@ pub use session_laws::{
 pub use stops::NoMemory;
 pub use tables::{Fds, Files};
 pub use trees::Tree;
-pub use valid_laws::{history_valid, opening_valid};
+pub use valid_laws::{history_valid, one_tree, opening_valid};

@@ -1,3 +1,4 @@
+ghost use Rattle.mb_tree.specs.OneTree.{OneTree};
 ghost use Rattle.mb_tree.specs.ValidLaws.{OpeningValid, HistoryValid};
 
 /// What the callers find on a volume of a sound tree is a valid machine.
@@ -8,4 +9,9 @@ pub fn opening_valid()
 /// A legal history of calls keeps a valid machine valid.
 pub fn history_valid()
     ensures { HistoryValid }
+{}
+
+/// An image is a volume of at most one tree.
+pub fn one_tree()
+    ensures { OneTree }
 {}
