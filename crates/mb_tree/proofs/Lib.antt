@@ -2,6 +2,7 @@ pub mod Alike
 pub mod Always
 pub mod Arms
 pub mod CellMaps
+pub mod Chains
 pub mod Changed
 pub mod Cheaper
 pub mod CountsFollow

@@ -1,11 +1,10 @@
 -- The bytes of a volume determine its tree.
-use Rattle.std.proofs.Common.{◌≡◌, ◌≢◌, ◌⊎◌, inl, inr, ℕ, zero, suc, ◌+◌, ◌-◌, ◌*◌, ◌<◌, ◌≤◌, true, false, ◌||◌, List, [], ◌∷◌, Option, Some, None, length, map, refl, sym, ap, subst, ◌∙◌, arith, nat_eq, nat_le}
+use Rattle.std.proofs.Common.{◌≡◌, ◌≢◌, ◌⊎◌, inl, inr, ℕ, zero, suc, ◌+◌, ◌*◌, ◌<◌, ◌≤◌, true, false, ◌||◌, List, Option, Some, None, length, map, refl, sym, ap, subst, ◌∙◌, arith, nat_eq, nat_le}
 use Rattle.std.specs.List.{range_with_len}
 use Rattle.std.proofs.lemmas.Bool.Decides.{nat_tests}
 use Rattle.std.specs.FinMap as fin
 use Rattle.mb_kinds.specs.Image.{Image}
 use Rattle.mb_tree.specs.Maps.{Numbered}
-use Rattle.mb_tree.specs.Chain.{Listed, after_taking, IsChain}
 use Rattle.mb_tree.specs.Inodes.{kind_of, is_special}
 use Rattle.mb_tree.specs.Blocks.{slot_in}
 use Rattle.mb_tree.specs.Cost.{cost}
@@ -17,27 +16,8 @@ use Rattle.mb_tree.specs.declared.nodes.Node.{Node}
 use Rattle.mb_tree.specs.declared.nodes.Body.{Body}
 use Rattle.mb_tree.specs.declared.nodes.Body.TheVariants.{Regular, Directory, Special}
 use Rattle.mb_tree.specs.declared.trees.Tree.{Tree}
+use Rattle.mb_tree.proofs.Chains.{chain_once}
 use Rattle.mb_tree.proofs.FiniteMaps.{same}
-
--- ---- the free chain
-
--- a list has one chain
-pub chain_once : (list_in : ℕ → Listed) (it : Listed) (xs ys : List ℕ) → IsChain list_in it xs → IsChain list_in it ys → xs ≡ ys
-chain_once list_in it [] [] one other = refl
-chain_once list_in it [] (y ∷ ys) (inl none) other = absurd (let some = other.0.some in omega arith)
-chain_once list_in it [] (y ∷ ys) (inr last) other =
-    let e : it.entry (it.count - 1) ≡ it.entry 0 = ap it.entry (omega (arith, last.0)) in
-    let real = other.0.real in
-    absurd (omega (arith, sym e ∙ other.0.here, last.1))
-chain_once list_in it (x ∷ xs) [] one (inl none) = absurd (let some = one.0.some in omega arith)
-chain_once list_in it (x ∷ xs) [] one (inr last) =
-    let e : it.entry (it.count - 1) ≡ it.entry 0 = ap it.entry (omega (arith, last.0)) in
-    let real = one.0.real in
-    absurd (omega (arith, sym e ∙ one.0.here, last.1))
-chain_once list_in it (x ∷ xs) (y ∷ ys) one other =
-    let e : y ≡ x = sym other.0.here ∙ one.0.here in
-    let rest : IsChain list_in (after_taking list_in it x) ys = subst (λ b. IsChain list_in (after_taking list_in it b) ys) e other.1 in
-    ap (λ b. b ∷ xs) (sym e) ∙ ap (λ bs. y ∷ bs) (chain_once list_in (after_taking list_in it x) xs ys one.1 rest)
 
 -- ---- the kinds
 
