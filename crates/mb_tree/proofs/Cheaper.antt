@@ -77,7 +77,7 @@ cond_le : (b : Bool) (o : Option Node) → cost_at (cond b o None) ≤ cost_at o
 cond_le true o = omega arith
 cond_le false o = at_least_none o
 
-cheaper_retained : (m : Numbered Node) (p : ℕ → Bool) → IsCheaper (fin.retain_keys m p) m
+pub cheaper_retained : (m : Numbered Node) (p : ℕ → Bool) → IsCheaper (fin.retain_keys m p) m
 cheaper_retained m p q = subst (λ (o : Option Node). cost_at o ≤ cost_at (fin.get m q)) (sym (get-retain_keys m p q (λ x t. ap p (sym (nat_cmp-IsAntisymmetric q x t))))) (cond_le (p q) (fin.get m q))
 
 -- ---- bodies

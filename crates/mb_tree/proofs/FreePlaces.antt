@@ -11,7 +11,7 @@ use Rattle.mb_tree.specs.declared.nodes.Node.{Node}
 use Rattle.mb_tree.specs.declared.seats.PlainFile.{PlainFile}
 use Rattle.mb_tree.specs.declared.seats.Seat.{Seat}
 use Rattle.mb_tree.proofs.FiniteMaps.{one_or_not}
-use Rattle.mb_tree.proofs.RowSums.{sum_but, sum_nothing, sum_swap, sum_term, sum_full, sum_short}
+use Rattle.mb_tree.proofs.Sums.{sum_but, sum_nothing, sum_swap, sum_term, sum_full, sum_short}
 use Rattle.mb_tree.proofs.Seated.{passes, in_row, fails, none_of}
 
 -- 1 where a descriptor's place is p

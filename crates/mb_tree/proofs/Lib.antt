@@ -2,6 +2,7 @@ pub mod Alike
 pub mod Always
 pub mod Arms
 pub mod CellMaps
+pub mod Chains
 pub mod Changed
 pub mod Cheaper
 pub mod CountsFollow
@@ -19,7 +20,9 @@ pub mod MapCopies
 pub mod NamedKinds
 pub mod NewInodes
 pub mod NewNames
+pub mod OneTrees
 pub mod OpenCounts
+pub mod Opened
 pub mod OperationsFit
 pub mod Outcomes
 pub mod Padding
@@ -31,7 +34,6 @@ pub mod ReleaseValid
 pub mod Released
 pub mod RemovedDirectories
 pub mod Rewritten
-pub mod RowSums
 pub mod Rows
 pub mod Searches
 pub mod Seated
@@ -41,5 +43,6 @@ pub mod SlotLists
 pub mod Slotted
 pub mod Sums
 pub mod Swaps
+pub mod ValidHistories
 pub mod ValidKept
 pub mod ValidStays

@@ -22,7 +22,7 @@ use Rattle.mb_tree.specs.declared.operations.FsOp.TheVariants.{Create, MakeDir}
 use Rattle.mb_tree.proofs.FiniteMaps.{get_here, get_there}
 use Rattle.mb_tree.proofs.Always.{then_ok, bind_ok}
 use Rattle.mb_tree.proofs.Cheaper.{after_op}
-use Rattle.mb_tree.proofs.Sums.{sum_of_zeros}
+use Rattle.mb_tree.proofs.Sums.{sum_nothing}
 use Rattle.mb_tree.proofs.SlotLists.{weight, count_none, late_none, count_late, weight_one}
 use Rattle.mb_tree.proofs.Rewritten.{number_by}
 use Rattle.mb_tree.proofs.Shapes.{CanBePut}
@@ -67,10 +67,10 @@ module _ (tree : Tree) (sound : IsSound tree) (ino : ℕ) (free : IsFree tree in
   late_from_one dir (Some node) e = late_from_body dir node node.body e refl
 
   free_links : links tree ino ≡ 0
-  free_links = sum_of_zeros (λ dir. links_at ino (fin.get tree.nodes dir)) (tree.last + 1) (λ dir low. from_one dir (fin.get tree.nodes dir) refl)
+  free_links = sum_nothing (λ dir. links_at ino (fin.get tree.nodes dir)) (tree.last + 1) (λ dir low. from_one dir (fin.get tree.nodes dir) refl)
 
   free_late : late_links tree ino ≡ 0
-  free_late = sum_of_zeros (λ dir. late_links_at ino (fin.get tree.nodes dir)) (tree.last + 1) (λ dir low. late_from_one dir (fin.get tree.nodes dir) refl)
+  free_late = sum_nothing (λ dir. late_links_at ino (fin.get tree.nodes dir)) (tree.last + 1) (λ dir low. late_from_one dir (fin.get tree.nodes dir) refl)
 
   free_apart : (q : ℕ) (node : Node) → fin.get tree.nodes q ≡ Some node → q ≢ ino
   free_apart q node has e = let no : ◌≡◌ {A = Option Node} None (Some node) = sym free.unused ∙ sym (ap (fin.get tree.nodes) e) ∙ has in cc

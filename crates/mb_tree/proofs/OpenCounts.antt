@@ -17,7 +17,7 @@ use Rattle.mb_tree.specs.declared.nodes.Node.{Node}
 use Rattle.mb_tree.specs.declared.seats.PlainFile.{PlainFile}
 use Rattle.mb_tree.specs.declared.seats.Seat.{Seat}
 use Rattle.mb_tree.proofs.FiniteMaps.{get_here, get_there, gone_here, gone_there, one_or_not, is_here, is_apart}
-use Rattle.mb_tree.proofs.RowSums.{sum_same, sum_but, sum_nothing}
+use Rattle.mb_tree.proofs.Sums.{sum_same, sum_but, sum_nothing}
 use Rattle.mb_tree.proofs.Seated.{passes, in_row, none_of}
 use Rattle.mb_tree.proofs.FreePlaces.{place_for}
 

@@ -24,7 +24,7 @@ use Rattle.mb_tree.specs.declared.plans.Plan.{Plan}
 use Rattle.mb_tree.specs.declared.seats.PlainFile.{PlainFile}
 use Rattle.mb_tree.specs.declared.seats.Seat.{Seat}
 use Rattle.mb_tree.proofs.FiniteMaps.{one_or_not, is_here, is_apart}
-use Rattle.mb_tree.proofs.RowSums.{sum_term}
+use Rattle.mb_tree.proofs.Sums.{sum_term}
 use Rattle.mb_tree.proofs.Outcomes.{Outcome, outcome}
 use Rattle.mb_tree.proofs.Outcomes.Outcome.{answered, opened, emptied, created, closed_shared, closed_last, moved, put, doubled, linked, unlinked, made, removed, entered, mode_set, owner_set, times_set, masked_off, left, left_open}
 use Rattle.mb_tree.proofs.OpenCounts.{left_of, right_of, none_below, inos_in, one_count, clear_count}

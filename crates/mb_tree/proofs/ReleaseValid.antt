@@ -23,7 +23,7 @@ use Rattle.mb_tree.specs.declared.trees.Tree.{Tree}
 use Rattle.mb_tree.proofs.Always.{same_ok}
 use Rattle.mb_tree.proofs.Dropped.{release_kept, released, no_directory}
 use Rattle.mb_tree.proofs.Served.{served}
-use Rattle.mb_tree.proofs.RowSums.{sum_term}
+use Rattle.mb_tree.proofs.Sums.{sum_term}
 use Rattle.mb_tree.proofs.InodeKinds.{kind_by_get}
 use Rattle.mb_tree.proofs.Fitting.{IsCreated, session_fits}
 use Rattle.mb_tree.proofs.Outcomes.{outcome}

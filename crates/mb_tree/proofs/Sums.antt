@@ -1,5 +1,5 @@
--- Sums over numbers in a row where one term changes, and what a small sum says of its terms.
-use Rattle.std.proofs.Common.{◌≡◌, ◌≢◌, inl, inr, ℕ, zero, suc, ◌+◌, ◌<◌, ◌≤◌, Option, Some, None, refl, sym, ap, arith}
+-- Sums over numbers in a row: one term changed, two orders, and bounds.
+use Rattle.std.proofs.Common.{◌≡◌, ◌≢◌, inl, inr, ℕ, zero, suc, ◌+◌, ◌<◌, ◌≤◌, Option, Some, None, refl, sym, ap, ◌∙◌, arith}
 use Rattle.std.specs.FinMap as fin
 use Rattle.mb_tree.specs.Maps.{Numbered}
 use Rattle.mb_tree.specs.Counting.{sum_below}
@@ -12,10 +12,10 @@ sum_same g h zero each = refl
 sum_same g h (suc n) each = omega (arith, each n (omega arith), sum_same g h n (λ k low. each k (omega arith)))
 
 -- nothing added up
-pub sum_of_zeros : (g : ℕ → ℕ) (n : ℕ) → ((k : ℕ) → k < n → g k ≡ 0) → sum_below g n ≡ 0
+pub sum_nothing : (g : ℕ → ℕ) (n : ℕ) → ((k : ℕ) → k < n → g k ≡ 0) → sum_below g n ≡ 0
 unfolding sum_below
-sum_of_zeros g zero each = refl
-sum_of_zeros g (suc n) each = omega (arith, each n (omega arith), sum_of_zeros g n (λ k low. each k (omega arith)))
+sum_nothing g zero each = refl
+sum_nothing g (suc n) each = omega (arith, each n (omega arith), sum_nothing g n (λ k low. each k (omega arith)))
 
 -- functions that agree but at j
 pub sum_but : (g h : ℕ → ℕ) (j n : ℕ) → j < n → ((k : ℕ) → k ≢ j → h k ≡ g k) → sum_below h n + g j ≡ sum_below g n + h j
@@ -58,6 +58,40 @@ sum_terms g i j (suc n) low less apart = elim (one_or_not i n) [
         omega (arith, one, other)
     | inr below ↦ let rest = sum_terms g i j n (omega (arith, beside)) (omega (arith, below)) apart in omega (arith, rest)
   ]
+]
+
+-- two sums as one
+pub sum_plus : (f g : ℕ → ℕ) (n : ℕ) → sum_below (λ k. f k + g k) n ≡ sum_below f n + sum_below g n
+unfolding sum_below
+sum_plus f g zero = refl
+sum_plus f g (suc n) = omega (arith, sum_plus f g n)
+
+-- by rows or by columns
+pub sum_swap : (f : ℕ → ℕ → ℕ) (m n : ℕ) → sum_below (λ p. sum_below (f p) m) n ≡ sum_below (λ d. sum_below (λ p. f p d) n) m
+unfolding sum_below
+sum_swap f m zero = sym (sum_nothing (λ d. 0) m (λ k b. refl))
+sum_swap f m (suc n) =
+    let rest : sum_below (λ p. sum_below (f p) m) n ≡ sum_below (λ d. sum_below (λ p. f p d) n) m = sum_swap f m n in
+    let both : sum_below (λ d. f n d + sum_below (λ p. f p d) n) m ≡ sum_below (f n) m + sum_below (λ d. sum_below (λ p. f p d) n) m = sum_plus (f n) (λ d. sum_below (λ p. f p d) n) m in
+    ap (λ x. sum_below (f n) m + x) rest ∙ sym both
+
+-- terms of at least 1, terms of at most 1, and one of 0 among these
+pub sum_full : (g : ℕ → ℕ) (n : ℕ) → ((k : ℕ) → k < n → 1 ≤ g k) → n ≤ sum_below g n
+unfolding sum_below
+sum_full g zero each = omega arith
+sum_full g (suc n) each = omega (arith, each n (omega arith), sum_full g n (λ k b. each k (omega arith)))
+
+pub sum_few : (g : ℕ → ℕ) (n : ℕ) → ((k : ℕ) → g k ≤ 1) → sum_below g n ≤ n
+unfolding sum_below
+sum_few g zero each = omega arith
+sum_few g (suc n) each = omega (arith, each n, sum_few g n each)
+
+pub sum_short : (g : ℕ → ℕ) (j n : ℕ) → j < n → g j ≡ 0 → ((k : ℕ) → g k ≤ 1) → sum_below g n < n
+unfolding sum_below
+sum_short g j zero b none each = absurd (omega arith)
+sum_short g j (suc n) b none each = elim (one_or_not j n) [
+  | inl is ↦ let e : g n ≡ 0 = ap g (sym is) ∙ none in omega (arith, e, sum_few g n each)
+  | inr apart ↦ omega (arith, each n, sum_short g j n (omega arith) none each)
 ]
 
 -- a sum over the values of a map, where one value is put or taken

@@ -1,12 +1,12 @@
 -- The addresses and lists that the bytes of an image hold (V7 filsys(5)). The bytes of a block are
 -- given by its number; block 0 holds no addresses, so that a hole leads to holes.
-use Rattle.std.specs.Prelude.{List, [], ◌∷◌, ℕ, zero, suc, ◌+◌, ◌-◌, ◌*◌, ◌/◌, ◌%◌, ◌<◌, ◌≤◌, Option, Some, None, cond, nat_lt, unwrap_or}
+use Rattle.std.specs.Prelude.{List, ℕ, zero, suc, ◌/◌, ◌%◌, Option, Some, None, cond, nat_lt, unwrap_or}
 use Rattle.mb_kinds.specs.Image.{zeros}
 use Rattle.mb_word.specs.Fields.{nfree_of, free_of, chain_count, chain_entry, inode_block, inode_place, address_of, index_entry, slot_ino, slot_name}
 use Rattle.mb_tree.specs.declared.nodes.PlainSlot.{PlainSlot}
 use Rattle.mb_tree.specs.Cost.{most_parts}
 use Rattle.mb_tree.specs.Chain.{Listed, IsChain}
-use Rattle.mb_tree.specs.Places.{Place, Pointers, at, place_of}
+use Rattle.mb_tree.specs.Places.{Pointers, at, place_of}
 
 unfoldable pub entry_in : (ℕ → List ℕ) → ℕ → ℕ → ℕ
 entry_in blocks zero place = 0

@@ -14,6 +14,7 @@ pub mod Lookup
 pub mod Machines
 pub mod Maps
 pub mod NameLaws
+pub mod OneTree
 pub mod Opening
 pub mod Places
 pub mod Results
@@ -22,5 +23,6 @@ pub mod SessionLaws
 pub mod Sessions
 pub mod Step
 pub mod Trees
+pub mod ValidLaws
 pub mod Views
 pub mod Volume

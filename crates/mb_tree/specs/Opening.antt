@@ -1,5 +1,5 @@
 -- The reference model as it begins, on a volume that is opened.
-use Rattle.std.specs.Prelude.{List, ℕ, Bool, true, false, ◌&&◌, not, nat_eq, Option, Some, None, map}
+use Rattle.std.specs.Prelude.{List, ℕ, Bool, false, ◌&&◌, not, nat_eq, Option, Some, None, map}
 use Rattle.std.specs.FinMap as fin
 use Rattle.std.specs.Ordering.{nat_cmp}
 use Rattle.mb_kinds.specs.declared.credentials.Cred.{Cred}

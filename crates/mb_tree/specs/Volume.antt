@@ -1,5 +1,5 @@
 -- When an image is a volume of a tree: the layout of V7 filsys(5) and dir(5) as a relation without
--- an order of reading.
+-- an order of reading. An image is a volume of at most one tree (law one_tree).
 use Rattle.std.specs.Prelude.{List, ℕ, Bool, true, false, ◌+◌, ◌-◌, ◌*◌, ◌<◌, ◌≤◌, ◌≡◌, ◌≢◌, ◌↔◌, Option, Some, None, IsSome, length, map, All, AllPairs}
 use Rattle.std.specs.List.{range_with_len}
 use Rattle.std.specs.Ordering.{nat_cmp}

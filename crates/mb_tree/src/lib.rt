@@ -7,8 +7,10 @@
 //! (`specs/Sessions.antt`). Want of memory is the only error and leaves the machine as it was.
 //! `specs/Lookup.antt` says where a path leads, `specs/Cost.antt` how many blocks a tree holds,
 //! `specs/Trees.antt` and `specs/Machines.antt` which trees are sound and which machines are valid,
-//! `specs/History.antt` which lists of entries are histories, `specs/Laws.antt` what holds of them, and
-//! `specs/SessionLaws.antt` how the counts of open files follow the calls and what keeps a machine valid.
+//! `specs/History.antt` which lists of entries are histories. What holds of them is proved as laws: of steps
+//! and histories in `specs/Laws.antt`, of the operations on names in `specs/NameLaws.antt`, of the counts of
+//! open files and of what keeps a machine valid in `specs/SessionLaws.antt` and `specs/ValidLaws.antt`; that
+//! an image is a volume of at most one tree in `specs/OneTree.antt`.
 #![tactic(auto)]
 
 mod changes;
@@ -33,6 +35,7 @@ mod tables;
 #[cfg(test)]
 mod tests;
 mod trees;
+mod valid_laws;
 
 pub use inodes::{is_directory, is_regular};
 pub use laws::{
@@ -55,3 +58,4 @@ pub use session_laws::{
 pub use stops::NoMemory;
 pub use tables::{Fds, Files};
 pub use trees::Tree;
+pub use valid_laws::{history_valid, one_tree, opening_valid};

@@ -84,6 +84,18 @@ impl Run {
         assert_eq!(rt; reply, Some(want), "at call {}", self.moment);
     }
 
+    /// The first caller writes one byte at the start of a part of descriptor 3's file.
+    fn expect_part<R: Abort>(&mut self, rt: &R, part: u16, want: Reply) {
+        let seek = Call::Lseek {
+            fd: 3,
+            offset: 512 * i32::from(part),
+            whence: Whence::Start,
+        };
+        let start = Reply::Num(512 * u32::from(part));
+        self.expect(rt, Ok(seek), None, start);
+        self.expect(rt, write(self.heap, 3, b"x"), None, want);
+    }
+
     /// The first caller's next call reads these bytes.
     fn expect_bytes<R: Abort>(&mut self, rt: &R, fd: u16, count: u16, want: &[u8]) {
         match self.reply(0, Ok(Call::Read { fd, count }), None) {
@@ -393,14 +405,36 @@ fn index_blocks_begin_past_the_direct_parts(rt: HostRuntime) -> Result<(), Fail>
         (0, 0),
         (10, 10),
         (11, 12),
+        (137, 138),
         (138, 139),
         (139, 142),
         (266, 269),
         (267, 271),
+        (16521, 16651),
         (16522, 16652),
         (16523, 16656),
     ] {
         assert_eq!(rt; blocks(&first_parts(heap, parts)?), want, "at {parts}");
+    }
+    Ok(())
+}
+
+#[test]
+fn index_blocks_count_against_the_capacity(rt: HostRuntime) -> Result<(), Fail> {
+    let heap = rt.alloc();
+    for (last, next, short, enough) in [(9, 10, 3, 4), (137, 138, 5, 6), (16521, 16522, 7, 8)] {
+        let mut run = Run::fresh(heap, &[SUPER])?;
+        run.machine.tree.cap = short;
+        run.expect(&rt, creat(heap, b"/f", 0o644), Some(3), Reply::Num(3));
+        run.expect_part(&rt, last, Reply::Num(1));
+        run.expect_part(&rt, next, Reply::Refused(Errno::ENOSPC));
+        run.machine.tree.cap = enough;
+        run.expect_part(&rt, next, Reply::Num(1));
+        assert_eq!(rt;
+            cost(heap, &run.machine.tree.nodes, 16)?,
+            u128::from(enough),
+            "past part {last}"
+        );
     }
     Ok(())
 }
