@@ -7,3 +7,6 @@ pub mod SmallCalls
 pub mod SmallJobs
 pub mod SmallLists
 pub mod SmallNames
+pub mod SmallNumbers
+pub mod SmallRules
+pub mod Strokes

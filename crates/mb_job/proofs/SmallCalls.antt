@@ -1,17 +1,17 @@
 -- Each call that a text writes is plain and the one caller's.
 use Rattle.std.proofs.Common.{List, [], ◌∷◌, ℕ, ◌≡◌, ◌&&◌, cond, codes, drop, take, Option, Some, None, option_map, refl}
-use Rattle.std.specs.Prelude.{All, IfSome, bytes_eq}
-use Rattle.std.specs.Option.{option_and_then}
+use Rattle.std.specs.Prelude.{IfSome, bytes_eq}
 use Rattle.std.proofs.lemmas.Bool.{and_parts, cond_both}
-use Rattle.std.proofs.lemmas.List.Elements.{All-nil, All-cons}
 use Rattle.mb_kinds.specs.declared.calls.Call.{Call}
-use Rattle.mb_kinds.specs.declared.calls.Call.TheVariants.{Open, Close, Exit}
+use Rattle.mb_kinds.specs.declared.calls.Call.TheVariants.{Open, Close, Chmod, Exit}
 use Rattle.mb_kinds.specs.declared.calls.How.TheVariants.{Reading}
 use Rattle.mb_job.specs.declared.jobs.JobCall.{JobCall}
-use Rattle.mb_job.specs.CallTexts.{call_in, call_of_words, calls_in, one_word, open_words, read_words, three_words, two_words, words_in}
+use Rattle.mb_job.specs.CallTexts.{call_in, call_of_words, calls_in, chmod_words, one_word, open_words, read_words, three_words, two_words, words_in}
 use Rattle.mb_job.specs.Names.{is_plain_path}
-use Rattle.mb_job.specs.Numbers.{number_in}
+use Rattle.mb_job.specs.Numbers.{mode_in, number_in}
 use Rattle.mb_job.specs.Small.{IsPlainCall}
+use Rattle.mb_job.proofs.SmallNumbers.{Below, mode_in-Below}
+use Rattle.mb_job.proofs.SmallRules.{Each, each_in-Each}
 use Rattle.mb_job.proofs.SmallNames.{IsPlainPath-from_test}
 
 abbrev Plain : Option Call → Type 0
@@ -37,11 +37,20 @@ plain_read (Some fd) (Some count) = tt
 plain_read (Some fd) None = tt
 plain_read None count = tt
 
+plain_chmod : (path : List ℕ) (mode : Option ℕ) → Below 4096 mode → Plain (chmod_words path mode)
+plain_chmod path None below = tt
+plain_chmod path (Some mode) below = cond_both (is_plain_path path) (Some (Chmod path mode)) None Plain (λ holds. (IsPlainPath-from_test path holds, below)) (λ _. tt)
+
+read_or_chmod : (verb first second : List ℕ) → Plain (cond (bytes_eq verb (codes "read")) (read_words (number_in first) (number_in second)) (cond (bytes_eq verb (codes "chmod")) (chmod_words first (mode_in second)) None))
+read_or_chmod verb first second =
+    cond_both (bytes_eq verb (codes "read")) (read_words (number_in first) (number_in second)) (cond (bytes_eq verb (codes "chmod")) (chmod_words first (mode_in second)) None) Plain
+    (λ _. plain_read (number_in first) (number_in second))
+    (λ _. cond_both (bytes_eq verb (codes "chmod")) (chmod_words first (mode_in second)) None Plain (λ _. plain_chmod first (mode_in second) (mode_in-Below second)) (λ _. tt))
+
 plain_three : (verb first second : List ℕ) → Plain (three_words verb first second)
 plain_three verb first second =
-    cond_both (bytes_eq verb (codes "open")) (open_words first second) (cond (bytes_eq verb (codes "read")) (read_words (number_in first) (number_in second)) None) Plain
-    (λ _. plain_open first second)
-    (λ _. cond_both (bytes_eq verb (codes "read")) (read_words (number_in first) (number_in second)) None Plain (λ _. plain_read (number_in first) (number_in second)) (λ _. tt))
+    cond_both (bytes_eq verb (codes "open")) (open_words first second) (cond (bytes_eq verb (codes "read")) (read_words (number_in first) (number_in second)) (cond (bytes_eq verb (codes "chmod")) (chmod_words first (mode_in second)) None)) Plain
+    (λ _. plain_open first second) (λ _. read_or_chmod verb first second)
 
 plain_words : (words : List (List ℕ)) → Plain (call_of_words words)
 plain_words [] = tt
@@ -64,11 +73,5 @@ mine_call text =
     (λ (found : Option JobCall). IfSome found IsMine)
     (λ _. mine_words (drop 2 text) (call_of_words (words_in (drop 2 text))) (plain_words (words_in (drop 2 text)))) (λ _. tt)
 
-mine_more : (found : Option JobCall) (rest : Option (List JobCall)) → IfSome found IsMine → IfSome rest (All IsMine) → IfSome (option_and_then (λ (call : JobCall). option_map (λ (calls : List JobCall). call ∷ calls) rest) found) (All IsMine)
-mine_more None rest here more = tt
-mine_more (Some call) None here more = tt
-mine_more (Some call) (Some calls) here more = All-cons IsMine call calls here more
-
-pub calls_in-IsMine : (texts : List (List ℕ)) → IfSome (calls_in texts) (All IsMine)
-calls_in-IsMine [] = All-nil IsMine
-calls_in-IsMine (text ∷ more) = mine_more (call_in text) (calls_in more) (mine_call text) (calls_in-IsMine more)
+pub calls_in-IsMine : (texts : List (List ℕ)) → IfSome (calls_in texts) (Each IsMine texts)
+calls_in-IsMine texts = each_in-Each IsMine call_in texts mine_call

@@ -2,11 +2,11 @@
 use Rattle.std.specs.Prelude.{List, [], ◌∷◌, ℕ, ◌==◌, ◌&&◌, drop, take, bytes_eq, codes, Option, Some, None, option_map, option_and_then, if◌then◌else◌}
 use Rattle.std.specs.List.{slice_split}
 use Rattle.mb_kinds.specs.declared.calls.Call.{Call}
-use Rattle.mb_kinds.specs.declared.calls.Call.TheVariants.{Open, Read, Close, Exit}
+use Rattle.mb_kinds.specs.declared.calls.Call.TheVariants.{Open, Read, Close, Chmod, Exit}
 use Rattle.mb_kinds.specs.declared.calls.How.TheVariants.{Reading}
 use Rattle.mb_job.specs.declared.jobs.JobCall.{JobCall}
 use Rattle.mb_job.specs.Names.{is_plain_path}
-use Rattle.mb_job.specs.Numbers.{number_in}
+use Rattle.mb_job.specs.Numbers.{mode_in, number_in}
 
 -- `exit`
 abbrev pub one_word : List ℕ → Option Call
@@ -26,11 +26,17 @@ read_words (Some fd) (Some count) = Some (Read fd count)
 read_words (Some fd) None = None
 read_words None count = None
 
--- the two calls of three words
+-- `chmod /NAME MODE`, of the path and the mode
+abbrev pub chmod_words : List ℕ → Option ℕ → Option Call
+chmod_words path (Some mode) = if is_plain_path path then Some (Chmod path mode) else None
+chmod_words path None = None
+
+-- the three calls of three words
 abbrev pub three_words : List ℕ → List ℕ → List ℕ → Option Call
 three_words verb first second =
     if bytes_eq verb (codes "open") then open_words first second
     else if bytes_eq verb (codes "read") then read_words (number_in first) (number_in second)
+    else if bytes_eq verb (codes "chmod") then chmod_words first (mode_in second)
     else None
 
 -- a call by the number of its words; other words write none that is read yet
@@ -52,7 +58,11 @@ call_in text =
     then option_map (λ (call : Call). record { caller = 0; text = drop 2 text; call = call }) (call_of_words (words_in (drop 2 text)))
     else None
 
+-- what a list of texts writes, where each of them writes something
+abbrev pub each_in : {A : Type 0} → (List ℕ → Option A) → List (List ℕ) → Option (List A)
+each_in read [] = Some []
+each_in read (text ∷ more) = option_and_then (λ one. option_map (λ others. one ∷ others) (each_in read more)) (read text)
+
 -- the calls that a list of texts writes
 abbrev pub calls_in : List (List ℕ) → Option (List JobCall)
-calls_in [] = Some []
-calls_in (text ∷ more) = option_and_then (λ (call : JobCall). option_map (λ (calls : List JobCall). call ∷ calls) (calls_in more)) (call_in text)
+calls_in texts = each_in call_in texts

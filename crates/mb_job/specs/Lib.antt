@@ -1,4 +1,5 @@
 pub mod CallTexts
+pub mod FaultTexts
 pub mod Job
 pub mod Limits
 pub mod Names

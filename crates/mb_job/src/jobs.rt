@@ -1,5 +1,6 @@
 use crate::texts::Text;
 use mb_kinds::{Call, Cred, Seq};
+use mb_plan::Plan;
 use std::alloc::{AllocError, AllocFailed};
 
 /// One of a job's callers: the letter that its texts begin with, and who it is.
@@ -18,12 +19,13 @@ pub struct JobCall {
     pub call: Call,
 }
 
-/// What a job's text asks for: its callers, their calls in order with the `exit` that is added, and
-/// the moment before the first call's.
+/// What a job's text asks for: its callers, their calls in order with the `exit` that is added, the
+/// faults that strike them, and the moment before the first call's.
 #[derive(Drop)]
 pub struct Job {
     pub callers: Seq<Caller>,
     pub calls: Seq<JobCall>,
+    pub plan: Plan,
     pub start: u32,
 }
 

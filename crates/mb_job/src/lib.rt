@@ -1,7 +1,8 @@
 //! The job reader and the printed transcript: from the bytes of a job's text to the calls that it
 //! asks for, and from a history of their answers to its text. The one form of a job that is read so
-//! far is a TOML table with the key `calls` of one caller who opens, reads and closes files of the
-//! root directory.
+//! far is a TOML table with the key `calls` of one caller who opens, reads, closes and changes the
+//! modes of files of the root directory, and perhaps the key `faults` of the faults that strike these
+//! calls.
 //!
 //! `specs/Job.antt` says which job a text writes and how every other text is refused; `job_of` gives
 //! exactly that. `specs/Small.antt` says what each job so read keeps. `specs/Transcript.antt` says
@@ -17,6 +18,7 @@ mod paths;
 mod places;
 mod reading;
 mod replies;
+mod rules;
 mod tables;
 #[cfg(test)]
 mod tests;

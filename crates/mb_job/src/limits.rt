@@ -1,4 +1,4 @@
-ghost use Rattle.std.specs.Prelude.{◌≡◌, ◌≤◌, ◌&&◌, nat_le, IfOk, sum_by};
+ghost use Rattle.std.specs.Prelude.{◌≡◌, ◌≤◌, ◌&&◌, ◌+◌, true, nat_le, length, IfOk, sum_by};
 ghost use Rattle.mb_job.specs.Limits.{count_of, exit_ends, is_exit, keeps_limits, lacks_exit, read_count, with_exit};
 
 use crate::jobs::JobCall;
@@ -59,7 +59,8 @@ fn has_exit_last(calls: &[JobCall]) -> bool
 /// Whether a list keeps the limits on the number of calls, on the bytes that they ask for and on
 /// calls after an `exit`.
 pub(crate) fn is_within_limits(calls: &[JobCall]) -> bool
-    ensures { result ≡ keeps_limits calls.now }
+    ensures exact { result ≡ keeps_limits calls.now }
+    ensures few { result ≡ true → length calls.now ≤ 100000 }
 {
     calls.len() <= MOST_CALLS && asks_within(calls) && has_exit_last(calls)
 }
@@ -76,7 +77,8 @@ fn needs_exit(calls: &[JobCall]) -> bool
 
 /// Adds an `exit` where there is a call and the last is none.
 pub(crate) fn add_exit(alloc: Global, calls: &mut Vec<JobCall>) -> Result<(), AllocError>
-    ensures { IfOk result (λ _. calls.new.items ≡ with_exit calls.old.items) }
+    ensures added { IfOk result (λ _. calls.new.items ≡ with_exit calls.old.items) }
+    ensures few { IfOk result (λ _. length calls.new.items ≤ length calls.old.items + 1) }
 {
     if needs_exit(calls) {
         let text = Text::from_vec(b"exit".to_vec(alloc)?);

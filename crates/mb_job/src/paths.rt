@@ -1,5 +1,6 @@
-ghost use Rattle.std.specs.Prelude.{◌≡◌};
+ghost use Rattle.std.specs.Prelude.{◌≡◌, true};
 ghost use Rattle.std.specs.List.{list_all};
+ghost use Rattle.mb_kinds.specs.Texts.{IsPath};
 ghost use Rattle.mb_job.specs.Names.{is_name_byte, is_plain_name, is_plain_path};
 
 /// Whether each byte of a name prints, is no blank and no `/`.
@@ -24,7 +25,8 @@ fn is_plain(name: &[u8]) -> bool
 
 /// Whether a path is `/` and then such a name.
 pub(crate) fn leads_to_root_file(path: &[u8]) -> bool
-    ensures { result ≡ is_plain_path path.now }
+    ensures exact { result ≡ is_plain_path path.now }
+    ensures fits { result ≡ true → IsPath path.now }
 {
     match path {
         [first, name @ ..] => *first == b'/' && is_plain(name),

@@ -1,17 +1,23 @@
 ghost use Rattle.std.specs.Prelude.{◌≡◌, ◌∷◌, [], IfOk};
 ghost use Rattle.toml.specs.View.{table_view};
-ghost use Rattle.mb_job.specs.Job.{Gives, GivesTable, job_in, job_of_table, small_job, table_in, the_caller};
+ghost use Rattle.mb_job.specs.Job.{Gives, GivesTable, job_in, job_of_calls, job_of_table, small_job, table_in, the_caller};
 ghost use Rattle.mb_job.specs.Small.{IsSmall};
 
 use crate::jobs::{Caller, Job, JobCall, JobFault};
 use crate::limits::{add_exit, is_within_limits};
-use crate::tables::{calls_of_texts, texts_of_table};
+use crate::rules::rules_of_texts;
+use crate::tables::{calls_of_texts, has_no_other_key, texts_of_calls, texts_of_faults};
+use crate::texts::Text;
 use mb_kinds::{Cred, Seq};
+use mb_plan::Plan;
 use std::alloc::{AllocError, Global};
 use toml::Table;
 
 /// The greatest length of a job's text.
 const MOST_TEXT: usize = 4_194_304;
+
+/// The greatest number of rules that a job may have.
+const MOST_RULES: usize = 255;
 
 /// The list of the one caller, `a`, who is uid 0 and gid 0.
 fn one_caller(alloc: Global) -> Result<Seq<Caller>, AllocError>
@@ -25,18 +31,26 @@ fn one_caller(alloc: Global) -> Result<Seq<Caller>, AllocError>
     Ok(callers)
 }
 
-/// The job of some calls, where they keep the limits.
-fn job_of_calls(alloc: Global, calls: Vec<JobCall>) -> Result<Option<Job>, AllocError>
-    ensures { IfOk result (λ found. found ≡ small_job calls.items) }
+/// The job of some calls, where they keep the limits, and of the faults that some texts write.
+fn job_of_calls(
+    alloc: Global,
+    faults: &[Text],
+    calls: Vec<JobCall>,
+) -> Result<Option<Job>, AllocError>
+    ensures { IfOk result (λ found. found ≡ job_of_calls faults.now calls.items) }
 {
-    if !is_within_limits(&calls) {
+    if !is_within_limits(&calls) || faults.len() > MOST_RULES {
         return Ok(None);
     }
     let mut calls = calls;
     add_exit(alloc, &mut calls)?;
+    let Some(rules) = rules_of_texts(alloc, calls.len() as u32, faults)? else {
+        return Ok(None);
+    };
     Ok(Some(Job {
         callers: one_caller(alloc)?,
         calls: Seq::from_vec(calls),
+        plan: Plan::from_vec(rules),
         start: 0,
     }))
 }
@@ -45,11 +59,17 @@ fn job_of_calls(alloc: Global, calls: Vec<JobCall>) -> Result<Option<Job>, Alloc
 fn job_of_members(alloc: Global, table: &Table) -> Result<Option<Job>, AllocError>
     ensures { IfOk result (λ found. found ≡ job_of_table (table_view table.now)) }
 {
-    let Some(texts) = texts_of_table(alloc, table)? else {
+    if !has_no_other_key(table) {
+        return Ok(None);
+    }
+    let Some(texts) = texts_of_calls(alloc, table)? else {
+        return Ok(None);
+    };
+    let Some(faults) = texts_of_faults(alloc, table)? else {
         return Ok(None);
     };
     match calls_of_texts(alloc, &texts)? {
-        Some(calls) => job_of_calls(alloc, calls),
+        Some(calls) => job_of_calls(alloc, &faults, calls),
         None => Ok(None),
     }
 }
@@ -77,8 +97,9 @@ fn table_of(alloc: Global, bytes: &[u8]) -> Result<Table, JobFault>
 /// text's length.
 ///
 /// A text of more than 4,194,304 bytes is `TooLong`. A text that is no UTF-8, or that is no TOML
-/// document, is `NotToml`. A document of another form than a table with the one key `calls`, an
-/// array of texts that each write a call and that keep the limits, is `NotBuilt`.
+/// document, is `NotToml`. A document of another form than a table with the key `calls`, an array of
+/// texts that each write a call and that keep the limits, and perhaps the key `faults`, an array of
+/// at most 255 texts that each write a fault of one of these calls, is `NotBuilt`.
 pub fn job_of(alloc: Global, bytes: &[u8]) -> Result<Job, JobFault>
     ensures exact { Gives result (job_in bytes.now) }
     ensures small { IfOk result IsSmall }

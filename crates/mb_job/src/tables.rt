@@ -1,7 +1,7 @@
 ghost use Rattle.std.specs.Prelude.{◌≡◌, IfOk, Option, option_map, List, ℕ, Some, None, Vec};
 ghost use Rattle.toml.specs.View.{table_view, view, array_view};
 ghost use Rattle.mb_job.specs.CallTexts.{calls_in};
-ghost use Rattle.mb_job.specs.Job.{call_texts, texts_in, texts_of};
+ghost use Rattle.mb_job.specs.Job.{call_texts, fault_texts, has_no_other, texts_in, texts_of};
 
 use crate::jobs::JobCall;
 use crate::texts::Text;
@@ -34,13 +34,31 @@ fn texts_of_value(alloc: Global, value: &Value) -> Result<Option<Vec<Text>>, All
     }
 }
 
-/// The texts of a table whose one key is `calls`, an array of texts; `None` for every other table.
-pub(crate) fn texts_of_table(alloc: Global, table: &Table) -> Result<Option<Vec<Text>>, AllocError>
+/// Whether a table that has the key `calls` has no other key than that and `faults`.
+pub(crate) fn has_no_other_key(table: &Table) -> bool
+    ensures { result ≡ has_no_other (table_view table.now) }
+{
+    match table.get("faults") {
+        Some(_) => table.len() == 2,
+        None => table.len() == 1,
+    }
+}
+
+/// The texts under the key `faults`, and none where there is no such key; `None` where something else
+/// than an array of texts stands under it.
+pub(crate) fn texts_of_faults(alloc: Global, table: &Table) -> Result<Option<Vec<Text>>, AllocError>
+    ensures { IfOk result (λ found. option_map (λ texts. texts.items) found ≡ fault_texts (table_view table.now)) }
+{
+    match table.get("faults") {
+        Some(value) => texts_of_value(alloc, value),
+        None => Ok(Some(Vec::new(alloc))),
+    }
+}
+
+/// The texts under the key `calls`; `None` where no array of texts stands under it.
+pub(crate) fn texts_of_calls(alloc: Global, table: &Table) -> Result<Option<Vec<Text>>, AllocError>
     ensures { IfOk result (λ found. option_map (λ texts. texts.items) found ≡ call_texts (table_view table.now)) }
 {
-    if table.len() != 1 {
-        return Ok(None);
-    }
     match table.get("calls") {
         Some(value) => texts_of_value(alloc, value),
         None => Ok(None),

@@ -2,7 +2,9 @@ ghost use Rattle.std.specs.Prelude.{◌≤◌, length};
 
 use super::{Caller, Job, JobCall, JobFault, Text, job_of, last_line, transcript};
 use crate::replies::text_of_reply;
-use mb_kinds::{Call, Cred, Entry, Errno, How, Octets, Reply, Seq, Stat};
+use mb_edge::Stroke;
+use mb_kinds::{Call, Cred, Entry, Errno, How, Kind, Octets, Reply, Seq, Stat};
+use mb_plan::Plan;
 use std::alloc::{AllocError, Global};
 
 const READ_HELLO: &[u8] =
@@ -52,6 +54,100 @@ fn reads_the_calls_of_a_job(rt: HostRuntime) -> Result<(), JobFault> {
     Ok(())
 }
 
+fn sets_mode(call: &Call, to: u16) -> bool {
+    match call {
+        Call::Chmod { path, mode } => path.as_slice() == b"/hello".as_slice() && *mode == to,
+        _ => false,
+    }
+}
+
+#[test]
+fn reads_modes_in_octal(rt: HostRuntime) -> Result<(), JobFault> {
+    let job = job_of(
+        rt.alloc(),
+        b"calls = [\"a chmod /hello 4755\", \"a chmod /hello 0\", \"a chmod /hello 007\"]",
+    )?;
+    let calls = job.calls.as_slice();
+    assert_eq!(rt; calls.len(), 4);
+    assert!(rt; calls[0].text.as_slice() == b"chmod /hello 4755".as_slice());
+    assert!(rt; sets_mode(&calls[0].call, 0o4755));
+    assert!(rt; sets_mode(&calls[1].call, 0));
+    assert!(rt; sets_mode(&calls[2].call, 7));
+    assert_eq!(rt; job.plan.len(), 0);
+    Ok(())
+}
+
+#[test]
+fn reads_the_faults_of_a_job(rt: HostRuntime) -> Result<(), JobFault> {
+    let text =
+        b"faults = [\"2 finish 0 1 wipe 0 wipe 255\", \"3 finish 0 1\"]\ncalls = [\"a close 3\", \"a close 4\"]";
+    let job = job_of(rt.alloc(), text)?;
+    let rules = job.plan.as_slice();
+    assert_eq!(rt; job.calls.len(), 3);
+    assert_eq!(rt; rules.len(), 2);
+    assert_eq!(rt; rules[0].caller, 0);
+    assert_eq!(rt; rules[0].ordinal, 2);
+    assert_eq!(rt; rules[0].kind, Kind::Finish);
+    assert_eq!(rt; rules[0].skip, 0);
+    assert_eq!(rt; rules[0].times, 1);
+    assert!(rt;
+        matches!(
+            rules[0].damage.as_slice(),
+            [Stroke::Wipe(0), Stroke::Wipe(255)]
+        )
+    );
+    assert_eq!(rt; rules[1].ordinal, 3, "the added call");
+    assert_eq!(rt; rules[1].damage.len(), 0);
+    Ok(())
+}
+
+#[test]
+fn refuses_near_misses_of_faults(rt: HostRuntime) -> Result<(), AllocError> {
+    for fault in [
+        b"0 finish 0 1".as_slice(),
+        b"3 finish 0 1".as_slice(),
+        b"01 finish 0 1".as_slice(),
+        b"1 enter 0 1".as_slice(),
+        b"1  finish 0 1".as_slice(),
+        b"1 finish 0 1 ".as_slice(),
+        b"1 finish 1 1".as_slice(),
+        b"1 finish 0 2".as_slice(),
+        b"1 finish 0".as_slice(),
+        b"1 finish 0 1 wipe".as_slice(),
+        b"1 finish 0 1 wipe 256".as_slice(),
+        b"1 finish 0 1 wipe 00".as_slice(),
+        b"1 finish 0 1 wipe 1 wipe".as_slice(),
+        b"1 finish 0 1 page 0 1".as_slice(),
+        b"".as_slice(),
+    ]
+    .iter()
+    {
+        let mut text = b"calls = [\"a close 3\"]\nfaults = [\"".to_vec(rt.alloc())?;
+        text.extend_from_slice(fault)?;
+        text.extend_from_slice(b"\"]")?;
+        assert!(rt; job_of(rt.alloc(), &text).err() == Some(JobFault::NotBuilt));
+    }
+    Ok(())
+}
+
+fn faults(alloc: Global, times: u32) -> Result<Vec<u8>, AllocError> {
+    let mut text = b"calls = [\"a close 3\"]\nfaults = [".to_vec(alloc)?;
+    let rules = repeated(alloc, b"\"1 finish 0 1 wipe 7\",", times)?;
+    text.extend_from_slice(&rules)?;
+    text.extend_from_slice(b"]")?;
+    Ok(text)
+}
+
+#[test]
+fn keeps_the_limit_on_faults(rt: HostRuntime) -> Result<(), JobFault> {
+    let alloc = rt.alloc();
+    let within = faults(alloc, 255)?;
+    let past = faults(alloc, 256)?;
+    assert!(rt; job_of(alloc, &within).is_ok());
+    assert!(rt; job_of(alloc, &past).err() == Some(JobFault::NotBuilt));
+    Ok(())
+}
+
 #[test]
 fn refuses_near_misses(rt: HostRuntime) {
     let texts = [
@@ -76,6 +172,14 @@ fn refuses_near_misses(rt: HostRuntime) {
         b"calls = [\"a open /hello rw\"]".as_slice(),
         b"calls = [\"a open hello r\"]".as_slice(),
         b"calls = [\"a exit\", \"a close 3\"]".as_slice(),
+        b"calls = [\"a chmod /hello 8\"]".as_slice(),
+        b"calls = [\"a chmod /hello 00644\"]".as_slice(),
+        b"calls = [\"a chmod /hello \"]".as_slice(),
+        b"calls = [\"a chmod /.. 644\"]".as_slice(),
+        b"calls = []\nfaults = \"1 finish 0 1\"".as_slice(),
+        b"calls = []\nfaults = []\nlimit = 1".as_slice(),
+        b"faults = []".as_slice(),
+        b"faults = []\ncolor = 1".as_slice(),
     ];
     for text in texts.iter() {
         assert!(rt; job_of(rt.alloc(), text).err() == Some(JobFault::NotBuilt));
@@ -207,6 +311,7 @@ fn two_callers(alloc: Global) -> Result<Job, AllocError> {
     Ok(Job {
         callers: Seq::from_vec(callers),
         calls: Seq::from_vec(calls),
+        plan: Plan::new(alloc),
         start: 0,
     })
 }

@@ -1,9 +1,9 @@
 ghost use Rattle.std.specs.Prelude.{◌≡◌, IfOk, map};
-ghost use Rattle.mb_job.specs.CallTexts.{call_in, call_of_words, one_word, open_words, read_words, three_words, two_words};
-ghost use Rattle.mb_job.specs.Numbers.{number_in};
+ghost use Rattle.mb_job.specs.CallTexts.{call_in, call_of_words, chmod_words, one_word, open_words, read_words, three_words, two_words};
+ghost use Rattle.mb_job.specs.Numbers.{mode_in, number_in};
 
 use crate::jobs::JobCall;
-use crate::numbers::number_of;
+use crate::numbers::{mode_of, number_of};
 use crate::paths::leads_to_root_file;
 use crate::texts::Text;
 use crate::words::words_of;
@@ -59,7 +59,22 @@ fn read_call(fd: &[u8], count: &[u8]) -> Option<Call>
     }
 }
 
-/// `open /NAME r` or `read FD COUNT`.
+/// `chmod /NAME MODE`, of the two words after `chmod`.
+fn chmod_call(alloc: Global, path: &[u8], mode: &[u8]) -> Result<Option<Call>, AllocError>
+    ensures { IfOk result (λ found. found ≡ chmod_words path.now (mode_in mode.now)) }
+{
+    let Some(mode) = mode_of(mode) else {
+        return Ok(None);
+    };
+    if leads_to_root_file(path) {
+        let path = Path::from_vec(path.to_vec(alloc)?);
+        Ok(Some(Call::Chmod { path, mode }))
+    } else {
+        Ok(None)
+    }
+}
+
+/// `open /NAME r`, `read FD COUNT` or `chmod /NAME MODE`.
 fn of_three_words(
     alloc: Global,
     verb: &[u8],
@@ -72,6 +87,8 @@ fn of_three_words(
         open_call(alloc, first, second)
     } else if verb == b"read".as_slice() {
         Ok(read_call(first, second))
+    } else if verb == b"chmod".as_slice() {
+        chmod_call(alloc, first, second)
     } else {
         Ok(None)
     }
