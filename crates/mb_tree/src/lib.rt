@@ -7,7 +7,8 @@
 //! (`specs/Sessions.antt`). Want of memory is the only error and leaves the machine as it was.
 //! `specs/Lookup.antt` says where a path leads, `specs/Cost.antt` how many blocks a tree holds,
 //! `specs/Trees.antt` and `specs/Machines.antt` which trees are sound and which machines are valid,
-//! `specs/History.antt` which lists of entries are histories, and `specs/Laws.antt` what holds of them.
+//! `specs/History.antt` which lists of entries are histories, `specs/Laws.antt` what holds of them, and
+//! `specs/NameLaws.antt` that each operation keeps a sound tree sound.
 #![tactic(auto)]
 
 mod changes;
