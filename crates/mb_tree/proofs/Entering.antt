@@ -19,7 +19,7 @@ use Rattle.mb_tree.specs.declared.trees.Tree.{Tree}
 use Rattle.mb_tree.proofs.FiniteMaps.{get_here, get_there, one_or_not}
 use Rattle.mb_tree.proofs.SlotLists.{weight, late_some, weight_none, weight_one}
 use Rattle.mb_tree.proofs.Rewritten.{IsEntered, is_entered, is_missing}
-use Rattle.mb_tree.proofs.Shapes.{IsShaped, IsBarren, CanBePut, shape_of, sound_of, shape_put, links_put, late_put, directory_apart}
+use Rattle.mb_tree.proofs.Shapes.{IsShaped, IsBarren, CanBePut, shape_of, sound_of, shape_put, links_put, late_put, directory_apart, same_node}
 use Rattle.mb_tree.proofs.Slotted.{CanBeSlotted, MayStand, shape_slotted, links_slotted, late_slotted, links_others}
 
 -- z is put under the number ino, and the name of the directory x, which becomes y, leads to it
@@ -162,14 +162,12 @@ module _ (tree : Tree) (sound : IsSound tree) (dir ino : ℕ) (name : List ℕ) 
   entry : Leads next.nodes dir place.at ino
   entry = record { node = y; slots = entered name ino old; slot = slot; has = has_dir; body = h.after; late = place.rewritten.late; entry = record { has = place.rewritten.here; used = used_number ino name some_ino }; leads = refl }
 
-  same_node : (a b : Node) (o : Option Node) → o ≡ Some a → o ≡ Some b → a ≡ b
-  same_node a b o e f = cc
-
   led : (node : Node) (slots : List PlainSlot) → fin.get next.nodes ino ≡ Some node → node.body ≡ Directory slots → ino ≢ 2 → HasParent next ino slots
   led node slots has body below =
       let up = h.upward slots (ap (λ (n : Node). n.body) (same_node z node (fin.get next.nodes ino) has_ino has) ∙ body) in
       record { one = omega (arith, late_target, up.1); parent = dir; at = place.at; upward = up.0; entry = entry; reached = down dir place.at reached_dir entry }
 
+  -- its link count is right and small
   abbrev IsCounted : ℕ → Node → Type 0
   IsCounted q node = (node.nlink ≡ links next q) × (node.nlink ≤ 32767)
 

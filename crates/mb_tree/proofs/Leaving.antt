@@ -26,10 +26,11 @@ use Rattle.mb_tree.proofs.Cheaper.{after_op, cheaper_cost, cheaper_trans, cheape
 use Rattle.mb_tree.proofs.Dropped.{drop_kept, nameless, lost_nlink}
 use Rattle.mb_tree.proofs.SlotLists.{weight, weight_one}
 use Rattle.mb_tree.proofs.Rewritten.{IsFound, is_found, number_by, set_rewritten}
-use Rattle.mb_tree.proofs.Shapes.{IsShaped, IsBarren, IsNoDirectory, CanBePut, barren_leaf, shape_of, sound_of, shape_put, links_put, no_links_leaf, no_late_leaf}
+use Rattle.mb_tree.proofs.Shapes.{IsShaped, IsBarren, IsNoDirectory, CanBePut, barren_leaf, shape_of, sound_of, shape_put, links_put, no_links_leaf, no_late_leaf, same_node}
 use Rattle.mb_tree.proofs.Slotted.{CanBeSlotted, shape_slotted, links_slotted, late_slotted, links_others}
 use Rattle.mb_tree.proofs.NewNames.{changed_is, sound_at, leaf_of, no_slots, not_root}
 
+-- an emptied slot keeps its name
 abbrev pub vacant : List ℕ → PlainSlot
 vacant name = record { ino = 0; name = name }
 
@@ -197,6 +198,7 @@ module _ (tree : Tree) (sound : IsSound tree) (dir ino : ℕ) (name : List ℕ) 
   links_rest : (q : ℕ) → q ≢ 0 → q ≢ ino → links next q ≡ links tree q
   links_rest q some other = omega (arith, links_put first ino z shape_first puts q, none_from q, links_kept tree dir ino name x y old found.at found.slot (shape_of tree ino sound) empties q some other)
 
+  -- its link count is right and small
   abbrev IsCounted : ℕ → Node → Type 0
   IsCounted q node = (node.nlink ≡ links next q) × (node.nlink ≤ 32767)
 
@@ -207,9 +209,6 @@ module _ (tree : Tree) (sound : IsSound tree) (dir ino : ℕ) (name : List ℕ) 
   counted_rest q node there other ordinary =
       let some : q ≢ 0 = (λ e. absurd (omega (arith, e, (sound.numbers q node there).0))) in
       (omega (arith, sound.counted q node there ordinary, links_rest q some other), sound.few q node there ordinary)
-
-  same_node : (a b : Node) (o : Option Node) → o ≡ Some a → o ≡ Some b → a ≡ b
-  same_node a b o e f = cc
 
   counted : Each next (λ q node. q ≢ 1 → IsCounted q node)
   counted q node there ordinary = elim (one_or_not q ino) [

@@ -25,13 +25,10 @@ use Rattle.mb_tree.proofs.Cheaper.{after_op}
 use Rattle.mb_tree.proofs.Sums.{sum_gone, sum_term, sum_terms}
 use Rattle.mb_tree.proofs.SlotLists.{weight, count_late, late_some, late_none, weight_one}
 use Rattle.mb_tree.proofs.Rewritten.{IsFound, is_found, number_by}
-use Rattle.mb_tree.proofs.Shapes.{IsShaped, IsBarren, shape_of, sound_of, reached_stays}
+use Rattle.mb_tree.proofs.Shapes.{IsShaped, IsBarren, shape_of, sound_of, reached_stays, same_node}
 use Rattle.mb_tree.proofs.Entering.{used_number, leads_itself}
 use Rattle.mb_tree.proofs.NewNames.{changed_is, sound_at, not_one}
 use Rattle.mb_tree.proofs.Leaving.{CanBeEmptied, emptied_body, shape_emptied, late_emptied, links_kept}
-
-same_node : (a b : Node) (o : Option Node) → o ≡ Some a → o ≡ Some b → a ≡ b
-same_node a b o e f = cc
 
 same_slots : (a b : List PlainSlot) (x y : Node) → x ≡ y → x.body ≡ Directory a → y.body ≡ Directory b → a ≡ b
 same_slots a b x y e f g = let both : ◌≡◌ {A = Body} (Directory a) (Directory b) = sym f ∙ ap (λ (n : Node). n.body) e ∙ g in cc
@@ -302,6 +299,7 @@ module _ (tree : Tree) (sound : IsSound tree) (dir ino : ℕ) (name : List ℕ) 
       let none : weight (leads_to q) (slice_get own 1) ≡ 0 = ap (weight (leads_to q)) parent.upward ∙ ap (λ b. cond {A = ℕ} b 1 0) fails in
       omega (arith, links_rest q some other, none)
 
+  -- its link count is right and small
   abbrev IsCounted : ℕ → Node → Type 0
   IsCounted q node = (node.nlink ≡ links next q) × (node.nlink ≤ 32767)
 

@@ -90,8 +90,13 @@ no_late_leaf q (Regular size parts) leaf = refl
 no_late_leaf q (Directory slots) leaf = absurd (leaf slots refl)
 no_late_leaf q (Special size area) leaf = refl
 
+-- a number has one inode
+pub same_node : (a b : Node) (o : Option Node) → o ≡ Some a → o ≡ Some b → a ≡ b
+same_node a b o e f = cc
+
 -- ---- an inode put under a number that is free or a leaf's
 
+-- x may be put under the number ino: its slots are a new directory's, if it has any
 pub record CanBePut (tree : Tree) (ino : ℕ) (x : Node) : Type 0 where
   pub low : 1 ≤ ino
   pub high : ino ≤ tree.last
