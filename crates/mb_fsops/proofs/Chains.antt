@@ -1,8 +1,7 @@
--- The free chain of blocks that changed off it, and that blocks have one chain at most.
+-- The free chain of blocks that changed off it.
 use Rattle.std.proofs.Common.{ℕ, ◌≡◌, ◌-◌, inl, inr, List, [], ◌∷◌, All, cond, nat_eq, refl, sym, ap, subst, ◌∙◌, arith}
 use Rattle.std.proofs.lemmas.List.Elements.{All-head, All-tail}
 use Rattle.mb_tree.specs.Chain.{Listed, after_taking, IsChain}
-
 
 after_alike : (f g : ℕ → Listed) (it : Listed) (block : ℕ) → f block ≡ g block → after_taking f it block ≡ after_taking g it block
 unfolding after_taking
