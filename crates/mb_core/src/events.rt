@@ -10,6 +10,7 @@ ghost use Rattle.mb_core.specs.Ready.{MayFinish};
 ghost use Rattle.mb_core.specs.Results.{Finishes, IsTicketOf, Leaves, Rolls, Strikes};
 ghost use Rattle.mb_core.specs.State.{seen};
 ghost use Rattle.mb_core.specs.declared.answers.OpenFault.TheVariants.{Device};
+ghost use Rattle.mb_tree.specs.Volume.{HasSizes};
 
 use crate::answers::{
     Enter, Fault, Finished, Flushed, Left, OpenFault, ReadFault, Refusal, RollFault, State,
@@ -62,6 +63,7 @@ impl<D: Disk> Core<D> {
         ensures begun { IfOk result (IsBegun disk config) }
         ensures told { IfOk result (λ core. D.told core.disk ≡ D.told disk) }
         ensures later { IfOk result (λ core. D.faults disk ≤ D.faults core.disk) }
+        ensures sizes { IfOk result (λ core. IfSome (D.told disk) HasSizes) }
         ensures right { IfOk result (Right D.told D.faults) }
         ensures refused { IfErr result (λ refusal. IsRefusal (D.told disk) refusal.fault) }
         ensures device { IfErr result (λ refusal. refusal.fault ≡ Device → Rose (D.faults disk) (D.faults refusal.disk)) }

@@ -2,6 +2,7 @@ ghost use Rattle.std.specs.Prelude.{◌≡◌, ◌≤◌, ℕ, IfOk, IfErr, IfSo
 ghost use Rattle.mb_edge.specs.Causes.{Rose};
 ghost use Rattle.mb_core.specs.Begun.{IsBegun, IsConfig, IsRefusal, sizes_fit};
 ghost use Rattle.mb_core.specs.declared.answers.OpenFault.TheVariants.{Device};
+ghost use Rattle.mb_tree.specs.Volume.{HasSizes};
 
 use crate::answers::{OpenFault, Refusal};
 use crate::config::Config;
@@ -30,6 +31,7 @@ impl<D: Disk> Fields<D> {
         ensures begun { IfOk result (IsBegun disk config) }
         ensures told { IfOk result (λ core. D.told core.disk ≡ D.told disk) }
         ensures later { IfOk result (λ core. D.faults disk ≤ D.faults core.disk) }
+        ensures sizes { IfOk result (λ core. IfSome (D.told disk) HasSizes) }
         ensures refused { IfErr result (λ refusal. IsRefusal (D.told disk) refusal.fault) }
         ensures device { IfErr result (λ refusal. refusal.fault ≡ Device → Rose (D.faults disk) (D.faults refusal.disk)) }
         ensures kept { IfErr result (λ refusal. (D.told refusal.disk ≡ D.told disk) × (D.faults disk ≤ D.faults refusal.disk)) }
@@ -105,6 +107,7 @@ impl<D: Disk> Fields<D> {
 
 // Rules 1 and 2 of a volume: there is a block 1, and the sizes that it names are in their ranges.
 fn test_sizes<D: Disk>(disk: &mut D) -> Result<(), OpenFault>
+    ensures sizes { IfOk result (λ done. IfSome (D.told disk.old) HasSizes) }
     ensures refused { IfErr result (IsRefusal (D.told disk.old)) }
     ensures told { D.told disk.new ≡ D.told disk.old }
     ensures later { D.faults disk.old ≤ D.faults disk.new }
