@@ -31,7 +31,7 @@ use Rattle.mb_core.proofs.Names.{names_kept, released_same}
 use Rattle.mb_core.proofs.Redoing.{same_held}
 
 -- the block of an inode that is there is one of the volume's, so writing it does not extend the image
-mode_put : (view : Image) (tree : Tree) (ino mode moment : ℕ) → IsVolume view tree → IsThere tree.nodes ino → with_mode_set view ino mode moment ≡ redone_view view (SetMode ino mode moment)
+pub mode_put : (view : Image) (tree : Tree) (ino mode moment : ℕ) → IsVolume view tree → IsThere tree.nodes ino → with_mode_set view ino mode moment ≡ redone_view view (SetMode ino mode moment)
 unfolding replaced
 mode_put view tree ino mode moment volume there =
     let numbers = volume.sound.numbers ino there.node there.has in
