@@ -1,7 +1,6 @@
 -- What an image is found to be, step by step.
-use Rattle.std.proofs.Common.{List, [], ◌∷◌, ℕ, zero, suc, ◌+◌, ◌*◌, ◌-◌, ◌<◌, ◌≤◌, ◌≡◌, ◌≢◌, Bool, true, false, ◌&&◌, length, slice_get, nat_le, nat_lt, refl, ap, sym, subst, ◌∙◌, arith, Option, Some, None, IfSome, inl, inr}
+use Rattle.std.proofs.Common.{List, [], ◌∷◌, ℕ, zero, suc, ◌+◌, ◌*◌, ◌-◌, ◌<◌, ◌≤◌, ◌≡◌, ◌≢◌, Bool, true, false, length, min, slice_get, refl, Decides, ap, sym, subst, ◌∙◌, arith, Option, Some, None, IfSome, inl, inr}
 use Rattle.std.proofs.lemmas.Bool.{cases_eq, cases_lt}
-use Rattle.std.proofs.lemmas.Bool.Decides.{nat_tests}
 use Rattle.mb_kinds.specs.Image.{Image}
 use Rattle.mb_layout.specs.SuperBlock.{super_at}
 use Rattle.mb_layout.specs.declared.dinodes.Dinode.{Dinode}
@@ -9,9 +8,9 @@ use Rattle.mb_layout.specs.declared.super_blocks.Super.{Super}
 use Rattle.mb_tree.specs.Volume.{HasSizes, last_inode}
 use Rattle.mb_tree.specs.declared.nodes.PlainSlot.{PlainSlot}
 use Rattle.mb_top.specs.Contents.{inode_at}
-use Rattle.mb_top.specs.Openings.{Tests, Always, EndsAt, HasRoot, RootedTo, LeadsAt, AllLeadToSmall, AllHaveNames, sizes_fit}
+use Rattle.mb_top.specs.Openings.{Tests, Always, EndsAt, HasRoot, RootedTo, LeadsAt, AllLeadToSmall, AllHaveNames}
 use Rattle.mb_top.specs.Simple.{IsSimple, HasSmallRoot, LeadsToSmall, HasName, root_slots}
-use Rattle.mb_top.proofs.ServingLemmas.{told_on}
+use Rattle.mb_top.proofs.ReadLemmas.{told_on}
 
 -- the inodes looked at so far have names
 abbrev pub AreNamed : Option Image → ℕ → ℕ → Type 0
@@ -70,10 +69,11 @@ leading_more (Some image) now last at slots slot same so_far here answer is_true
 
 pub leading_none : (told now : Option Image) (last at : ℕ) (slots : List PlainSlot) (slot : PlainSlot) → now ≡ told
     → IfSome told (λ image. HasSmallRoot image.at → slots ≡ root_slots image.at) → slice_get slots at ≡ Some slot
-    → Tests now (EndsAt last) false (LeadsAt at slot) → Tests told (RootedTo last) false AllLeadToSmall
-leading_none None now last at slots slot same read here leads = tt
-leading_none (Some image) now last at slots slot same read here leads =
-    let tested = subst (λ (t : Option Image). Tests t (EndsAt last) false (LeadsAt at slot)) same leads in
+    → (answer : Bool) → answer ≡ false → Tests now (EndsAt last) answer (LeadsAt at slot) → Tests told (RootedTo last) false AllLeadToSmall
+leading_none None now last at slots slot same read here answer is_false leads = tt
+leading_none (Some image) now last at slots slot same read here answer is_false leads =
+    let told_now = subst (λ (t : Option Image). Tests t (EndsAt last) answer (LeadsAt at slot)) same leads in
+    let tested = subst (λ b. Tests (Some image) (EndsAt last) b (LeadsAt at slot)) is_false told_now in
     λ rooted. (
       (λ wrong. absurd (let e : false ≡ true = wrong in cc)),
       (λ all. (tested rooted.1).1 (λ two used. all at two slot (ap (λ s. slice_get s at) (sym (read rooted.0)) ∙ here) used)),
@@ -95,72 +95,39 @@ leading_all (Some image) last at slots read so_far past = λ rooted. (
   (λ all. refl),
 )
 
--- the sizes
-all_five : (a b c d e : Bool) → ((a && b) && (c && (d && e))) ≡ true → (a ≡ true) × (b ≡ true) × (c ≡ true) × (d ≡ true) × (e ≡ true)
-all_five true true true true true h = (refl, refl, refl, refl, refl)
-all_five false b c d e h = cc
-all_five true false c d e h = cc
-all_five true true false d e h = cc
-all_five true true true false e h = cc
-all_five true true true true false h = cc
+-- the last inode, by the sizes of a volume
+pub ends_at : (told : Option Image) (bytes : List ℕ) (sizes : Super) (last : ℕ) → IfSome told (λ image. bytes ≡ image.at 1) → sizes ≡ super_at bytes → last ≡ 8 * min (sizes.s_isize - 2) 8191
+    → IfSome told (λ image. HasSizes image → last ≡ last_inode image.at)
+ends_at None bytes sizes last read are is = tt
+ends_at (Some image) bytes sizes last read are is = λ ranges.
+    (let few = ranges.few_inodes in
+    let same : last ≡ 8 * min ((super_at (image.at 1)).s_isize - 2) 8191 = is ∙ ap (λ (s : Super). 8 * min (s.s_isize - 2) 8191) (are ∙ ap super_at read) in
+    omega (arith, same, few))
 
-five : (a b c d e : Bool) → a ≡ true → b ≡ true → c ≡ true → d ≡ true → e ≡ true → ((a && b) && (c && (d && e))) ≡ true
-five a b c d e p q r s t = rw (p, q, r, s, t) refl
+pub tests_on : (told now : Option Image) (Premise : Image → Type 0) (answer : Bool) (Fact : Image → Type 0) → now ≡ told → Tests now Premise answer Fact → Tests told Premise answer Fact
+tests_on told now Premise answer Fact same tested = subst (λ (t : Option Image). Tests t Premise answer Fact) same tested
 
-pub sizes_good : (image : Image) (count : ℕ) → count ≡ image.count → 2 ≤ count → sizes_fit (super_at (image.at 1)) count ≡ true → HasSizes image
-sizes_good image count counts two fit =
-    let isize : ℕ = (super_at (image.at 1)).s_isize in
-    let fsize : ℕ = (super_at (image.at 1)).s_fsize in
-    let all = all_five (nat_le 3 isize) (nat_le isize 8193) (nat_lt isize fsize) (nat_le fsize 262144) (nat_le fsize count) fit in
-    let a : nat_le 3 isize ≡ true = all.0 in
-    let b : nat_le isize 8193 ≡ true = all.1 in
-    let c : nat_lt isize fsize ≡ true = all.2 in
-    let d : nat_le fsize 262144 ≡ true = all.3 in
-    let e : nat_le fsize count ≡ true = all.4 in
-    record {
-      blocks = omega arith;
-      some_inodes = grind (arith, nat_tests);
-      few_inodes = grind (arith, nat_tests);
-      some_blocks = grind (arith, nat_tests);
-      few_blocks = grind (arith, nat_tests);
-      present = grind (arith, nat_tests);
-    }
+-- an answer that tells whether an image with sizes in their ranges is simple
+abbrev pub IsDecided : Option Image → Bool → Type 0
+IsDecided told answer = IfSome told (λ image. HasSizes image → Decides answer (IsSimple image))
 
-pub sizes_bad : (image : Image) (count : ℕ) → count ≡ image.count → sizes_fit (super_at (image.at 1)) count ≡ false → HasSizes image → ⊥
-sizes_bad image count counts misfit sizes =
-    let isize : ℕ = (super_at (image.at 1)).s_isize in
-    let fsize : ℕ = (super_at (image.at 1)).s_fsize in
-    let p : 3 ≤ isize = sizes.some_inodes in
-    let q : isize ≤ 8193 = sizes.few_inodes in
-    let r : isize < fsize = sizes.some_blocks in
-    let s : fsize ≤ 262144 = sizes.few_blocks in
-    let t : fsize ≤ count = rw counts sizes.present in
-    let a : nat_le 3 isize ≡ true = grind (arith, nat_tests) in
-    let b : nat_le isize 8193 ≡ true = grind (arith, nat_tests) in
-    let c : nat_lt isize fsize ≡ true = grind (arith, nat_tests) in
-    let d : nat_le fsize 262144 ≡ true = grind (arith, nat_tests) in
-    let e : nat_le fsize count ≡ true = grind (arith, nat_tests) in
-    let fit : sizes_fit (super_at (image.at 1)) count ≡ true = five (nat_le 3 isize) (nat_le isize 8193) (nat_lt isize fsize) (nat_le fsize 262144) (nat_le fsize count) a b c d e in
-    let wrong : false ≡ true = sym misfit ∙ fit in
-    cc
+pub misled : (told : Option Image) (last : ℕ) (leading : Bool) → IfSome told (λ image. HasSizes image → last ≡ last_inode image.at) → Tests told (RootedTo last) leading AllLeadToSmall → leading ≡ false
+    → IsDecided told false
+misled None last leading ends tested is = tt
+misled (Some image) last leading ends tested is = λ sizes. (
+  (λ wrong. absurd (let e : false ≡ true = wrong in cc)),
+  (λ simple. sym is ∙ (tested (simple.root, ends sizes)).1 simple.leads),
+)
 
--- what was found of an image that the disk tells
-pub opened_simple : (told one two three four : Option Image) (count last : ℕ) (bytes : List ℕ) (sizes : Super) (rooted leading named : Bool)
-    → one ≡ told → two ≡ told → three ≡ told → four ≡ told
-    → IfSome told (λ image. count ≡ image.count) → IfSome one (λ image. bytes ≡ image.at 1) → sizes ≡ super_at bytes → 2 ≤ count → sizes_fit sizes count ≡ true
-    → last ≡ 8 * (sizes.s_isize - 2)
-    → Tests two Always rooted HasRoot → rooted ≡ true → Tests three (RootedTo last) leading AllLeadToSmall → leading ≡ true → Tests four (EndsAt last) named AllHaveNames → named ≡ true
-    → IfSome told IsSimple
-opened_simple None one two three four count last bytes sizes rooted leading named e f g h counted read are many fit ends r rt l lt n nt = tt
-opened_simple (Some image) one two three four count last bytes sizes rooted leading named e f g h counted read are many fit ends r rt l lt n nt =
-    let block : bytes ≡ image.at 1 = told_on (Some image) one (λ i. bytes ≡ i.at 1) e read in
-    let same : sizes ≡ super_at (image.at 1) = are ∙ ap super_at block in
-    let good = sizes_good image count counted many (subst (λ (s : Super). sizes_fit s count ≡ true) same fit) in
-    let end : last ≡ last_inode image.at = ends ∙ ap (λ (s : Super). 8 * (s.s_isize - 2)) same in
-    let root = (subst (λ b. Tests (Some image) Always b HasRoot) rt (subst (λ (t : Option Image). Tests t Always rooted HasRoot) f r) tt).0 refl in
-    let leads = (subst (λ b. Tests (Some image) (RootedTo last) b AllLeadToSmall) lt (subst (λ (t : Option Image). Tests t (RootedTo last) leading AllLeadToSmall) g l) (root, end)).0 refl in
-    let names = (subst (λ b. Tests (Some image) (EndsAt last) b AllHaveNames) nt (subst (λ (t : Option Image). Tests t (EndsAt last) named AllHaveNames) h n) end).0 refl in
-    record { sizes = good; root = root; leads = leads; named = names }
+pub decided : (told : Option Image) (last : ℕ) (rooted leading named : Bool) → IfSome told (λ image. HasSizes image → last ≡ last_inode image.at)
+    → Tests told Always rooted HasRoot → rooted ≡ true → Tests told (RootedTo last) leading AllLeadToSmall → leading ≡ true → Tests told (EndsAt last) named AllHaveNames
+    → IsDecided told named
+decided None last rooted leading named ends r rt l lt n = tt
+decided (Some image) last rooted leading named ends r rt l lt n = λ sizes.
+    (let root = (r tt).0 rt in (
+      (λ yes. record { sizes = sizes; root = root; leads = (l (root, ends sizes)).0 lt; named = (n (ends sizes)).0 yes }),
+      (λ simple. (n (ends sizes)).1 simple.named),
+    ))
 
 pub all_known : (told : Option Image) (all slots : List PlainSlot) → all ≡ slots → IfSome told (λ image. HasSmallRoot image.at → slots ≡ root_slots image.at)
     → IfSome told (λ image. HasSmallRoot image.at → all ≡ root_slots image.at)

@@ -1,17 +1,9 @@
 -- What an image is found to be when it is opened.
-use Rattle.std.specs.Prelude.{ℕ, Bool, ◌&&◌, ◌<◌, ◌≤◌, ◌≡◌, ◌≢◌, nat_le, nat_lt, Decides, Option, None, Some}
+use Rattle.std.specs.Prelude.{ℕ, Bool, ◌<◌, ◌≤◌, ◌≡◌, ◌≢◌, Decides, Option, None, Some}
 use Rattle.mb_kinds.specs.Image.{Image}
-use Rattle.mb_layout.specs.declared.super_blocks.Super.{Super}
 use Rattle.mb_tree.specs.declared.nodes.PlainSlot.{PlainSlot}
-use Rattle.mb_tree.specs.Volume.{HasSizes, last_inode}
-use Rattle.mb_top.specs.declared.findings.Opened.{Opened}
-use Rattle.mb_top.specs.declared.findings.Opened.TheVariants.{NoBlocks, BadSizes, NotSimple, Simple}
-use Rattle.mb_top.specs.Simple.{IsSimple, IsSmallFile, HasSmallRoot, LeadsToSmall, HasName, root_slots}
-
--- the sizes that a super-block names, on a device of so many blocks
-abbrev pub sizes_fit : Super → ℕ → Bool
-sizes_fit sizes count =
-    (nat_le 3 sizes.s_isize && nat_le sizes.s_isize 8193) && (nat_lt sizes.s_isize sizes.s_fsize && (nat_le sizes.s_fsize 262144 && nat_le sizes.s_fsize count))
+use Rattle.mb_tree.specs.Volume.{last_inode}
+use Rattle.mb_top.specs.Simple.{IsSmallFile, HasSmallRoot, LeadsToSmall, HasName, root_slots}
 
 -- each used slot of the root after the second leads to a small file
 abbrev pub AllLeadToSmall : Image → Type 0
@@ -44,9 +36,3 @@ SmallAt ino image = IsSmallFile image.at ino
 -- a slot, by its place, leads to a small file where it has to
 abbrev pub LeadsAt : ℕ → PlainSlot → Image → Type 0
 LeadsAt at slot image = 2 ≤ at → slot.ino ≢ 0 → IsSmallFile image.at slot.ino
-
-abbrev pub IsOpened : Image → Opened → Type 0
-IsOpened image NoBlocks = image.count < 2
-IsOpened image BadSizes = (2 ≤ image.count) × (HasSizes image → ⊥)
-IsOpened image NotSimple = HasSizes image × (IsSimple image → ⊥)
-IsOpened image Simple = IsSimple image

@@ -1,5 +1,5 @@
 -- How the program ends: the order of the causes, and for each of them its status and its text.
-use Rattle.std.specs.Prelude.{List, ◌++◌, ℕ, ◌≡◌, ◌≢◌, ◌<◌, ◌≤◌, ◌⊎◌, codes, true, false, length, take, Option, Ok, Err, IfSome}
+use Rattle.std.specs.Prelude.{List, ◌++◌, ℕ, ◌+◌, ◌-◌, ◌^◌, ◌≡◌, ◌≢◌, ◌<◌, ◌≤◌, ◌⊎◌, codes, true, false, length, take, count_by, Option, Ok, Err, IfSome}
 use Rattle.std.specs.Io.KnownBytes.{Appends}
 use Rattle.mb_edge.specs.Transfers.{TakesFront}
 use Rattle.mb_job.specs.Job.{job_in}
@@ -8,12 +8,18 @@ use Rattle.mb_job.specs.declared.jobs.Job.{Job}
 use Rattle.mb_job.specs.declared.jobs.JobFault.TheVariants as fault
 use Rattle.mb_kinds.specs.Image.{Image}
 use Rattle.mb_kinds.specs.declared.entries.Entry.{Entry}
+use Rattle.mb_core.specs.declared.OpenFault.{OpenFault}
+use Rattle.mb_core.specs.declared.OpenFault.TheVariants as opens
+use Rattle.mb_core.specs.Devices.{is_device}
+use Rattle.mb_core.specs.State.{CoreState}
 use Rattle.mb_tree.specs.Volume.{HasSizes}
 use Rattle.mb_top.specs.Commands.{is_run}
-use Rattle.mb_top.specs.Runs.{IsRun, FewDevices}
+use Rattle.mb_top.specs.Headline.{IsRun, LeavesImage}
+use Rattle.mb_top.specs.Held.{IsDriven, IsGivenBack}
 use Rattle.mb_top.specs.Simple.{IsSimple}
+use Rattle.mb_top.specs.declared.finish.Held.{Held}
 use Rattle.mb_top.specs.declared.outcomes.Outcome.{Outcome}
-use Rattle.mb_top.specs.declared.outcomes.Outcome.TheVariants.{WordsRefused, InputFault, TooLong, NotToml, JobNotBuilt, DiskFault, NoBlocks, BadSizes, ImageNotBuilt, OutOfMemory, Ran}
+use Rattle.mb_top.specs.declared.outcomes.Outcome.TheVariants.{WordsRefused, InputFault, TooLong, NotToml, JobNotBuilt, DiskFault, NoBlocks, BadSizes, ImageNotBuilt, OutOfMemory, Unsettled, Ran}
 
 -- the program's status
 abbrev pub status_of : Outcome → ℕ
@@ -27,6 +33,7 @@ status_of NoBlocks = 3
 status_of BadSizes = 3
 status_of ImageNotBuilt = 9
 status_of OutOfMemory = 6
+status_of (Unsettled text) = 5
 status_of (Ran text) = 0
 
 -- what it prints
@@ -41,62 +48,102 @@ text_of NoBlocks = codes "volume refused: block 1 rule 1\n"
 text_of BadSizes = codes "volume refused: block 1 rule 2\n"
 text_of ImageNotBuilt = codes "not built\n"
 text_of OutOfMemory = codes "no memory\n"
+text_of (Unsettled text) = text
 text_of (Ran text) = text
 
--- a run's transcript and its last line: without a fault record, and with a seal at the end
-abbrev pub run_text : Job → List Entry → List ℕ
-run_text job history = transcript_text job history ++ end_text (length history) 0 (length history)
+-- a run's transcript and its last line: the numbers of entries, of fault records, and of entries at the last checkpoint
+abbrev pub run_text : {D : Type 0} → Job → CoreState D → List ℕ
+run_text job core = transcript_text job core.history ++ end_text (length core.history) (length core.stand.struck) core.sealed_at
 
--- a job that was run over an image, on a disk whose count of faults rose from one number to another
-pub record HasRun (job : Job) (told : Option Image) (before now : ℕ) (text : List ℕ) : Type 0 where
-  pub history : List Entry
-  pub run : IsRun told job history
-  pub devices : FewDevices before now history
-  pub simple : IfSome told IsSimple
-  pub printed : text ≡ run_text job history
+-- a transcript whose end of a run the disk failed
+abbrev pub unsettled_text : {D : Type 0} → Job → CoreState D → List ℕ
+unsettled_text job core = transcript_text job core.history ++ codes "disk fault\n"
 
--- a job that was run over an image that was found simple
-pub record HasRunSimply (job : Job) (told : Option Image) (before now : ℕ) (text : List ℕ) : Type 0 where
-  pub history : List Entry
-  pub run : IsRun told job history
-  pub devices : FewDevices before now history
-  pub printed : text ≡ run_text job history
+-- a job that was run over a disk to its end: the image left is that of the history's tree, and all is checkpointed
+pub record IsRunToEnd {D : Type 0} (told : D → Option Image) (faults : D → ℕ) (job : Job) (disk : D) (text : List ℕ) (core : CoreState D) : Type 0 where
+  pub run : IsRun told faults job disk core
+  pub left : LeavesImage told job disk core
+  pub sealed : core.sealed_at ≡ length core.history
+  pub printed : text ≡ run_text job core
 
-abbrev pub IsRunSimply : Job → Option Image → ℕ → ℕ → Outcome → Type 0
-IsRunSimply job told before now (Ran text) = HasRunSimply job told before now text
-IsRunSimply job told before now OutOfMemory = Unit {0}
-IsRunSimply job told before now _ = ⊥
+-- a job that was run, where the disk failed in the end of the run: fewer calls than its faults were ended by the disk
+pub record IsRunShort {D : Type 0} (told : D → Option Image) (faults : D → ℕ) (job : Job) (disk : D) (text : List ℕ) (core : CoreState D) : Type 0 where
+  pub run : IsRun told faults job disk core
+  pub fewer : faults core.disk < 2 ^ 64 - 1 → count_by (λ (entry : Entry). is_device entry.reply) core.history + faults disk < faults core.disk
+  pub printed : text ≡ unsettled_text job core
 
--- what is found when a job is to be run: the sizes of the image, then its form, then the run; the disk may
--- fail on the way
-abbrev pub IsRunOver : Job → Option Image → ℕ → ℕ → Outcome → Type 0
-IsRunOver job told before now NoBlocks = IfSome told (λ image. image.count < 2)
-IsRunOver job told before now BadSizes = IfSome told (λ image. (2 ≤ image.count) × (HasSizes image → ⊥))
-IsRunOver job told before now ImageNotBuilt = IfSome told (λ image. HasSizes image × (IsSimple image → ⊥))
-IsRunOver job told before now (Ran text) = HasRun job told before now text
-IsRunOver job told before now DiskFault = Unit {0}
-IsRunOver job told before now OutOfMemory = Unit {0}
-IsRunOver job told before now _ = ⊥
+-- what is found when a job is to be run: the sizes of the image, then its form, then the run; the disk may fail on the way
+abbrev pub ComesOfJob : {D : Type 0} → (D → Option Image) → (D → ℕ) → Job → D → Held D → Outcome → Type 0
+ComesOfJob told faults job disk held NoBlocks = IsGivenBack told disk held × IfSome (told disk) (λ image. image.count < 2)
+ComesOfJob told faults job disk held BadSizes = IsGivenBack told disk held × IfSome (told disk) (λ image. (2 ≤ image.count) × (HasSizes image → ⊥))
+ComesOfJob told faults job disk held ImageNotBuilt = IsGivenBack told disk held × IfSome (told disk) (λ image. HasSizes image × (IsSimple image → ⊥))
+ComesOfJob told faults job disk held DiskFault = IsGivenBack told disk held
+ComesOfJob told faults job disk held (Unsettled text) = IfSome (told disk) IsSimple × IsDriven held (IsRunShort told faults job disk text)
+ComesOfJob told faults job disk held (Ran text) = IfSome (told disk) IsSimple × IsDriven held (IsRunToEnd told faults job disk text)
+ComesOfJob told faults job disk held OutOfMemory = Unit {0}
+ComesOfJob told faults job disk held _ = ⊥
+
+-- what comes of a job that is run over a simple image, by the core after the run
+abbrev pub ComesOfRun : {D : Type 0} → (D → Option Image) → (D → ℕ) → Job → D → CoreState D → Outcome → Type 0
+ComesOfRun told faults job disk core (Unsettled text) = IsRunShort told faults job disk text core
+ComesOfRun told faults job disk core (Ran text) = IsRunToEnd told faults job disk text core
+ComesOfRun told faults job disk core OutOfMemory = Unit {0}
+ComesOfRun told faults job disk core _ = ⊥
+
+-- a job was run and that is its text, or there was no memory
+abbrev pub IsRan : List ℕ → Outcome → Type 0
+IsRan text (Ran given) = given ≡ text
+IsRan text OutOfMemory = Unit {0}
+IsRan text _ = ⊥
+
+-- the same where the disk failed in the end of the run
+abbrev pub IsUnsettled : List ℕ → Outcome → Type 0
+IsUnsettled text (Unsettled given) = given ≡ text
+IsUnsettled text OutOfMemory = Unit {0}
+IsUnsettled text _ = ⊥
+
+-- the disk failed, at the opening or in the end of a run
+abbrev pub IsDiskFault : Outcome → Type 0
+IsDiskFault DiskFault = Unit {0}
+IsDiskFault (Unsettled text) = Unit {0}
+IsDiskFault _ = ⊥
+
+-- a refusal of the core as the program prints it
+abbrev pub IsRefusedAs : OpenFault → Outcome → Type 0
+IsRefusedAs (opens.Unsound block rule) NoBlocks = rule ≡ 1
+IsRefusedAs (opens.Unsound block rule) BadSizes = rule ≢ 1
+IsRefusedAs opens.Device DiskFault = Unit {0}
+IsRefusedAs opens.NoMemory OutOfMemory = Unit {0}
+IsRefusedAs fault outcome = ⊥
 
 -- the bytes of the source, where it tells them: all of them, or the first 4,194,305
 abbrev pub OfBytes : Option (List ℕ) → (List ℕ → Type 0) → Type 0
 OfBytes left Fact = IfSome left (λ bytes. Fact (take 4194305 bytes))
 
+-- why there is no job
+abbrev pub IsJobRefused : Option (List ℕ) → Outcome → Type 0
+IsJobRefused left InputFault = Unit {0}
+IsJobRefused left OutOfMemory = Unit {0}
+IsJobRefused left TooLong = OfBytes left (λ bytes. job_in bytes ≡ Err fault.TooLong)
+IsJobRefused left NotToml = OfBytes left (λ bytes. job_in bytes ≡ Err fault.NotToml)
+IsJobRefused left JobNotBuilt = OfBytes left (λ bytes. job_in bytes ≡ Err fault.NotBuilt)
+IsJobRefused left _ = ⊥
+
 -- a job that is read, and what came of it
-pub record IsJobRun (bytes : List ℕ) (told : Option Image) (before now : ℕ) (outcome : Outcome) : Type 0 where
+pub record IsJobRun {D : Type 0} (told : D → Option Image) (faults : D → ℕ) (bytes : List ℕ) (disk : D) (held : Held D) (outcome : Outcome) : Type 0 where
   pub job : Job
   pub read : job_in bytes ≡ Ok job
-  pub over : IsRunOver job told before now outcome
+  pub over : ComesOfJob told faults job disk held outcome
 
 -- the causes, in their order: the words, the input, the job, and then what comes of it
-abbrev pub IsOutcome : List (List ℕ) → Option (List ℕ) → Option Image → ℕ → ℕ → Outcome → Type 0
-IsOutcome words left told before now WordsRefused = is_run words ≡ false
-IsOutcome words left told before now InputFault = is_run words ≡ true
-IsOutcome words left told before now OutOfMemory = is_run words ≡ true
-IsOutcome words left told before now TooLong = (is_run words ≡ true) × OfBytes left (λ bytes. job_in bytes ≡ Err fault.TooLong)
-IsOutcome words left told before now NotToml = (is_run words ≡ true) × OfBytes left (λ bytes. job_in bytes ≡ Err fault.NotToml)
-IsOutcome words left told before now JobNotBuilt = (is_run words ≡ true) × OfBytes left (λ bytes. job_in bytes ≡ Err fault.NotBuilt)
-IsOutcome words left told before now outcome = (is_run words ≡ true) × OfBytes left (λ bytes. IsJobRun bytes told before now outcome)
+abbrev pub IsOutcome : {D : Type 0} → (D → Option Image) → (D → ℕ) → List (List ℕ) → Option (List ℕ) → D → Held D → Outcome → Type 0
+IsOutcome told faults words left disk held WordsRefused = (is_run words ≡ false) × IsGivenBack told disk held
+IsOutcome told faults words left disk held InputFault = (is_run words ≡ true) × IsGivenBack told disk held
+IsOutcome told faults words left disk held OutOfMemory = is_run words ≡ true
+IsOutcome told faults words left disk held TooLong = (is_run words ≡ true) × IsGivenBack told disk held × OfBytes left (λ bytes. job_in bytes ≡ Err fault.TooLong)
+IsOutcome told faults words left disk held NotToml = (is_run words ≡ true) × IsGivenBack told disk held × OfBytes left (λ bytes. job_in bytes ≡ Err fault.NotToml)
+IsOutcome told faults words left disk held JobNotBuilt = (is_run words ≡ true) × IsGivenBack told disk held × OfBytes left (λ bytes. job_in bytes ≡ Err fault.NotBuilt)
+IsOutcome told faults words left disk held outcome = (is_run words ≡ true) × OfBytes left (λ bytes. IsJobRun told faults bytes disk held outcome)
 
 -- the program printed its text and ended with its status, or the output failed after a front of the text
 pub record IsPrinted (outcome : Outcome) (old new : Option (List ℕ)) (status : ℕ) : Type 0 where
@@ -105,7 +152,7 @@ pub record IsPrinted (outcome : Outcome) (old new : Option (List ℕ)) (status :
   pub front : status ≡ 7 → TakesFront old new (text_of outcome)
 
 -- how the program ended
-pub record HasEnded (words : List (List ℕ)) (left : Option (List ℕ)) (told : Option Image) (before now : ℕ) (old new : Option (List ℕ)) (status : ℕ) : Type 0 where
+pub record HasEnded {D : Type 0} (told : D → Option Image) (faults : D → ℕ) (words : List (List ℕ)) (left : Option (List ℕ)) (disk : D) (held : Held D) (old new : Option (List ℕ)) (status : ℕ) : Type 0 where
   pub outcome : Outcome
-  pub is : IsOutcome words left told before now outcome
+  pub is : IsOutcome told faults words left disk held outcome
   pub printed : IsPrinted outcome old new status

@@ -1,6 +1,6 @@
--- What it means that a job was run over an image: one legal history of the reference model, in which
--- each caller's calls stand once, in its order.
-use Rattle.std.specs.Prelude.{List, ℕ, Bool, true, false, ◌+◌, ◌-◌, ◌^◌, ◌<◌, ◌≤◌, ◌≡◌, Option, None, Some, map, filter, count_by, nat_eq, length}
+-- What it means that a job was run over a volume: one legal history of the reference model, in which each caller's
+-- calls stand once, in its order.
+use Rattle.std.specs.Prelude.{List, [], ℕ, ◌+◌, ◌≤◌, ◌≡◌, Option, None, map, filter, nat_eq, length}
 use Rattle.std.specs.List.{range_with_len}
 use Rattle.mb_job.specs.declared.jobs.Caller.{Caller}
 use Rattle.mb_job.specs.declared.jobs.Job.{Job}
@@ -9,15 +9,16 @@ use Rattle.mb_kinds.specs.Image.{Image}
 use Rattle.mb_kinds.specs.Own.{own}
 use Rattle.mb_kinds.specs.declared.calls.Call.{Call}
 use Rattle.mb_kinds.specs.declared.entries.Entry.{Entry}
-use Rattle.mb_kinds.specs.declared.replies.Reply.{Reply}
-use Rattle.mb_kinds.specs.declared.replies.Reply.TheVariants.{Device}
-use Rattle.mb_tree.specs.History.{Legal, after}
+use Rattle.mb_core.specs.State.{CoreState}
+use Rattle.mb_tree.specs.History.{after}
 use Rattle.mb_tree.specs.Opening.{opening}
 use Rattle.mb_tree.specs.Views.{Kept}
 use Rattle.mb_tree.specs.Volume.{IsVolume}
 use Rattle.mb_tree.specs.declared.machines.Machine.{Machine}
 use Rattle.mb_tree.specs.declared.trees.Tree.{Tree}
-use Rattle.mb_top.specs.Simple.{IsSimple}
+use Rattle.mb_top.specs.Plain.{IsPlainNow}
+use Rattle.mb_top.specs.Records.{AreTaken}
+use Rattle.mb_top.specs.Underway.{Keeps}
 
 -- the calls of a caller's list, with the added `exit`
 abbrev pub calls_of : Job → ℕ → List Call
@@ -35,27 +36,24 @@ HasMoments job history = map (λ (entry : Entry). entry.moment) history ≡ rang
 abbrev pub begun : Job → Tree → Machine
 begun job tree = opening tree (map (λ (caller : Caller). caller.cred) job.callers)
 
--- over an image that is a volume of a tree, and simple, the history is a legal one of that tree; and the
--- image, which the run does not write, is a volume of the tree after it, all else kept
-pub record IsHistory (job : Job) (history : List Entry) (image : Image) (tree : Tree) : Type 0 where
-  pub legal : Legal (begun job tree) job.start history
-  pub volume : IsVolume image (after (begun job tree) history).tree
-  pub kept : Kept tree image (after (begun job tree) history).tree image
+-- the image after a run is a volume of the tree after the history, all else kept
+pub record IsSettled (job : Job) (history : List Entry) (first last : Image) (tree : Tree) : Type 0 where
+  pub volume : IsVolume last (after (begun job tree) history).tree
+  pub kept : Kept tree first (after (begun job tree) history).tree last
 
-abbrev pub HasHistory : Job → List Entry → Option Image → Type 0
-HasHistory job history None = Unit {0}
-HasHistory job history (Some image) = (tree : Tree) → IsVolume image tree → IsSimple image → IsHistory job history image tree
+-- a core that begins a job
+pub record BeginsJob {D : Type 0} (job : Job) (core : CoreState D) : Type 0 where
+  pub history : core.history ≡ []
+  pub stand : core.stand ≡ record { begun = 0; flight = None; struck = [] }
+  pub callers : core.config.callers ≡ map (λ (caller : Caller). caller.cred) job.callers
+  pub start : core.config.start ≡ job.start
+  pub limit : core.config.limit ≡ 255
+  pub most : length job.calls ≤ core.config.most
 
-pub record IsRun (told : Option Image) (job : Job) (history : List Entry) : Type 0 where
-  pub own_calls : HasOwnCalls job history
-  pub moments : HasMoments job history
-  pub legal : HasHistory job history told
-
-abbrev pub is_device : Reply → Bool
-is_device Device = true
-is_device _ = false
-
--- the disk ended at most as many calls as its count of faults rose; nothing is said of a count that stands
--- at its greatest
-abbrev pub FewDevices : ℕ → ℕ → List Entry → Type 0
-FewDevices before now history = now < 2 ^ 64 - 1 → count_by (λ (entry : Entry). is_device entry.reply) history + before ≤ now
+-- a core after the calls of a job: each has its entry, none is in flight, and the records are those of the plan
+pub record IsRunOver {D : Type 0} (told : D → Option Image) (faults : D → ℕ) (job : Job) (old new : CoreState D) : Type 0 where
+  pub keeps : Keeps told faults old new
+  pub calls : map (λ (entry : Entry). entry.call) new.history ≡ map (λ (made : JobCall). made.call) job.calls
+  pub ended : new.stand.flight ≡ None
+  pub records : AreTaken job.plan new.history new.stand.struck
+  pub plain : IsPlainNow told new

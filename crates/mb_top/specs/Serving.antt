@@ -1,57 +1,67 @@
--- What it means that a call was served over an image: the reference model's step, for every tree of
--- which the image is a volume.
-use Rattle.std.specs.Prelude.{List, [], ◌∷◌, ℕ, ◌≡◌, Option, Some, None}
+-- What it means that a call was performed over a plain volume: the reference model's step, and a plain machine past it.
+use Rattle.std.specs.Prelude.{List, [], ◌∷◌, ℕ, ◌≡◌, Option, Some, None, IfSome}
 use Rattle.std.specs.FinMap as fin
 use Rattle.mb_kinds.specs.Image.{Image}
 use Rattle.mb_kinds.specs.declared.calls.Call.{Call}
-use Rattle.mb_kinds.specs.declared.entries.Entry.{Entry}
+use Rattle.mb_kinds.specs.declared.entries.Flight.{Flight}
 use Rattle.mb_kinds.specs.declared.replies.Reply.{Reply}
-use Rattle.mb_kinds.specs.declared.replies.Reply.TheVariants.{Num, Got, Info, Refused}
-use Rattle.mb_tree.specs.History.{Runs, past}
-use Rattle.mb_tree.specs.Opening.{swept}
+use Rattle.mb_tree.specs.Lookup.{components, number_of}
+use Rattle.mb_tree.specs.Maps.{Numbered}
+use Rattle.mb_tree.specs.Sessions.{IsReady}
+use Rattle.mb_tree.specs.Step.{step}
 use Rattle.mb_tree.specs.Volume.{IsVolume}
 use Rattle.mb_tree.specs.declared.machines.Machine.{Machine}
+use Rattle.mb_tree.specs.declared.nodes.Node.{Node}
+use Rattle.mb_tree.specs.declared.operations.FsOp.{FsOp}
 use Rattle.mb_tree.specs.declared.seats.PlainFile.{PlainFile}
 use Rattle.mb_tree.specs.declared.seats.Seat.{Seat}
+use Rattle.mb_tree.specs.declared.seats.SessionChange.{SessionChange}
 use Rattle.mb_tree.specs.declared.trees.Tree.{Tree}
-use Rattle.mb_top.specs.Simple.{IsSimple, IsSmallFile}
+use Rattle.mb_core.specs.Holds.{HasNames}
+use Rattle.mb_core.specs.Journal.{IsLoggable}
+use Rattle.mb_core.specs.Ready.{IsPerformed, IsPlain}
+use Rattle.mb_core.specs.declared.ready.Ready.{Ready}
+use Rattle.mb_top.specs.Plain.{IsPlainFile, IsPlainTree, IsPlainMachine}
+use Rattle.mb_top.specs.Simple.{HasSmallRoot, root_slots}
 
--- the model with one caller, as the volume of a tree was opened
-abbrev pub machine_of : Tree → Seat → Machine
-machine_of tree seat = record { tree = record tree { nodes = swept tree.nodes }; seats = seat ∷ [] }
+-- the model with one caller
+abbrev pub alone : Tree → Seat → Machine
+alone tree seat = record { tree = tree; seats = seat ∷ [] }
 
--- the one caller is uid 0, and what it has open are small files
-pub record IsReady (blocks : ℕ → List ℕ) (seat : Seat) : Type 0 where
+-- the session of uid 0, which has plain files open
+pub record IsPlainSeat (nodes : Numbered Node) (seat : Seat) : Type 0 where
   pub privileged : seat.cred.uid ≡ 0
-  pub files : (place : ℕ) (file : PlainFile) → fin.get seat.files place ≡ Some file → IsSmallFile blocks file.ino
+  pub files : (place : ℕ) (file : PlainFile) → fin.get seat.files place ≡ Some file → IsPlainFile nodes file.ino
 
--- an entry that fits the machine, and the machine past it
-pub record Passes (machine : Machine) (entry : Entry) (next : Machine) : Type 0 where
-  pub runs : Runs machine entry entry.reply
-  pub goes_on : past machine entry ≡ next
+-- what a call finds: a volume of a plain tree on which every file has a name, and a plain session
+pub record Finds (view : Image) (tree : Tree) (seat : Seat) : Type 0 where
+  pub volume : IsVolume view tree
+  pub names : HasNames tree
+  pub plain : IsPlainTree tree
+  pub session : IsPlainSeat tree.nodes seat
 
--- a call served over an image, from one session to the next
-pub record Serves (image : Image) (tree : Tree) (entry : Entry) (old new : Seat) : Type 0 where
-  pub passes : Passes (machine_of tree old) entry (machine_of tree new)
-  pub ready : IsReady image.at new
+-- what a call comes to
+pub record Comes (view : Image) (machine : Machine) (flight : Flight) (ready : Ready) : Type 0 where
+  pub performed : IsPerformed view machine flight ready
+  pub next : Machine
+  pub leads : step machine 0 flight.call flight.moment ready.pick ≡ (ready.reply, next)
+  pub plain : IsPlainMachine next
 
--- where the disk tells its image, for each tree of which it is a volume
-abbrev pub IsServed : Option Image → Entry → Seat → Seat → Type 0
-IsServed None entry old new = Unit {0}
-IsServed (Some image) entry old new = (tree : Tree) → IsVolume image tree → IsSimple image → IsReady image.at old → Serves image tree entry old new
+-- a call performed at a moment, whatever is seen and whatever else its flight holds
+abbrev pub IsPerformedAt : Option Image → Seat → Call → ℕ → Ready → Type 0
+IsPerformedAt told seat call moment ready = (view : Image) (tree : Tree) (flight : Flight) → told ≡ Some view → Finds view tree seat → flight.call ≡ call → flight.moment ≡ moment
+    → Comes view (alone tree seat) flight ready
 
--- a plain reply is the model's own
-abbrev pub IsPlain : Reply → Type 0
-IsPlain (Num number) = Unit {0}
-IsPlain (Got bytes) = Unit {0}
-IsPlain (Info stat) = Unit {0}
-IsPlain (Refused e) = Unit {0}
-IsPlain _ = ⊥
+-- what is asked of it on every disk
+pub record MayLog (ready : Ready) : Type 0 where
+  pub plain : IsPlain ready.reply
+  pub loggable : IfSome ready.op IsLoggable
+  pub session : IsReady ready.session
 
--- the entry of a call of the one caller, which makes no inode
-abbrev pub entry_of : ℕ → Call → ℕ → Reply → Entry
-entry_of ordinal call moment reply = record { caller = 0; ordinal = ordinal; call = call; pick = None; moment = moment; reply = reply }
+-- what changes no block
+abbrev pub unchanged : Reply → Option FsOp → SessionChange → Ready
+unchanged reply op session = record { reply = reply; op = op; pick = None; changes = []; session = session }
 
--- a call answered, whatever its place and moment
-abbrev pub IsAnswered : Option Image → Call → Reply → Seat → Seat → Type 0
-IsAnswered told call reply old new = (ordinal moment : ℕ) → IsServed told (entry_of ordinal call moment reply) old new
+-- what the first component of a path leads to in the root
+abbrev pub LeadsFromRoot : Option Image → List ℕ → Option ℕ → Type 0
+LeadsFromRoot told path found = (view : Image) (name : List ℕ) → told ≡ Some view → HasSmallRoot view.at → components path ≡ name ∷ [] → number_of (root_slots view.at) name ≡ found

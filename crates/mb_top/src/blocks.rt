@@ -1,45 +1,52 @@
-ghost use Rattle.std.specs.Prelude.{◌≡◌, ◌<◌, ◌≤◌, IfOk, IfSome, length};
-ghost use Rattle.mb_edge.specs.Blocks.{GivesBlock};
-ghost use Rattle.mb_edge.specs.Causes.{HasCause, Rose};
+ghost use Rattle.std.specs.Prelude.{◌≡◌, ◌<◌, IfOk, IfSome, length};
+ghost use Rattle.mb_core.specs.Holds.{Right};
+ghost use Rattle.mb_core.specs.State.{seen};
 ghost use Rattle.mb_top.specs.Contents.{inode_at, direct_part};
+ghost use Rattle.mb_top.specs.Reads.{ReadsOn};
 
-use mb_edge::{Disk, Failed};
+use mb_core::{Core, ReadFault};
+use mb_edge::Disk;
+use mb_fsops::inode_block;
 use mb_layout::Dinode;
 
-/// A block of the disk; one past the end has zeros.
-pub fn read_block<D: Disk>(disk: &mut D, block: u32) -> Result<[u8; 512], Failed>
-    ensures bytes { IfOk result (λ bytes. GivesBlock (D.told disk.old) block bytes) }
+/// A block as it is seen; one past the end has zeros.
+pub fn read_block<D: Disk>(core: &mut Core<D>, block: u32) -> Result<[u8; 512], ReadFault>
+    ensures bytes { IfOk result (λ bytes. IfSome (seen D.told core.old) (λ view. bytes ≡ view.at block)) }
     ensures size { IfOk result (λ bytes. length bytes ≡ 512) }
-    ensures told { D.told disk.new ≡ D.told disk.old }
-    ensures cause { HasCause (D.faults disk.old) (D.faults disk.new) result }
+    ensures reads { ReadsOn D.told D.faults core.old core.new result }
 {
-    let mut bytes = [0; 512];
-    disk.read(block, &mut bytes)?;
-    Ok(bytes)
+    match core.read(block) {
+        Ok(bytes) => Ok(bytes),
+        Err(_) => Err(ReadFault::Device),
+    }
 }
 
 /// The inode with a number from 1 on (V7 filsys(5)).
-pub fn read_inode<D: Disk>(disk: &mut D, ino: u16) -> Result<Dinode, Failed>
-    ensures inode { IfOk result (λ inode. IfSome (D.told disk.old) (λ image. inode ≡ inode_at image.at ino)) }
-    ensures told { D.told disk.new ≡ D.told disk.old }
-    ensures cause { HasCause (D.faults disk.old) (D.faults disk.new) result }
+pub fn read_inode<D: Disk>(core: &mut Core<D>, ino: u16) -> Result<Dinode, ReadFault>
+    ensures inode { IfOk result (λ inode. IfSome (seen D.told core.old) (λ view. inode ≡ inode_at view.at ino)) }
+    ensures reads { ReadsOn D.told D.faults core.old core.new result }
 {
-    let index = ino.saturating_sub(1);
-    let bytes = read_block(disk, 2 + u32::from(index / 8))?;
-    Ok(Dinode::read(&bytes, (index % 8) as u8))
+    match read_block(core, inode_block(ino)) {
+        Ok(bytes) => Ok(Dinode::read(&bytes, (ino.saturating_sub(1) % 8) as u8)),
+        Err(fault) => Err(fault),
+    }
 }
 
 /// One of the first ten parts of a file, 512 bytes each; a hole has zeros.
-pub fn read_part<D: Disk>(disk: &mut D, inode: &Dinode, part: u8) -> Result<[u8; 512], Failed>
-    requires { part < 10 }
-    ensures bytes { IfOk result (λ bytes. IfSome (D.told disk.old) (λ image. bytes ≡ direct_part image.at inode.now part)) }
+pub fn read_part<D: Disk>(
+    core: &mut Core<D>,
+    inode: &Dinode,
+    part: u8,
+) -> Result<[u8; 512], ReadFault>
+    requires part { part < 10 }
+    requires right { Right D.told D.faults core.old }
+    ensures bytes { IfOk result (λ bytes. IfSome (seen D.told core.old) (λ view. bytes ≡ direct_part view.at inode.now part)) }
     ensures size { IfOk result (λ bytes. length bytes ≡ 512) }
-    ensures told { D.told disk.new ≡ D.told disk.old }
-    ensures cause { HasCause (D.faults disk.old) (D.faults disk.new) result }
+    ensures reads { ReadsOn D.told D.faults core.old core.new result }
 {
     let address = inode.address(part);
     if address == 0 {
         return Ok([0; 512]);
     }
-    read_block(disk, address)
+    read_block(core, address)
 }

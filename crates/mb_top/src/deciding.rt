@@ -1,91 +1,230 @@
-ghost use Rattle.std.specs.Prelude.{◌≡◌, ◌≤◌, IfOk};
+ghost use Rattle.std.specs.Prelude.{◌≡◌, ◌≤◌, ◌++◌, false, true, length, map, Option, Some, None, Ok, IfOk, IfErr, IfSome, OnOk, codes};
 ghost use Rattle.mb_edge.specs.Causes.{Rose};
+ghost use Rattle.mb_core.specs.Begun.{IsBegun, IsConfig};
+ghost use Rattle.mb_core.specs.Holds.{Right};
+ghost use Rattle.mb_job.specs.Job.{job_in};
 ghost use Rattle.mb_job.specs.Small.{IsSmall};
-ghost use Rattle.mb_top.specs.Outcomes.{IsOutcome, IsRunOver, IsRunSimply, run_text};
+ghost use Rattle.mb_job.specs.Transcript.{transcript_text};
+ghost use Rattle.mb_job.specs.declared.Caller.{Caller};
+ghost use Rattle.mb_job.specs.declared.Job.{Job};
+ghost use Rattle.mb_top.specs.Held.{held_disk};
+ghost use Rattle.mb_top.specs.Beginnings.{IsBegunFor};
+ghost use Rattle.mb_top.specs.Outcomes.{IsDiskFault, IsJobRefused, IsOutcome, IsRan, IsRefusedAs, ComesOfJob, ComesOfRun, IsUnsettled, OfBytes, run_text, unsettled_text};
+ghost use Rattle.mb_tree.specs.Volume.{HasSizes};
+ghost use Rattle.mb_top.specs.Simple.{IsSimple};
 
-use crate::errors::ReadError;
-use crate::findings::Opened;
-use crate::opening::open_image;
+use crate::finish::Held;
+use crate::opening::is_simple;
 use crate::outcomes::Outcome;
-use crate::runs::run_job;
+use crate::runs::run_calls;
+use crate::settling::settle;
 use crate::words::{Words, is_run};
-use mb_edge::{Disk, Source, read_whole};
+use mb_core::{Config, Core, OpenFault, ReadFault, Refusal, RollFault};
+use mb_edge::{Disk, NoMemory, Source, read_whole};
 use mb_job::{Job, JobFault, Text, job_of, last_line, transcript};
-use mb_kinds::Entry;
+use mb_kinds::Creds;
 use std::alloc::{AllocError, Global};
 
+/// What came of the words, the job and the disk, and what is held.
+pub struct Decided<D: Disk> {
+    pub outcome: Outcome,
+    pub held: Held<D>,
+}
+
 /// Reads the job and runs it, up to what is to be printed.
-pub fn decide<S: Source, D: Disk>(
-    alloc: Global,
-    words: &Words,
-    job: &mut S,
-    disk: &mut D,
-) -> Outcome
-    ensures outcome { IsOutcome words.now (S.left job.old) (D.told disk.old) (D.faults disk.old) (D.faults disk.new) result }
-    ensures input { result ≡ Outcome.InputFault → Rose (S.faults job.old) (S.faults job.new) }
-    ensures device { result ≡ Outcome.DiskFault → Rose (D.faults disk.old) (D.faults disk.new) }
-    ensures told { D.told disk.new ≡ D.told disk.old }
-    ensures later { D.faults disk.old ≤ D.faults disk.new }
+pub fn decide<S: Source, D: Disk>(alloc: Global, words: &Words, job: &mut S, disk: D) -> Decided<D>
+    ensures outcome { IsOutcome D.told D.faults words.now (S.left job.old) disk result.held result.outcome }
+    ensures input { result.outcome ≡ Outcome.InputFault → Rose (S.faults job.old) (S.faults job.new) }
+    ensures device { IsDiskFault result.outcome → Rose (D.faults disk) (D.faults (held_disk result.held)) }
+    ensures later { D.faults disk ≤ D.faults (held_disk result.held) }
 {
     if !is_run(words) {
-        return Outcome::WordsRefused;
+        return Decided {
+            outcome: Outcome::WordsRefused,
+            held: Held::Disk(disk),
+        };
     }
-    let bytes = match read_whole(alloc, job, 4194305) {
+    match read_job(alloc, job) {
+        Ok(job) => run_over(alloc, disk, &job),
+        Err(outcome) => Decided {
+            outcome,
+            held: Held::Disk(disk),
+        },
+    }
+}
+
+// The job that the source holds, or why there is none.
+fn read_job<S: Source>(alloc: Global, source: &mut S) -> Result<Job, Outcome>
+    ensures job { IfOk result (λ job. OfBytes (S.left source.old) (λ bytes. job_in bytes ≡ Ok job)) }
+    ensures small { IfOk result IsSmall }
+    ensures refused { IfErr result (IsJobRefused (S.left source.old)) }
+    ensures input { IfErr result (λ outcome. outcome ≡ Outcome.InputFault → Rose (S.faults source.old) (S.faults source.new)) }
+{
+    let bytes = match read_whole(alloc, source, 4194305) {
         Ok(bytes) => bytes,
-        Err(mb_edge::ReadError::Failed) => return Outcome::InputFault,
-        Err(mb_edge::ReadError::NoMemory) => return Outcome::OutOfMemory,
+        Err(mb_edge::ReadError::Failed) => return Err(Outcome::InputFault),
+        Err(mb_edge::ReadError::NoMemory) => return Err(Outcome::OutOfMemory),
     };
     match job_of(alloc, bytes.as_slice()) {
-        Ok(job) => run_over(alloc, disk, &job),
-        Err(JobFault::TooLong) => Outcome::TooLong,
-        Err(JobFault::NotToml) => Outcome::NotToml,
-        Err(JobFault::NotBuilt) => Outcome::JobNotBuilt,
-        Err(JobFault::NoMemory) => Outcome::OutOfMemory,
+        Ok(job) => Ok(job),
+        Err(JobFault::TooLong) => Err(Outcome::TooLong),
+        Err(JobFault::NotToml) => Err(Outcome::NotToml),
+        Err(JobFault::NotBuilt) => Err(Outcome::JobNotBuilt),
+        Err(JobFault::NoMemory) => Err(Outcome::OutOfMemory),
     }
 }
 
-// Opens the image and runs a job over it.
-fn run_over<D: Disk>(alloc: Global, disk: &mut D, job: &Job) -> Outcome
+// Begins a core over the disk and runs a job with it.
+fn run_over<D: Disk>(alloc: Global, disk: D, job: &Job) -> Decided<D>
     requires { IsSmall job.now }
-    ensures over { IsRunOver job.now (D.told disk.old) (D.faults disk.old) (D.faults disk.new) result }
-    ensures device { result ≡ Outcome.DiskFault → Rose (D.faults disk.old) (D.faults disk.new) }
-    ensures told { D.told disk.new ≡ D.told disk.old }
-    ensures later { D.faults disk.old ≤ D.faults disk.new }
+    ensures over { ComesOfJob D.told D.faults job.now disk result.held result.outcome }
+    ensures device { IsDiskFault result.outcome → Rose (D.faults disk) (D.faults (held_disk result.held)) }
+    ensures later { D.faults disk ≤ D.faults (held_disk result.held) }
 {
-    match open_image(alloc, disk) {
-        Ok(Opened::NoBlocks) => Outcome::NoBlocks,
-        Ok(Opened::BadSizes) => Outcome::BadSizes,
-        Ok(Opened::NotSimple) => Outcome::ImageNotBuilt,
-        Err(ReadError::Device) => Outcome::DiskFault,
-        Err(ReadError::NoMemory) => Outcome::OutOfMemory,
-        Ok(Opened::Simple) => run_simple(alloc, disk, job),
+    let Ok(config) = config_of(alloc, job) else {
+        return Decided {
+            outcome: Outcome::OutOfMemory,
+            held: Held::Disk(disk),
+        };
+    };
+    match Core::begin(alloc, disk, config) {
+        Ok(core) => run_begun(alloc, core, job),
+        Err(Refusal { fault, disk }) => Decided {
+            outcome: refused(fault),
+            held: Held::Disk(disk),
+        },
     }
 }
 
-// Runs a job over an image that was found simple.
-fn run_simple<D: Disk>(alloc: Global, disk: &mut D, job: &Job) -> Outcome
+// What a core is begun with for a job: no call is struck twice, and there are at most 255 faults.
+fn config_of(alloc: Global, job: &Job) -> Result<Config, NoMemory>
     requires { IsSmall job.now }
-    ensures run { IsRunSimply job.now (D.told disk.old) (D.faults disk.old) (D.faults disk.new) result }
-    ensures told { D.told disk.new ≡ D.told disk.old }
-    ensures later { D.faults disk.old ≤ D.faults disk.new }
+    ensures config { IfOk result IsConfig }
+    ensures callers { IfOk result (λ config. config.callers ≡ map (λ (caller : Caller). caller.cred) job.now.callers) }
+    ensures start { IfOk result (λ config. config.start ≡ job.now.start) }
+    ensures limit { IfOk result (λ config. config.limit ≡ 255) }
+    ensures most { IfOk result (λ config. length job.now.calls ≤ config.most) }
 {
-    let Ok(history) = run_job(alloc, disk, job) else {
+    let mut creds = Vec::new(alloc);
+    for caller in job.callers.as_slice() {
+        creds.push(caller.cred)?;
+    }
+    Ok(Config {
+        callers: Creds::from_vec(creds),
+        start: job.start,
+        threshold: 64,
+        limit: 255,
+        most: job.calls.len() as u32,
+    })
+}
+
+// A refusal as the program prints it.
+fn refused(fault: OpenFault) -> Outcome
+    ensures device { IsDiskFault result → fault ≡ OpenFault.Device }
+    ensures refused { IsRefusedAs fault result }
+{
+    match fault {
+        OpenFault::Unsound { block: _, rule: 1 } => Outcome::NoBlocks,
+        OpenFault::Unsound { block: _, rule: _ } => Outcome::BadSizes,
+        OpenFault::Device => Outcome::DiskFault,
+        OpenFault::NoMemory => Outcome::OutOfMemory,
+    }
+}
+
+// Looks at the form of the image, and runs a job over a simple one.
+fn run_begun<D: Disk>(alloc: Global, mut core: Core<D>, job: &Job) -> Decided<D>
+    requires small { IsSmall job.now }
+    requires begun { IsBegunFor job.now core }
+    requires right { Right D.told D.faults core }
+    requires told { D.told core.disk ≡ D.told core.first }
+    requires sizes { IfSome (D.told core.first) HasSizes }
+    ensures over { ComesOfJob D.told D.faults job.now core.first result.held result.outcome }
+    ensures device { IsDiskFault result.outcome → Rose (D.faults core.first) (D.faults (held_disk result.held)) }
+    ensures later { D.faults core.disk ≤ D.faults (held_disk result.held) }
+{
+    match is_simple(alloc, &mut core) {
+        Ok(true) => {
+            let outcome = run_simple(alloc, &mut core, job);
+            Decided {
+                outcome,
+                held: Held::Core(core),
+            }
+        }
+        Ok(false) => given_back(core, Outcome::ImageNotBuilt),
+        Err(ReadFault::Device) => given_back(core, Outcome::DiskFault),
+        Err(ReadFault::NoMemory) => given_back(core, Outcome::OutOfMemory),
+    }
+}
+
+// The disk of a core that ran no job.
+fn given_back<D: Disk>(core: Core<D>, outcome: Outcome) -> Decided<D>
+    ensures outcome { result.outcome ≡ outcome }
+    ensures held { result.held ≡ Held.Disk core.disk }
+{
+    Decided {
+        outcome,
+        held: Held::Disk(core.into_disk()),
+    }
+}
+
+// Runs a job over a simple image, and ends the run.
+fn run_simple<D: Disk>(alloc: Global, core: &mut Core<D>, job: &Job) -> Outcome
+    requires small { IsSmall job.now }
+    requires begun { IsBegunFor job.now core.old }
+    requires told { D.told core.old.disk ≡ D.told core.old.first }
+    requires simple { IfSome (D.told core.old.first) IsSimple }
+    requires right { Right D.told D.faults core.old }
+    ensures run { ComesOfRun D.told D.faults job.now core.old.first core.new result }
+    ensures device { IsDiskFault result → Rose (D.faults core.old.disk) (D.faults core.new.disk) }
+    ensures later { D.faults core.old.disk ≤ D.faults core.new.disk }
+{
+    let Ok(()) = run_calls(alloc, core, job) else {
         return Outcome::OutOfMemory;
     };
-    match printed(alloc, job, history.as_slice()) {
-        Ok(text) => Outcome::Ran(text),
-        Err(_) => Outcome::OutOfMemory,
+    match settle(alloc, core) {
+        Ok(()) => ran(alloc, job, core),
+        Err(RollFault::Device) => unsettled(alloc, job, core),
+        Err(RollFault::NoMemory) => Outcome::OutOfMemory,
     }
 }
 
 // The transcript with its last line.
-fn printed(alloc: Global, job: &Job, history: &[Entry]) -> Result<Text, AllocError>
-    ensures { IfOk result (λ text. text ≡ run_text job.now history.now) }
+fn ran<D: Disk>(alloc: Global, job: &Job, core: &Core<D>) -> Outcome
+    ensures { IsRan (run_text job.now core.now) result }
 {
-    let count = history.len() as u64;
-    let lines = transcript(alloc, job, history)?;
-    let end = last_line(alloc, count, 0, count)?;
+    let entries = core.history().len() as u64;
+    let faults = core.records().len() as u64;
+    let sealed = u64::from(core.sealed_at());
+    match last_line(alloc, entries, faults, sealed) {
+        Ok(line) => match with_line(alloc, job, core, line.as_slice()) {
+            Ok(text) => Outcome::Ran(text),
+            Err(_) => Outcome::OutOfMemory,
+        },
+        Err(_) => Outcome::OutOfMemory,
+    }
+}
+
+// The transcript with the line of a disk fault.
+fn unsettled<D: Disk>(alloc: Global, job: &Job, core: &Core<D>) -> Outcome
+    ensures { IsUnsettled (unsettled_text job.now core.now) result }
+{
+    match with_line(alloc, job, core, b"disk fault\n") {
+        Ok(text) => Outcome::Unsettled(text),
+        Err(_) => Outcome::OutOfMemory,
+    }
+}
+
+// The transcript with a line behind it.
+fn with_line<D: Disk>(
+    alloc: Global,
+    job: &Job,
+    core: &Core<D>,
+    line: &[u8],
+) -> Result<Text, AllocError>
+    ensures { IfOk result (λ text. text ≡ transcript_text job.now core.now.history ++ line.now) }
+{
+    let lines = transcript(alloc, job, core.history())?;
     let mut text = Vec::from_slice(alloc, lines.as_slice())?;
-    text.extend_from_slice(end.as_slice())?;
+    text.extend_from_slice(line)?;
     Ok(Text::from_vec(text))
 }

@@ -1,9 +1,11 @@
-ghost use Rattle.std.specs.Prelude.{◌≡◌, ◌≤◌, ◌-◌, IfOk, IfSome, IsErrOf, min, length};
-ghost use Rattle.mb_edge.specs.Causes.{Rose};
+ghost use Rattle.std.specs.Prelude.{◌≡◌, ◌≤◌, ◌-◌, IfOk, IfSome, min, length};
+ghost use Rattle.mb_core.specs.Holds.{Right};
+ghost use Rattle.mb_core.specs.State.{seen};
 ghost use Rattle.mb_top.specs.Contents.{bytes_in, direct_part};
+ghost use Rattle.mb_top.specs.Reads.{ReadsOn};
 
 use crate::blocks::read_part;
-use crate::errors::ReadError;
+use mb_core::{Core, ReadFault};
 use mb_edge::Disk;
 use mb_kinds::Octets;
 use mb_layout::Dinode;
@@ -13,16 +15,15 @@ use std::alloc::Global;
 /// its size (V7 read(2)).
 pub fn read_bytes<D: Disk>(
     alloc: Global,
-    disk: &mut D,
+    core: &mut Core<D>,
     inode: &Dinode,
     offset: u32,
     count: u16,
-) -> Result<Octets, ReadError>
-    ensures bytes { IfOk result (λ bytes. IfSome (D.told disk.old) (λ image. bytes ≡ bytes_in (direct_part image.at inode.now) offset (min count (min inode.now.size 5120 - offset)))) }
+) -> Result<Octets, ReadFault>
+    requires right { Right D.told D.faults core.old }
+    ensures bytes { IfOk result (λ bytes. IfSome (seen D.told core.old) (λ view. bytes ≡ bytes_in (direct_part view.at inode.now) offset (min count (min inode.now.size 5120 - offset)))) }
     ensures few { IfOk result (λ bytes. length bytes ≤ min inode.now.size 5120 - offset) }
-    ensures told { D.told disk.new ≡ D.told disk.old }
-    ensures later { D.faults disk.old ≤ D.faults disk.new }
-    ensures device { IsErrOf result ReadError.Device → Rose (D.faults disk.old) (D.faults disk.new) }
+    ensures reads { ReadsOn D.told D.faults core.old core.new result }
 {
     let size = inode.size.min(5120);
     let mut bytes = Vec::new(alloc);
@@ -31,8 +32,13 @@ pub fn read_bytes<D: Disk>(
     'parts: while at < end {
         let from = (at % 512) as usize;
         let length = (512 - from).min((end - at) as usize);
-        let part = read_part(disk, inode, (at / 512) as u8)?;
-        bytes.extend_from_slice(&part[from..from + length])?;
+        let part = match read_part(core, inode, (at / 512) as u8) {
+            Ok(part) => part,
+            Err(fault) => return Err(fault),
+        };
+        let Ok(()) = bytes.extend_from_slice(&part[from..from + length]) else {
+            return Err(ReadFault::NoMemory);
+        };
         at += length as u32;
     }
     Ok(Octets::from_vec(bytes))

@@ -1,10 +1,14 @@
 ghost use Rattle.std.specs.Prelude.{◌≡◌};
 
+use mb_core::Core;
 use mb_edge::Disk;
 
 /// What the program held at its end.
 pub enum Held<D: Disk> {
+    /// The disk, where no job was run.
     Disk(D),
+    /// The core that the run drove, as the end of the run left it.
+    Core(Core<D>),
 }
 
 impl<D: Disk> Held<D> {
@@ -16,6 +20,7 @@ impl<D: Disk> Held<D> {
     {
         match self {
             Held::Disk(disk) => disk,
+            Held::Core(core) => core.into_disk(),
         }
     }
 }

@@ -6,19 +6,20 @@
 mod adapters;
 mod blocks;
 mod deciding;
-mod errors;
+#[cfg(test)]
+mod fault_tests;
 mod files;
-mod findings;
 mod finish;
 mod laws;
 mod membrane;
 mod opening;
 mod outcomes;
+mod performing;
 mod roots;
 #[cfg(test)]
 mod run_tests;
 mod runs;
-mod serving;
+mod settling;
 #[cfg(test)]
 mod tests;
 mod words;

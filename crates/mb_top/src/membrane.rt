@@ -3,8 +3,8 @@ ghost use Rattle.mb_edge.specs.Causes.{Rose};
 ghost use Rattle.mb_top.specs.Held.{held_disk};
 ghost use Rattle.mb_top.specs.Outcomes.{HasEnded, IsPrinted, status_of, text_of};
 
-use crate::deciding::decide;
-use crate::finish::{Finish, Held};
+use crate::deciding::{Decided, decide};
+use crate::finish::Finish;
 use crate::outcomes::Outcome;
 use crate::words::Words;
 use mb_edge::{Disk, Sink, Source, write_whole};
@@ -14,28 +14,24 @@ use std::alloc::Global;
 /// comes of it, and gives the disk back.
 ///
 /// The statuses: 0 done; 1 the words are no command; 2 the job is refused; 3 the volume is refused; 5 the
-/// disk failed at the opening; 6 want of memory; 7 the output failed; 8 the input failed; 9 a job or an
+/// disk failed at the opening or in the end of the run; 6 want of memory; 7 the output failed; 8 the input failed; 9 a job or an
 /// image of a form that is not read yet. `specs/Outcomes.antt` says when each comes.
 pub fn membrane<S: Source, D: Disk, K: Sink>(
     alloc: Global,
     words: &Words,
     job: &mut S,
-    mut disk: D,
+    disk: D,
     out: &mut K,
 ) -> Finish<D>
-    ensures ended { HasEnded words.now (S.left job.old) (D.told disk) (D.faults disk) (D.faults (held_disk result.held)) (K.taken out.old) (K.taken out.new) result.status }
+    ensures ended { HasEnded D.told D.faults words.now (S.left job.old) disk result.held (K.taken out.old) (K.taken out.new) result.status }
     ensures input { result.status ≡ 8 → Rose (S.faults job.old) (S.faults job.new) }
     ensures device { result.status ≡ 5 → Rose (D.faults disk) (D.faults (held_disk result.held)) }
     ensures output { result.status ≡ 7 → Rose (K.faults out.old) (K.faults out.new) }
-    ensures told { D.told (held_disk result.held) ≡ D.told disk }
     ensures later { D.faults disk ≤ D.faults (held_disk result.held) }
 {
-    let outcome = decide(alloc, words, job, &mut disk);
+    let Decided { outcome, held } = decide(alloc, words, job, disk);
     let status = print(out, &outcome);
-    Finish {
-        status,
-        held: Held::Disk(disk),
-    }
+    Finish { status, held }
 }
 
 // Prints an outcome's text, and gives its status. Want of memory stays so where its line cannot be written.
@@ -59,7 +55,7 @@ fn status_of(outcome: &Outcome) -> u8
         Outcome::WordsRefused => 1,
         Outcome::TooLong | Outcome::NotToml => 2,
         Outcome::NoBlocks | Outcome::BadSizes => 3,
-        Outcome::DiskFault => 5,
+        Outcome::DiskFault | Outcome::Unsettled(_) => 5,
         Outcome::OutOfMemory => 6,
         Outcome::InputFault => 8,
         Outcome::JobNotBuilt | Outcome::ImageNotBuilt => 9,
@@ -79,6 +75,6 @@ fn text_of(outcome: &Outcome) -> &[u8]
         Outcome::BadSizes => b"volume refused: block 1 rule 2\n",
         Outcome::OutOfMemory => b"no memory\n",
         Outcome::JobNotBuilt | Outcome::ImageNotBuilt => b"not built\n",
-        Outcome::Ran(text) => text.as_slice(),
+        Outcome::Unsettled(text) | Outcome::Ran(text) => text.as_slice(),
     }
 }

@@ -1,104 +1,102 @@
-ghost use Rattle.std.specs.Prelude.{◌≡◌, ◌≤◌, ◌≢◌, ◌<◌, Decides, IfOk, IfSome, IsErrOf};
-ghost use Rattle.mb_edge.specs.Causes.{HasCause, Rose};
-ghost use Rattle.mb_top.specs.Openings.{IsOpened, Tests, Always, EndsAt, HasRoot, RootedTo, SmallAt, LeadsAt, AllLeadToSmall, AllHaveNames, sizes_fit};
+ghost use Rattle.std.specs.Prelude.{◌≡◌, ◌≤◌, ◌≢◌, ◌<◌, Decides, IfOk, IfSome, IsErrOf, None};
+ghost use Rattle.mb_core.specs.Holds.{Right};
+ghost use Rattle.mb_core.specs.State.{seen};
+ghost use Rattle.mb_edge.specs.Causes.{Rose};
+ghost use Rattle.mb_top.specs.Openings.{Tests, Always, EndsAt, HasRoot, RootedTo, SmallAt, LeadsAt, AllLeadToSmall, AllHaveNames};
+ghost use Rattle.mb_top.specs.Reads.{ReadsOn};
+ghost use Rattle.mb_top.specs.Simple.{IsSimple};
+ghost use Rattle.mb_tree.specs.Volume.{HasSizes};
 
 use crate::blocks::{read_block, read_inode};
-use crate::errors::ReadError;
-use crate::findings::Opened;
 use crate::roots::read_root;
-use mb_edge::{Disk, Failed};
+use mb_core::{Core, ReadFault};
+use mb_edge::Disk;
 use mb_layout::{Dinode, Super};
 use mb_tree::{PlainSlot, is_directory, is_regular};
 use std::alloc::Global;
 
-/// Looks through an image: its sizes, its root directory, and all its inodes.
-pub fn open_image<D: Disk>(alloc: Global, disk: &mut D) -> Result<Opened, ReadError>
-    ensures opened { IfOk result (λ opened. IfSome (D.told disk.old) (λ image. IsOpened image opened)) }
-    ensures told { D.told disk.new ≡ D.told disk.old }
-    ensures later { D.faults disk.old ≤ D.faults disk.new }
-    ensures device { IsErrOf result ReadError.Device → Rose (D.faults disk.old) (D.faults disk.new) }
+/// Whether the image, whose sizes are in their ranges, is simple: looks through its root directory and all its inodes.
+/// There is no call in flight, so the core changes nowhere.
+pub fn is_simple<D: Disk>(alloc: Global, core: &mut Core<D>) -> Result<bool, ReadFault>
+    requires fresh { core.old.stand.flight ≡ None }
+    requires right { Right D.told D.faults core.old }
+    ensures tested { IfOk result (λ answer. IfSome (seen D.told core.old) (λ view. HasSizes view → Decides answer (IsSimple view))) }
+    ensures same { core.new ≡ record core.old { disk = core.new.disk; room = core.new.room } }
+    ensures told { D.told core.new.disk ≡ D.told core.old.disk }
+    ensures later { D.faults core.old.disk ≤ D.faults core.new.disk }
+    ensures cause { IsErrOf result ReadFault.Device → Rose (D.faults core.old.disk) (D.faults core.new.disk) }
+    ensures right { Right D.told D.faults core.new }
 {
-    let count = disk.blocks()?;
-    if count < 2 {
-        return Ok(Opened::NoBlocks);
-    }
-    let bytes = read_block(disk, 1)?;
-    let sizes = Super::read(&bytes);
-    if !sizes_fit(&sizes, count) {
-        return Ok(Opened::BadSizes);
-    }
-    let last = 8 * (sizes.s_isize - 2);
-    if !has_small_root(disk)? {
-        return Ok(Opened::NotSimple);
-    }
-    if !all_lead_to_small(alloc, disk, last)? {
-        return Ok(Opened::NotSimple);
-    }
-    if !all_have_names(disk, last)? {
-        return Ok(Opened::NotSimple);
-    }
-    Ok(Opened::Simple)
+    looks_simple(alloc, core)
 }
 
-fn sizes_fit(sizes: &Super, count: u32) -> bool
-    ensures { result ≡ sizes_fit sizes.now count }
+fn looks_simple<D: Disk>(alloc: Global, core: &mut Core<D>) -> Result<bool, ReadFault>
+    requires right { Right D.told D.faults core.old }
+    ensures tested { IfOk result (λ answer. IfSome (seen D.told core.old) (λ view. HasSizes view → Decides answer (IsSimple view))) }
+    ensures reads { ReadsOn D.told D.faults core.old core.new result }
 {
-    let isize = sizes.s_isize;
-    let fsize = sizes.s_fsize;
-    (3 <= isize && isize <= 8193)
-        && (u32::from(isize) < fsize && (fsize <= 262144 && fsize <= count))
+    let bytes = read_block(core, 1)?;
+    let last = 8 * Super::read(&bytes).s_isize.saturating_sub(2).min(8191);
+    if !has_small_root(core)? {
+        return Ok(false);
+    }
+    if !all_lead_to_small(alloc, core, last)? {
+        return Ok(false);
+    }
+    let named = all_have_names(core, last)?;
+    Ok(named)
 }
 
-fn has_small_root<D: Disk>(disk: &mut D) -> Result<bool, Failed>
-    ensures tested { IfOk result (λ answer. Tests (D.told disk.old) Always answer HasRoot) }
-    ensures told { D.told disk.new ≡ D.told disk.old }
-    ensures cause { HasCause (D.faults disk.old) (D.faults disk.new) result }
+fn has_small_root<D: Disk>(core: &mut Core<D>) -> Result<bool, ReadFault>
+    ensures tested { IfOk result (λ answer. Tests (seen D.told core.old) Always answer HasRoot) }
+    ensures reads { ReadsOn D.told D.faults core.old core.new result }
 {
-    let root = read_inode(disk, 2)?;
+    let root = read_inode(core, 2)?;
     let small = root.size % 16 == 0 && (32 <= root.size && root.size <= 5120);
     Ok(is_directory(root.mode) && small)
 }
 
-fn is_small_file<D: Disk>(disk: &mut D, ino: u16, last: u16) -> Result<bool, Failed>
-    ensures tested { IfOk result (λ answer. Tests (D.told disk.old) (EndsAt last) answer (SmallAt ino)) }
-    ensures told { D.told disk.new ≡ D.told disk.old }
-    ensures cause { HasCause (D.faults disk.old) (D.faults disk.new) result }
+fn is_small_file<D: Disk>(core: &mut Core<D>, ino: u16, last: u16) -> Result<bool, ReadFault>
+    requires right { Right D.told D.faults core.old }
+    ensures tested { IfOk result (λ answer. Tests (seen D.told core.old) (EndsAt last) answer (SmallAt ino)) }
+    ensures reads { ReadsOn D.told D.faults core.old core.new result }
 {
     if ino < 3 || last < ino {
         return Ok(false);
     }
-    let inode = read_inode(disk, ino)?;
+    let inode = read_inode(core, ino)?;
     Ok(is_regular(inode.mode) && inode.size <= 5120)
 }
 
 // The first two slots, `.` and `..`, and empty ones may lead anywhere.
 fn leads_to_small<D: Disk>(
-    disk: &mut D,
+    core: &mut Core<D>,
     at: usize,
     slot: &PlainSlot,
     last: u16,
-) -> Result<bool, Failed>
-    ensures tested { IfOk result (λ answer. Tests (D.told disk.old) (EndsAt last) answer (LeadsAt at slot.now)) }
-    ensures told { D.told disk.new ≡ D.told disk.old }
-    ensures cause { HasCause (D.faults disk.old) (D.faults disk.new) result }
+) -> Result<bool, ReadFault>
+    requires right { Right D.told D.faults core.old }
+    ensures tested { IfOk result (λ answer. Tests (seen D.told core.old) (EndsAt last) answer (LeadsAt at slot.now)) }
+    ensures reads { ReadsOn D.told D.faults core.old core.new result }
 {
     if at < 2 || slot.ino == 0 {
         return Ok(true);
     }
-    let small = is_small_file(disk, slot.ino, last)?;
-    Ok(small)
+    is_small_file(core, slot.ino, last)
 }
 
-fn all_lead_to_small<D: Disk>(alloc: Global, disk: &mut D, last: u16) -> Result<bool, ReadError>
-    ensures tested { IfOk result (λ answer. Tests (D.told disk.old) (RootedTo last) answer AllLeadToSmall) }
-    ensures told { D.told disk.new ≡ D.told disk.old }
-    ensures later { D.faults disk.old ≤ D.faults disk.new }
-    ensures device { IsErrOf result ReadError.Device → Rose (D.faults disk.old) (D.faults disk.new) }
+fn all_lead_to_small<D: Disk>(
+    alloc: Global,
+    core: &mut Core<D>,
+    last: u16,
+) -> Result<bool, ReadFault>
+    ensures tested { IfOk result (λ answer. Tests (seen D.told core.old) (RootedTo last) answer AllLeadToSmall) }
+    ensures reads { ReadsOn D.told D.faults core.old core.new result }
 {
-    let slots = read_root(alloc, disk)?;
+    let slots = read_root(alloc, core)?;
     let all = slots.as_slice();
     for (at, slot) in all.iter().enumerate() {
-        if !leads_to_small(disk, at, slot, last)? {
+        if !leads_to_small(core, at, slot, last)? {
             return Ok(false);
         }
     }
@@ -111,14 +109,14 @@ fn lacks_name(inode: &Dinode) -> bool
     inode.mode != 0 && inode.nlink == 0
 }
 
-fn all_have_names<D: Disk>(disk: &mut D, last: u16) -> Result<bool, Failed>
-    requires { last < 65535 }
-    ensures tested { IfOk result (λ answer. Tests (D.told disk.old) (EndsAt last) answer AllHaveNames) }
-    ensures told { D.told disk.new ≡ D.told disk.old }
-    ensures cause { HasCause (D.faults disk.old) (D.faults disk.new) result }
+fn all_have_names<D: Disk>(core: &mut Core<D>, last: u16) -> Result<bool, ReadFault>
+    requires last { last < 65535 }
+    requires right { Right D.told D.faults core.old }
+    ensures tested { IfOk result (λ answer. Tests (seen D.told core.old) (EndsAt last) answer AllHaveNames) }
+    ensures reads { ReadsOn D.told D.faults core.old core.new result }
 {
     for ino in 2..last + 1 {
-        let inode = read_inode(disk, ino)?;
+        let inode = read_inode(core, ino)?;
         if lacks_name(&inode) {
             return Ok(false);
         }

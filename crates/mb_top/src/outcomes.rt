@@ -24,6 +24,9 @@ pub enum Outcome {
     ImageNotBuilt,
     /// There was no memory.
     OutOfMemory,
+    /// The job was run, and the disk failed in the end of the run; the text is its transcript and the line of the
+    /// fault.
+    Unsettled(Text),
     /// The job was run; the text is its transcript with the last line.
     Ran(Text),
 }

@@ -1,12 +1,14 @@
-ghost use Rattle.std.specs.Prelude.{◌≡◌, ◌≤◌, ◌++◌, ◌/◌, IfOk, OnOk, IfSome, IsErrOf, map, min};
+ghost use Rattle.std.specs.Prelude.{◌≡◌, ◌≤◌, ◌++◌, ◌/◌, IfOk, OnOk, IfSome, map, min};
 ghost use Rattle.std.specs.List.{range_with_len};
-ghost use Rattle.mb_edge.specs.Causes.{Rose};
+ghost use Rattle.mb_core.specs.Holds.{Right};
+ghost use Rattle.mb_core.specs.State.{seen};
 ghost use Rattle.mb_top.specs.Contents.{direct_part, slots_in};
+ghost use Rattle.mb_top.specs.Reads.{ReadsOn};
 ghost use Rattle.mb_top.specs.Simple.{HasSmallRoot, root_slots};
 ghost use Rattle.mb_tree.specs.Blocks.{slot_of};
 
 use crate::blocks::{read_inode, read_part};
-use crate::errors::ReadError;
+use mb_core::{Core, ReadFault};
 use mb_edge::Disk;
 use mb_kinds::Seq;
 use mb_layout::{Dinode, Slot};
@@ -16,13 +18,12 @@ use std::alloc::{AllocError, Global};
 /// The slots of a directory that stand in its first 5120 bytes, empty ones among them (V7 dir(5)).
 pub fn read_slots<D: Disk>(
     alloc: Global,
-    disk: &mut D,
+    core: &mut Core<D>,
     inode: &Dinode,
-) -> Result<PlainSlots, ReadError>
-    ensures slots { IfOk result (λ slots. IfSome (D.told disk.old) (λ image. slots ≡ slots_in (direct_part image.at inode.now) (min inode.now.size 5120 / 16))) }
-    ensures told { D.told disk.new ≡ D.told disk.old }
-    ensures later { D.faults disk.old ≤ D.faults disk.new }
-    ensures device { IsErrOf result ReadError.Device → Rose (D.faults disk.old) (D.faults disk.new) }
+) -> Result<PlainSlots, ReadFault>
+    requires right { Right D.told D.faults core.old }
+    ensures slots { IfOk result (λ slots. IfSome (seen D.told core.old) (λ view. slots ≡ slots_in (direct_part view.at inode.now) (min inode.now.size 5120 / 16))) }
+    ensures reads { ReadsOn D.told D.faults core.old core.new result }
 {
     let count = inode.size.min(5120) / 16;
     let mut slots = Seq::new(alloc);
@@ -31,8 +32,13 @@ pub fn read_slots<D: Disk>(
         if count <= from {
             return Ok(slots);
         }
-        let bytes = read_part(disk, inode, part)?;
-        push_slots(&mut slots, &bytes, (count - from).min(32) as u8)?;
+        let bytes = match read_part(core, inode, part) {
+            Ok(bytes) => bytes,
+            Err(fault) => return Err(fault),
+        };
+        let Ok(()) = push_slots(&mut slots, &bytes, (count - from).min(32) as u8) else {
+            return Err(ReadFault::NoMemory);
+        };
     }
     Ok(slots)
 }
@@ -50,13 +56,13 @@ fn push_slots(slots: &mut PlainSlots, bytes: &[u8; 512], count: u8) -> Result<()
 }
 
 /// The slots of the root directory, inode 2. Of a simple image these are all its slots.
-pub fn read_root<D: Disk>(alloc: Global, disk: &mut D) -> Result<PlainSlots, ReadError>
-    ensures slots { IfOk result (λ slots. IfSome (D.told disk.old) (λ image. HasSmallRoot image.at → slots ≡ root_slots image.at)) }
-    ensures told { D.told disk.new ≡ D.told disk.old }
-    ensures later { D.faults disk.old ≤ D.faults disk.new }
-    ensures device { IsErrOf result ReadError.Device → Rose (D.faults disk.old) (D.faults disk.new) }
+pub fn read_root<D: Disk>(alloc: Global, core: &mut Core<D>) -> Result<PlainSlots, ReadFault>
+    ensures slots { IfOk result (λ slots. IfSome (seen D.told core.old) (λ view. HasSmallRoot view.at → slots ≡ root_slots view.at)) }
+    ensures reads { ReadsOn D.told D.faults core.old core.new result }
 {
-    let root = read_inode(disk, 2)?;
-    let slots = read_slots(alloc, disk, &root)?;
-    Ok(slots)
+    let root = match read_inode(core, 2) {
+        Ok(root) => root,
+        Err(fault) => return Err(fault),
+    };
+    read_slots(alloc, core, &root)
 }

@@ -5,24 +5,27 @@ use mb_edge::{Bytes, Fails, MemDisk, MemSink, MemSource};
 use std::alloc::{AllocError, Global};
 use std::test::Fail;
 
-// What a run ended with: its status and what it printed.
+// What a run ended with: its status, what it printed, and the image that it left.
 #[derive(Drop)]
-struct End {
-    status: u8,
-    printed: Vec<u8>,
+pub struct End {
+    pub status: u8,
+    pub printed: Vec<u8>,
+    pub image: Vec<u8>,
 }
 
-// Which call of each of the outside fails, none where it is 0.
+// Which call of each of the outside fails, none where it is 0; of the disk, which read and which write.
 #[derive(Clone, Copy, Drop)]
-struct Failing {
-    source: u64,
-    disk: u64,
-    sink: u64,
+pub struct Failing {
+    pub source: u64,
+    pub disk: u64,
+    pub writes: u64,
+    pub sink: u64,
 }
 
-const NOTHING_FAILS: Failing = Failing {
+pub const NOTHING_FAILS: Failing = Failing {
     source: 0,
     disk: 0,
+    writes: 0,
     sink: 0,
 };
 
@@ -33,7 +36,7 @@ fn put(image: &mut [u8], at: usize, bytes: &[u8]) {
 }
 
 // A volume of 100 blocks and 16 inodes with the file `hello` in its root.
-fn hello_volume(alloc: Global) -> Result<Vec<u8>, AllocError> {
+pub fn hello_volume(alloc: Global) -> Result<Vec<u8>, AllocError> {
     let mut image = vec![in alloc; 0; 51200]?;
     // the super-block: the i-list ends at block 4, the volume at block 100, 45 free blocks are listed
     put(&mut image, 512, &[4, 0, 0, 0, 100, 0, 45, 0]);
@@ -68,7 +71,7 @@ fn words(alloc: Global, list: &[&str]) -> Result<Words, AllocError> {
     Ok(Words::from_vec(words))
 }
 
-fn run(
+pub fn run(
     alloc: Global,
     list: &[&str],
     image: Vec<u8>,
@@ -88,7 +91,7 @@ fn run(
         100,
         fails(alloc, 0)?,
         fails(alloc, failing.disk)?,
-        fails(alloc, 0)?,
+        fails(alloc, failing.writes)?,
     ) else {
         return Err(AllocError);
     };
@@ -97,10 +100,11 @@ fn run(
     };
     let words = words(alloc, list)?;
     let Finish { status, held } = membrane(alloc, &words, &mut source, disk, &mut sink);
-    let _disk = held.into_disk();
+    let disk = held.into_disk();
     Ok(End {
         status,
         printed: sink.taken().to_vec(alloc)?,
+        image: disk.bytes().to_vec(alloc)?,
     })
 }
 
@@ -185,7 +189,12 @@ fn a_fault_of_the_outside_is_told(rt: HostRuntime) -> Result<(), Fail> {
             &["run", "v"],
             hello_volume(rt.alloc())?,
             HELLO_JOB,
-            Failing { source, disk, sink },
+            Failing {
+                source,
+                disk,
+                writes: 0,
+                sink,
+            },
         )?;
         assert_eq!(rt; end.status, status);
         assert_eq!(rt; end.printed.as_slice(), printed);
@@ -193,7 +202,7 @@ fn a_fault_of_the_outside_is_told(rt: HostRuntime) -> Result<(), Fail> {
     Ok(())
 }
 
-// The 20 reads before are those of the opening.
+// The 21 reads before are those of the opening.
 #[test]
 fn a_call_that_the_disk_fails_changes_nothing(rt: HostRuntime) -> Result<(), Fail> {
     let job = b"calls = [\"a open /hello r\", \"a open /hello r\"]";
@@ -204,7 +213,8 @@ fn a_call_that_the_disk_fails_changes_nothing(rt: HostRuntime) -> Result<(), Fai
         job,
         Failing {
             source: 0,
-            disk: 21,
+            disk: 22,
+            writes: 0,
             sink: 0,
         },
     )?;

@@ -1,5 +1,6 @@
-use Rattle.std.proofs.Common.{◌≡◌, refl, ◌∙◌, arith, length, ap}
+use Rattle.std.proofs.Common.{◌≡◌, arith, length, ap}
 use Rattle.mb_top.proofs.ContentLemmas.{bytes_begin, bytes_go_on, bytes_end, longer}
+use Rattle.mb_top.proofs.ReadLemmas.{seen_same, stays, stays_on}
 use Rattle.mb_top.proofs.files.read_bytes.Goals as goal
 
 pub parts-init : goal.parts-init
@@ -8,18 +9,16 @@ parts-init g c = record {
   so_far = bytes_begin _ c.args.inode.now _ c.args.offset c.new-bytes.ensures.items;
   size = let none : length c.new-bytes.result.items ≡ 0 = ap length c.new-bytes.ensures.items in omega arith;
   upto = omega arith;
-  told = refl;
-  later = omega arith;
+  stays = stays _ _ _ c.requires.right;
 }
 
 pub parts-preserved : goal.parts-preserved
 parts-preserved g c = record {
   from = omega arith;
-  so_far = bytes_go_on _ _ c.args.inode.now _ _ c.in_ok-part.part c.args.offset c.parts.at _ c.parts.invariant.told c.parts.invariant.from c.parts.invariant.so_far c.in_ok-part.ensures.bytes c.in_ok-part.ensures.size (omega arith) c.in_ok-extend_from_slice.ensures.items;
-  size = longer _ _ c.in_ok-part.part c.args.offset c.parts.at _ c.parts.invariant.from c.parts.invariant.size c.in_ok-part.ensures.size (omega arith) c.in_ok-extend_from_slice.ensures.items;
+  so_far = bytes_go_on _ _ c.args.inode.now _ _ c.in-Ok.part c.args.offset c.parts.at _ (seen_same _ _ _ _ c.parts.invariant.stays) c.parts.invariant.from c.parts.invariant.so_far c.in-Ok.ensures.bytes c.in-Ok.ensures.size (omega arith) c.in-Ok-extend_from_slice.ensures.items;
+  size = longer _ _ c.in-Ok.part c.args.offset c.parts.at _ c.parts.invariant.from c.parts.invariant.size c.in-Ok.ensures.size (omega arith) c.in-Ok-extend_from_slice.ensures.items;
   upto = omega arith;
-  told = c.in_ok-part.ensures.told ∙ c.parts.invariant.told;
-  later = omega (arith, c.in_ok-part.ensures.cause.later);
+  stays = stays_on _ _ _ _ _ c.parts.invariant.stays c.in-Ok.ensures.reads;
 }
 
 pub from_vec-requires : goal.from_vec-requires
