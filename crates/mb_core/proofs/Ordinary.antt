@@ -13,7 +13,7 @@ use Rattle.mb_tree.specs.Lookup.{find_path}
 use Rattle.mb_tree.specs.Rows.{plan}
 use Rattle.mb_tree.specs.Sessions.{changed, closed, counts, doubled, free_place, has_place, held_by, held_in, inos_of, moved, opened, with_change}
 use Rattle.mb_tree.specs.declared.machines.Machine.{Machine}
-use Rattle.mb_tree.specs.declared.plans.Plan.{Plan}
+use Rattle.mb_tree.specs.declared.plans.CallPlan.{CallPlan}
 use Rattle.mb_tree.specs.declared.seats.PlainFile.{PlainFile}
 use Rattle.mb_tree.specs.declared.seats.Seat.{Seat}
 use Rattle.mb_tree.specs.declared.seats.SessionChange.{SessionChange}
@@ -103,7 +103,7 @@ module _ (seat : Seat) (ordinary : IsOrdinary seat) where
 -- ---- the plan of a call
 
 module _ (machine : Machine) (caller : ℕ) (moment : ℕ) (pick : Option ℕ) (valid : IsValidFor machine caller) (ordinary : AreOrdinary machine.seats) where
-  abbrev Is : Seat → Call → Plan → Type 0
+  abbrev Is : Seat → Call → CallPlan → Type 0
   Is seat asked planned = Outcome machine.tree.nodes machine.seats seat moment pick asked planned
 
   module _ (seat : Seat) (at : slice_get machine.seats caller ≡ Some seat) where
@@ -112,7 +112,7 @@ module _ (machine : Machine) (caller : ℕ) (moment : ℕ) (pick : Option ℕ) (
         let leads = path_ok machine.tree.nodes seat.cred seat.cwd path stat found in
         walk_apart machine.tree valid.tree seat.cred _ _ stat.ino (start_apart machine.tree valid.tree seat.cwd path (no_first machine.tree valid.tree seat.cwd (valid.seat seat at).cwd)) leads.0
 
-    opens_named : (asked : Call) (planned : Plan) → IfSome planned.op IsLoggable → Is seat asked planned → OpensNamed planned.session
+    opens_named : (asked : Call) (planned : CallPlan) → IfSome planned.op IsLoggable → Is seat asked planned → OpensNamed planned.session
     opens_named _ _ logged (answered asked answer) = tt
     opens_named _ _ logged (opening path how stat fd found fits plain free) = found_apart path stat found
     opens_named _ _ logged (emptied path mode ino stat fd found regular plain free) = absurd logged
@@ -144,10 +144,10 @@ module _ (machine : Machine) (caller : ℕ) (moment : ℕ) (pick : Option ℕ) (
     all_released inos are =
         not_among inos (ap (count_by (nat_eq 1)) (sym are) ∙ clear_count machine.tree.nodes seat (valid.seat seat at) 1 ∙ none_held seat (ordinary caller seat at))
 
-    abbrev CanRedo : Plan → Type 0
+    abbrev CanRedo : CallPlan → Type 0
     CanRedo planned = IfSome planned.op (IsRedoable (core.held_by machine))
 
-    redoes : (few : (ino : ℕ) → counts machine.seats ino ≤ 17) (brief : moment < 4294967296) (asked : Call) (planned : Plan) → Is seat asked planned → CanRedo planned
+    redoes : (few : (ino : ℕ) → counts machine.seats ino ≤ 17) (brief : moment < 4294967296) (asked : Call) (planned : CallPlan) → Is seat asked planned → CanRedo planned
     redoes few brief _ _ (answered asked answer) = tt
     redoes few brief _ _ (opening path how stat fd found fits plain free) = omega (arith, few stat.ino)
     redoes few brief _ _ (emptied path mode ino stat fd found regular plain free) = tt
@@ -171,7 +171,7 @@ module _ (machine : Machine) (caller : ℕ) (moment : ℕ) (pick : Option ℕ) (
     redoes few brief _ _ (left_open ino inos h) = all_released (ino ∷ inos) h
 
   -- the sessions after a call whose operation is logged
-  pub stays_ordinary : (asked : Call) (planned : Plan) → plan machine caller asked moment pick ≡ Ok planned → IfSome planned.op IsLoggable → AreOrdinary (with_change machine.seats caller planned.session)
+  pub stays_ordinary : (asked : Call) (planned : CallPlan) → plan machine caller asked moment pick ≡ Ok planned → IfSome planned.op IsLoggable → AreOrdinary (with_change machine.seats caller planned.session)
   stays_ordinary asked planned plans logged =
       let out = outcome machine caller asked moment pick planned plans in
       let seats : with_change machine.seats caller planned.session ≡ slice_set machine.seats caller (changed out.0 planned.session) =
@@ -181,6 +181,6 @@ module _ (machine : Machine) (caller : ℕ) (moment : ℕ) (pick : Option ℕ) (
       (λ other seat apart at. ordinary other seat at))
 
   -- the operation of a plan can be done again
-  pub can_redo : (asked : Call) (planned : Plan) → plan machine caller asked moment pick ≡ Ok planned → ((ino : ℕ) → counts machine.seats ino ≤ 17) → moment < 4294967296
+  pub can_redo : (asked : Call) (planned : CallPlan) → plan machine caller asked moment pick ≡ Ok planned → ((ino : ℕ) → counts machine.seats ino ≤ 17) → moment < 4294967296
       → IfSome planned.op (IsRedoable (core.held_by machine))
   can_redo asked planned plans few brief = let out = outcome machine caller asked moment pick planned plans in redoes out.0 out.1 few brief asked planned out.2

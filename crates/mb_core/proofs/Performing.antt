@@ -7,7 +7,7 @@ use Rattle.mb_kinds.specs.declared.errors.Errno.{Errno}
 use Rattle.mb_kinds.specs.declared.replies.Reply.{Reply}
 use Rattle.mb_kinds.specs.declared.replies.Reply.TheVariants.{Num, Got, Info, Refused, Restart, Device, Failed}
 use Rattle.mb_tree.specs.Answers.{Answer, ◌>>=◌}
-use Rattle.mb_tree.specs.Effect.{Held}
+use Rattle.mb_tree.specs.Effect.{TreeAndOpens}
 use Rattle.mb_tree.specs.History.{IsStep, Runs, past_reply, stepped}
 use Rattle.mb_tree.specs.Machines.{IsValid}
 use Rattle.mb_tree.specs.Rows.{plan}
@@ -19,7 +19,7 @@ use Rattle.mb_tree.specs.Volume.{IsVolume}
 use Rattle.mb_tree.specs.declared.machines.Machine.{Machine}
 use Rattle.mb_tree.specs.declared.operations.FsOp.{FsOp}
 use Rattle.mb_tree.specs.declared.operations.FsOp.TheVariants.{Create, Empty, MakeDir, RemoveDir, Enlink, Delink, Put, SetMode, SetOwner, SetTimes, Hold, Release}
-use Rattle.mb_tree.specs.declared.plans.Plan.{Plan}
+use Rattle.mb_tree.specs.declared.plans.CallPlan.{CallPlan}
 use Rattle.mb_tree.specs.declared.seats.Seat.{Seat}
 use Rattle.mb_tree.specs.declared.seats.SessionChange.TheVariants.{Same}
 use Rattle.mb_tree.proofs.Always.{same_ok}
@@ -77,7 +77,7 @@ past_plain now next (Failed faults) plain = absurd plain
 -- ---- operations
 
 -- an operation that is logged is quiet, or releases open files
-loggable_kinds : (held : Held) (op : Option FsOp) → IfSome op IsLoggable → IfSome op (IsRedoable held) → IsQuietPlan op ⊎ ((inos : List ℕ) × (op ≡ Some (Release inos)))
+loggable_kinds : (held : TreeAndOpens) (op : Option FsOp) → IfSome op IsLoggable → IfSome op (IsRedoable held) → IsQuietPlan op ⊎ ((inos : List ℕ) × (op ≡ Some (Release inos)))
 loggable_kinds held None logged redo = inl tt
 loggable_kinds held (Some (SetMode ino mode moment)) logged redo = inl redo.1
 loggable_kinds held (Some (Hold ino)) logged redo = inl tt
@@ -93,16 +93,16 @@ loggable_kinds held (Some (SetOwner ino uid gid moment)) logged redo = absurd lo
 loggable_kinds held (Some (SetTimes ino atime mtime moment)) logged redo = absurd logged
 
 -- the effect of one operation, or of none, as that of a list
-effect_list : (held next : Held) (op : Option FsOp) (pick : Option ℕ) → effect_of held.tree held.opens op pick ≡ Ok next → effects held (logged_op op pick) ≡ Some next
+effect_list : (held next : TreeAndOpens) (op : Option FsOp) (pick : Option ℕ) → effect_of held.tree held.opens op pick ≡ Ok next → effects held (logged_op op pick) ≡ Some next
 effect_list held next None pick is = ap if_done is
 effect_list held next (Some op) pick is = ap (λ r. option_and_then (λ last. Some last) (if_done r)) is
 
-redoable_list : (held : Held) (op : Option FsOp) (pick : Option ℕ) → IfSome op (IsRedoable held) → AreRedoable held (logged_op op pick)
+redoable_list : (held : TreeAndOpens) (op : Option FsOp) (pick : Option ℕ) → IfSome op (IsRedoable held) → AreRedoable held (logged_op op pick)
 redoable_list held None pick redo = tt
-redoable_list held (Some op) pick redo = (redo, elim (redone held (record { op = op; pick = pick })) as (λ (o : Option Held). IfSome o (λ next. Unit {0})) [ None ↦ tt | Some next ↦ tt ])
+redoable_list held (Some op) pick redo = (redo, elim (redone held (record { op = op; pick = pick })) as (λ (o : Option TreeAndOpens). IfSome o (λ next. Unit {0})) [ None ↦ tt | Some next ↦ tt ])
 
-names_if : (now : Machine) (op : Option FsOp) (pick : Option ℕ) (next : Held) → IfSome op IsLoggable → effect_of now.tree (counts now.seats) op pick ≡ Ok next → HasNames now.tree → HasNames next.tree
-names_if now None pick next logged is names = subst HasNames (ap (λ (held : Held). held.tree) (same_ok (held_by now) next is)) names
+names_if : (now : Machine) (op : Option FsOp) (pick : Option ℕ) (next : TreeAndOpens) → IfSome op IsLoggable → effect_of now.tree (counts now.seats) op pick ≡ Ok next → HasNames now.tree → HasNames next.tree
+names_if now None pick next logged is names = subst HasNames (ap (λ (held : TreeAndOpens). held.tree) (same_ok (held_by now) next is)) names
 names_if now (Some op) pick next logged is names = names_kept now.tree (counts now.seats) op pick next.tree logged (acted now.tree (counts now.seats) op pick next is) names
 
 opens_are : (opens : Counts) (op : Option FsOp) (pick : Option ℕ) → held_after opens op pick ≡ opens_of opens op pick
@@ -135,16 +135,16 @@ module _ (now : Machine) (flight : Flight) (ready : Ready) (view : Image) where
   entry = entry_for flight ready.pick ready.reply
 
   -- the machine after it
-  abbrev pub moved_to : Held → Machine
+  abbrev pub moved_to : TreeAndOpens → Machine
   moved_to held = record { tree = held.tree; seats = with_change now.seats 0 ready.session }
 
-  abbrev planned : Plan
+  abbrev planned : CallPlan
   planned = record { reply = ready.reply; op = ready.op; session = ready.session }
 
   served_by : (by : IsServedBy view now flight ready) → serve now 0 flight.call flight.moment ready.pick ≡ Ok (ready.reply, moved_to by.held)
   served_by by =
-      ap (λ (r : Answer Plan). r >>= (λ (found : Plan). effect_of now.tree (counts now.seats) found.op ready.pick >>= (λ (held : Held). Ok (found.reply, record { tree = held.tree; seats = with_change now.seats 0 found.session })))) by.planned
-      ∙ ap (λ (r : Answer Held). r >>= (λ (held : Held). Ok (ready.reply, moved_to held))) by.effect
+      ap (λ (r : Answer CallPlan). r >>= (λ (found : CallPlan). effect_of now.tree (counts now.seats) found.op ready.pick >>= (λ (held : TreeAndOpens). Ok (found.reply, record { tree = held.tree; seats = with_change now.seats 0 found.session })))) by.planned
+      ∙ ap (λ (r : Answer TreeAndOpens). r >>= (λ (held : TreeAndOpens). Ok (ready.reply, moved_to held))) by.effect
 
   step_of : (reply : Reply) (next : Machine) → serve now 0 flight.call flight.moment ready.pick ≡ Ok (reply, next) → step now 0 flight.call flight.moment ready.pick ≡ (reply, next)
   step_of reply next is = ap (or_refused now) is
@@ -168,7 +168,7 @@ module _ (now : Machine) (flight : Flight) (ready : Ready) (view : Image) where
         record {
           runs = runs_plain now entry ready.reply plain (step_is (moved_to by.held) steps);
           leads = leads_to (moved_to by.held) steps;
-          operation = op_done now entry ready.reply done ∙ ap (λ (r : Answer Plan). planned_op r ready.pick) by.planned;
+          operation = op_done now entry ready.reply done ∙ ap (λ (r : Answer CallPlan). planned_op r ready.pick) by.planned;
           effect = effect_list (held_by now) by.held ready.op ready.pick by.effect ∙ ap (λ opens. Some (record { tree = by.held.tree; opens = opens })) (sym follow);
           redoable = redoable_list (held_by now) ready.op ready.pick redo;
           valid = elim (loggable_kinds (held_by now) ready.op loggable redo) [

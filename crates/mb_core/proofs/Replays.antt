@@ -6,7 +6,7 @@ use Rattle.mb_kinds.specs.Image.{Image}
 use Rattle.mb_edge.specs.Damage.{OpenCounts}
 use Rattle.mb_word.specs.Fields.{inode_block, isize_of}
 use Rattle.mb_layout.proofs.InodeOrder.{inode_in_list}
-use Rattle.mb_tree.specs.Effect.{Held, hold, less_open, release, set_mode}
+use Rattle.mb_tree.specs.Effect.{TreeAndOpens, hold, less_open, release, set_mode}
 use Rattle.mb_tree.specs.History.{after_first}
 use Rattle.mb_tree.specs.Sessions.{counts}
 use Rattle.mb_tree.specs.Trees.{IsThere}
@@ -43,9 +43,9 @@ mode_put view tree ino mode moment volume there =
     let count : view.count ≡ max view.count (inode_block ino + 1) = omega (arith, low, some, present) in
     ap (λ n. record view { count = n; at = replaced view.at (inode_block ino) (mode_set (view.at (inode_block ino)) ino mode moment) }) count
 
-module _ (before : Tree) (first view : Image) (opens : OpenCounts) (made : Held) (held : IsHeldBy before first view opens made) (names : HasNames made.tree) where
+module _ (before : Tree) (first view : Image) (opens : OpenCounts) (made : TreeAndOpens) (held : IsHeldBy before first view opens made) (names : HasNames made.tree) where
   -- one operation done again
-  abbrev Redone : FsOp → Held → Type 0
+  abbrev Redone : FsOp → TreeAndOpens → Type 0
   Redone op next = IsHeldBy before first (redone_view view op) (counted opens op) next
 
   mode_redone : (ino mode moment : ℕ) → IsThere made.tree.nodes ino → mode < 4096 → moment < 4294967296 → Redone (SetMode ino mode moment) (record { tree = set_mode made.tree ino mode moment; opens = made.opens })
@@ -73,7 +73,7 @@ module _ (before : Tree) (first view : Image) (opens : OpenCounts) (made : Held)
 
   -- what one operation leaves
   record IsRedone (op : FsOp) (pick : Option ℕ) : Type 0 where
-    next : Held
+    next : TreeAndOpens
     leads : redone made (record { op = op; pick = pick }) ≡ Some next
     holds : Redone op next
     named : HasNames next.tree
@@ -107,16 +107,16 @@ module _ (before : Tree) (first view : Image) (opens : OpenCounts) (made : Held)
   redo (SetOwner ino uid gid moment) pick loggable can = absurd loggable
   redo (SetTimes ino atime mtime moment) pick loggable can = absurd loggable
 
-module _ (before : Tree) (first : Image) (last : Held) where
+module _ (before : Tree) (first : Image) (last : TreeAndOpens) where
   -- all of them done again
-  pub replayed : (oplog : List Logged) (view : Image) (opens : OpenCounts) (made : Held) → IsHeldBy before first view opens made → HasNames made.tree → AreRedoable made oplog
+  pub replayed : (oplog : List Logged) (view : Image) (opens : OpenCounts) (made : TreeAndOpens) → IsHeldBy before first view opens made → HasNames made.tree → AreRedoable made oplog
       → All (λ (logged : Logged). IsLoggable logged.op) oplog → effects made oplog ≡ Some last → IsHeldBy before first (replayed_view view oplog) (replayed_opens opens oplog) last
   replayed [] view opens made held names redoable loggable whole = subst (IsHeldBy before first view opens) (same_held made last whole) held
   replayed (logged ∷ later) view opens made held names redoable loggable whole =
       let one = redo before first view opens made held names logged.op logged.pick (All-head (λ (other : Logged). IsLoggable other.op) logged later loggable) redoable.0 in
       let rest = All-tail (λ (other : Logged). IsLoggable other.op) logged later loggable in
-      let still : AreRedoable one.next later = subst (λ (o : Option Held). IfSome o (λ next. AreRedoable next later)) one.leads redoable.1 in
-      let on : effects one.next later ≡ Some last = sym (ap (λ (o : Option Held). option_and_then (λ next. effects next later) o) one.leads) ∙ whole in
+      let still : AreRedoable one.next later = subst (λ (o : Option TreeAndOpens). IfSome o (λ next. AreRedoable next later)) one.leads redoable.1 in
+      let on : effects one.next later ≡ Some last = sym (ap (λ (o : Option TreeAndOpens). option_and_then (λ next. effects next later) o) one.leads) ∙ whole in
       replayed later (redone_view view logged.op) (counted opens logged.op) one.next one.holds one.named still rest on
 
 -- the checkpoint is the volume of no operation, with the open files of the saved sessions

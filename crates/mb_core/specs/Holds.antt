@@ -9,7 +9,7 @@ use Rattle.mb_kinds.specs.declared.entries.Stand.{Stand}
 use Rattle.mb_kinds.specs.declared.faults.Ticket.{Ticket}
 use Rattle.mb_kinds.specs.declared.replies.Reply.{Reply}
 use Rattle.mb_edge.specs.Damage.{OpenCounts}
-use Rattle.mb_tree.specs.Effect.{Held}
+use Rattle.mb_tree.specs.Effect.{TreeAndOpens}
 use Rattle.mb_tree.specs.History.{Legal, after, after_first}
 use Rattle.mb_tree.specs.Machines.{IsValid}
 use Rattle.mb_tree.specs.Opening.{opening}
@@ -39,7 +39,7 @@ abbrev pub HasNames : Tree → Type 0
 HasNames tree = (ino : ℕ) (node : Node) → fin.get tree.nodes ino ≡ Some node → ino ≢ 1 → node.nlink ≢ 0
 
 -- a machine's tree with the counts of its open files
-abbrev pub held_by : Machine → Held
+abbrev pub held_by : Machine → TreeAndOpens
 held_by machine = record { tree = machine.tree; opens = counts machine.seats }
 
 -- no open file of a session is on inode 1, to which no name leads
@@ -75,7 +75,7 @@ pub record ReplaysToNow (machine : Machine) (history : List Entry) (sealed_at : 
   pub redoable : AreRedoable (held_by (after_first machine history sealed_at)) oplog
 
 -- a view is a volume of a tree with that table of open files, and the first image and it agree on what a volume keeps
-pub record IsHeldBy (before : Tree) (first view : Image) (opens : OpenCounts) (held : Held) : Type 0 where
+pub record IsHeldBy (before : Tree) (first view : Image) (opens : OpenCounts) (held : TreeAndOpens) : Type 0 where
   pub volume : IsVolume view held.tree
   pub kept : Kept before first held.tree view
   pub counted : Counts opens held.opens

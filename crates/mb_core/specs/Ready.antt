@@ -6,11 +6,11 @@ use Rattle.mb_kinds.specs.declared.faults.Ticket.{Ticket}
 use Rattle.mb_kinds.specs.declared.errors.Errno.{Errno}
 use Rattle.mb_kinds.specs.declared.replies.Reply.{Reply}
 use Rattle.mb_kinds.specs.declared.replies.Reply.TheVariants.{Num, Got, Info, Refused}
-use Rattle.mb_tree.specs.Effect.{Held}
+use Rattle.mb_tree.specs.Effect.{TreeAndOpens}
 use Rattle.mb_tree.specs.History.{after}
 use Rattle.mb_tree.specs.Opening.{opening}
 use Rattle.mb_tree.specs.Rows.{plan}
-use Rattle.mb_tree.specs.Sessions.{counts, IsReady}
+use Rattle.mb_tree.specs.Sessions.{counts, HasDescriptorInRange}
 use Rattle.mb_tree.specs.Step.{effect_of, serve, IsLawful}
 use Rattle.mb_tree.specs.Views.{Kept}
 use Rattle.mb_tree.specs.Volume.{IsVolume}
@@ -34,7 +34,7 @@ IsPlain _ = ⊥
 -- a call that is served, by its plan and the effect of its operation; what it changes makes a volume of the next tree
 pub record IsServedBy (view : Image) (machine : Machine) (flight : Flight) (ready : Ready) : Type 0 where
   pub planned : plan machine 0 flight.call flight.moment ready.pick ≡ Ok (record { reply = ready.reply; op = ready.op; session = ready.session })
-  pub held : Held
+  pub held : TreeAndOpens
   pub effect : effect_of machine.tree (counts machine.seats) ready.op ready.pick ≡ Ok held
   pub volume : IsVolume (applied view ready.changes) held.tree
   pub kept : Kept machine.tree view held.tree (applied view ready.changes)
@@ -65,6 +65,6 @@ pub record MayFinish {D : Type 0} (told : D → Option Image) (core : CoreState 
   pub unanswered : flight.answered ≡ false
   pub plain : IsPlain ready.reply
   pub loggable : IfSome ready.op IsLoggable
-  pub session : IsReady ready.session
+  pub session : HasDescriptorInRange ready.session
   pub performed : given.incarnation ≡ core.incarnation → (first image : Image) (tree : Tree) → told core.first ≡ Some first → told core.disk ≡ Some image → IsVolume first tree → HasNames tree
       → IsPerformed (under (under image core.sealed) core.current) (after (opening tree core.config.callers) core.history) flight ready

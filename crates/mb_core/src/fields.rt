@@ -2,7 +2,7 @@ ghost use Rattle.std.specs.Prelude.{◌≡◌, ◌∷◌, ◌++◌, ◌+◌, ◌
 ghost use Rattle.mb_edge.specs.Blocks.{IsBlock};
 ghost use Rattle.mb_edge.specs.Causes.{HasCause, Rose};
 ghost use Rattle.mb_edge.specs.Damage.{damaged};
-ghost use Rattle.mb_tree.specs.Sessions.{IsReady};
+ghost use Rattle.mb_tree.specs.Sessions.{HasDescriptorInRange};
 ghost use Rattle.mb_core.specs.Events.{begun_of, ended, ended_by_device, entering, flight_for, leaving, logging, recovery, replays, resumed, sealing, striking, ticket_for, unwound, volatile, waiting};
 ghost use Rattle.mb_core.specs.Journal.{IsLoggable};
 ghost use Rattle.mb_core.specs.Looks.{Flushes};

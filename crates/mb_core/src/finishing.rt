@@ -1,6 +1,6 @@
 ghost use Rattle.std.specs.Prelude.{◌≡◌, ◌∷◌, ◌++◌, ◌+◌, ◌<◌, ◌≤◌, [], ℕ, true, false, length, Option, None, Some, Ok, OnOk, OnErr, IsSome, IfSome};
 ghost use Rattle.mb_kinds.specs.declared.Flight.{Flight};
-ghost use Rattle.mb_tree.specs.Sessions.{IsReady, with_change};
+ghost use Rattle.mb_tree.specs.Sessions.{HasDescriptorInRange, with_change};
 ghost use Rattle.mb_core.specs.Enters.{HasMarks};
 ghost use Rattle.mb_core.specs.Growing.{IsMore};
 ghost use Rattle.mb_core.specs.Events.{entry_for, leaving, logging};
@@ -25,7 +25,7 @@ impl<D: Disk> Fields<D> {
     /// The call in flight gets its entry, where its ticket is of the present incarnation.
     pub fn finish(&mut self, alloc: Global, ticket: &Ticket, ready: Ready) -> Finished
         requires holder { IsTicketOf self.old ticket.now }
-        requires session { IsReady ready.session }
+        requires session { HasDescriptorInRange ready.session }
         ensures finishes { Finishes self.old self.new ticket.now ready result }
         ensures marks { result ≡ Finished.Logged → HasMarks self.new.room }
         ensures seal { result ≡ Finished.Logged → (length self.new.sealed ≤ self.new.room.current) × (4 ≤ self.new.room.trail) }
@@ -47,7 +47,7 @@ impl<D: Disk> Fields<D> {
     // room of a checkpoint is taken too. The only error is want of memory.
     fn log(&mut self, alloc: Global, ticket: &Ticket, ready: Ready) -> Result<(), NoMemory>
         requires flight { IsSome self.old.stand.flight }
-        requires session { IsReady ready.session }
+        requires session { HasDescriptorInRange ready.session }
         ensures ok { OnOk result ((flight : Flight) → self.old.stand.flight ≡ Some flight → self.new ≡ record (logging self.old flight ticket.now ready) { room = self.new.room }) }
         ensures marks { OnOk result (HasMarks self.new.room) }
         ensures seal { OnOk result ((length self.new.sealed ≤ self.new.room.current) × (4 ≤ self.new.room.trail)) }
@@ -95,7 +95,7 @@ impl<D: Disk> Fields<D> {
     // What a finished call changes, but for the table of open files.
     fn commit(&mut self, ticket: &Ticket, ready: Ready, call: Call, reply: Reply)
         requires flight { IsSome self.old.stand.flight }
-        requires session { IsReady ready.session }
+        requires session { HasDescriptorInRange ready.session }
         requires pages { length ready.changes + length self.old.sealed ≤ self.old.room.current }
         requires lists { (1 ≤ self.old.room.oplog) × (2 ≤ self.old.room.history) × (1 ≤ self.old.room.records) × (5 ≤ self.old.room.trail) }
         ensures logged { (flight : Flight) → self.old.stand.flight ≡ Some flight → call ≡ flight.call → reply ≡ ready.reply → self.new ≡ record (logging self.old flight ticket.now ready) { opens = self.old.opens; room = self.new.room } }

@@ -12,7 +12,7 @@ use Rattle.mb_word.specs.Fields.{isize_of, nfree_of, free_of, inode_block, inode
 use Rattle.mb_word.specs.Numbers.{SameFrom}
 use Rattle.mb_word.proofs.Parts.{part_same}
 use Rattle.mb_word.proofs.Values.{long_at-same, addr_at-same}
-use Rattle.mb_tree.specs.Blocks.{entry_in, pointers, bytes_at, part_in, slot_of, slot_in, first_list, list_in, IsFree}
+use Rattle.mb_tree.specs.Blocks.{entry_in, pointers, bytes_at, part_in, slot_of, slot_in, first_list, list_in, IsFreeChain}
 use Rattle.mb_tree.specs.Chain.{Listed, IsChain}
 use Rattle.mb_tree.specs.Cost.{most_parts}
 use Rattle.mb_tree.specs.Places.{Place, Top, Under, at, IsPlace, place_of}
@@ -141,7 +141,7 @@ module _ (image : Image) (tree : Tree) (new : ℕ → List ℕ) (volume : IsVolu
   list_kept : (block : ℕ) → IsOpenToFiles image.at block → list_in image.at block ≡ list_in new block
   list_kept block open_to = ap (λ (bytes : List ℕ). record { count = chain_count bytes; entry = chain_entry bytes }) (sym (frame.beyond block open_to.from))
 
-  chain_front : IsFree image.at volume.chain → IsChain (list_in new) (first_list image.at) volume.chain
+  chain_front : IsFreeChain image.at volume.chain → IsChain (list_in new) (first_list image.at) volume.chain
   chain_front free =
       chain_alike (list_in image.at) (list_in new) (first_list image.at) volume.chain
       (All-weaker (IsOpenToFiles image.at) (λ block. list_in image.at block ≡ list_in new block) list_kept volume.chain volume.spare.in_range) free
@@ -149,12 +149,12 @@ module _ (image : Image) (tree : Tree) (new : ℕ → List ℕ) (volume : IsVolu
   first_kept : first_list image.at ≡ first_list new
   first_kept = ap (λ (bytes : List ℕ). record { count = nfree_of bytes; entry = free_of bytes }) (sym frame.first)
 
-  pub chain_kept : IsFree new volume.chain
+  pub chain_kept : IsFreeChain new volume.chain
   chain_kept = subst (λ (it : Listed). IsChain (list_in new) it volume.chain) first_kept (chain_front volume.spare.listed)
 
   -- and it is the only one
-  pub chain_was : (chain : List ℕ) → IsFree new chain → IsFree image.at chain
-  chain_was chain free = subst (IsFree image.at) (chain_once (list_in new) (first_list new) volume.chain chain chain_kept free) volume.spare.listed
+  pub chain_was : (chain : List ℕ) → IsFreeChain new chain → IsFreeChain image.at chain
+  chain_was chain free = subst (IsFreeChain image.at) (chain_once (list_in new) (first_list new) volume.chain chain chain_kept free) volume.spare.listed
 
-  pub chain_is : (chain : List ℕ) → IsFree image.at chain → IsFree new chain
-  chain_is chain free = subst (IsFree new) (chain_once (list_in image.at) (first_list image.at) volume.chain chain volume.spare.listed free) chain_kept
+  pub chain_is : (chain : List ℕ) → IsFreeChain image.at chain → IsFreeChain new chain
+  chain_is chain free = subst (IsFreeChain new) (chain_once (list_in image.at) (first_list image.at) volume.chain chain volume.spare.listed free) chain_kept

@@ -5,9 +5,9 @@ use Rattle.std.specs.FinMap as fin
 use Rattle.std.specs.Ordering.{nat_cmp}
 use Rattle.mb_kinds.specs.Image.{Image}
 use Rattle.mb_kinds.specs.declared.errors.Errno.{Errno}
-use Rattle.mb_tree.specs.Effect.{Held, effect}
+use Rattle.mb_tree.specs.Effect.{TreeAndOpens, effect}
 use Rattle.mb_tree.specs.Fits.{Fits}
-use Rattle.mb_tree.specs.Step.{IsFree}
+use Rattle.mb_tree.specs.Step.{IsFreeNumber}
 use Rattle.mb_tree.specs.Views.{over, Kept}
 use Rattle.mb_tree.specs.Volume.{IsVolume}
 use Rattle.mb_tree.specs.declared.operations.FsOp.{FsOp}
@@ -33,7 +33,7 @@ makes_inode _ = false
 -- one, as long as there is one
 abbrev pub PicksNumber : Tree → Option ℕ → Option ℕ → Type 0
 PicksNumber tree (Some demanded) picked = picked ≡ Some demanded
-PicksNumber tree None picked = MatchOption picked ((ino : ℕ) → IsFree tree ino → ⊥) (IsFree tree)
+PicksNumber tree None picked = MatchOption picked ((ino : ℕ) → IsFreeNumber tree ino → ⊥) (IsFreeNumber tree)
 
 abbrev pub PicksIf : Bool → Tree → Option ℕ → Option ℕ → Type 0
 PicksIf true tree demanded picked = PicksNumber tree demanded picked
@@ -45,7 +45,7 @@ Picks tree op demanded picked = PicksIf (makes_inode op) tree demanded picked
 -- an operation done
 pub record HasDone (shown : ℕ → Option (List ℕ)) (image : Image) (tree : Tree) (opens : ℕ → ℕ) (op : FsOp) (demanded : Option ℕ) (changes : ChangeList) (picked : Option ℕ) : Type 0 where
   pub picks : Picks tree op demanded picked
-  pub held : Held
+  pub held : TreeAndOpens
   pub effect : effect tree opens op picked ≡ Ok held
   pub volume : IsVolume (with_changes image changes) held.tree
   pub kept : Kept tree image held.tree (with_changes image changes)

@@ -7,7 +7,7 @@ use Rattle.mb_kinds.specs.declared.credentials.Cred.{Cred}
 use Rattle.mb_word.specs.Fields.{isize_of}
 use Rattle.mb_tree.specs.Maps.{Numbered}
 use Rattle.mb_tree.specs.Lookup.{walk, start_of, components, number_in}
-use Rattle.mb_tree.specs.Blocks.{pointers, IsFree}
+use Rattle.mb_tree.specs.Blocks.{pointers, IsFreeChain}
 use Rattle.mb_tree.specs.Places.{Place, at, IsPlace}
 use Rattle.mb_tree.specs.Places.Place.{Top, Under}
 use Rattle.mb_tree.specs.Volume.{has_addresses}
@@ -27,7 +27,7 @@ top_of (Under above place) = top_of above
 pub data IsNear (image : Image) (tree : Tree) (Looks : ℕ → Type 0) (block : ℕ) : Type 0 where
   super_block : block ≡ 1 → IsNear image tree Looks block
   inode_list : 2 ≤ block → block < isize_of (image.at 1) → IsNear image tree Looks block
-  free : (chain : List ℕ) → IsFree image.at chain → Contains chain block → IsNear image tree Looks block
+  free : (chain : List ℕ) → IsFreeChain image.at chain → Contains chain block → IsNear image tree Looks block
   held : (q : Place) → IsPlace (has_addresses tree) q → Looks (top_of q) → at (pointers image.at) q ≡ block → IsNear image tree Looks block
 
 -- an inode on the way of the first components

@@ -9,7 +9,7 @@ use Rattle.mb_kinds.specs.declared.errors.Errno.{Errno}
 use Rattle.mb_kinds.specs.declared.replies.Reply.{Reply}
 use Rattle.mb_kinds.specs.declared.replies.Reply.TheVariants.{Num, Got, Info, Refused, Restart, Device, Failed}
 use Rattle.mb_tree.specs.Answers.{Answer, ◌>>=◌}
-use Rattle.mb_tree.specs.Effect.{Held, hold, less_open, release}
+use Rattle.mb_tree.specs.Effect.{TreeAndOpens, hold, less_open, release}
 use Rattle.mb_tree.specs.Rows.{plan}
 use Rattle.mb_tree.specs.Sessions.{changed, counts}
 use Rattle.mb_tree.specs.Step.{Makes, effect_of, or_refused, serve, step}
@@ -19,7 +19,7 @@ use Rattle.mb_tree.specs.declared.machines.Machine.{Machine}
 use Rattle.mb_tree.specs.declared.nodes.Node.{Node}
 use Rattle.mb_tree.specs.declared.operations.FsOp.{FsOp}
 use Rattle.mb_tree.specs.declared.operations.FsOp.TheVariants.{Hold, Release}
-use Rattle.mb_tree.specs.declared.plans.Plan.{Plan}
+use Rattle.mb_tree.specs.declared.plans.CallPlan.{CallPlan}
 use Rattle.mb_tree.specs.declared.seats.Seat.{Seat}
 use Rattle.mb_tree.specs.declared.seats.SessionChange.{SessionChange}
 use Rattle.mb_tree.specs.declared.seats.SessionChange.TheVariants.{Same}
@@ -58,7 +58,7 @@ module _ (view : Image) (tree : Tree) (seat : Seat) (flight : Flight) (finds : F
       → Comes view (alone tree seat) flight ready
   refused ready e is planned =
       let serves : (pick : Option ℕ) → serve (alone tree seat) 0 flight.call flight.moment pick ≡ Err e = λ pick.
-      ap (λ (r : Answer Plan). r >>= (λ (found : Plan). effect_of tree (counts (seat ∷ [])) found.op pick >>= (λ (held : Held). Ok (found.reply, record { tree = held.tree; seats = changed seat found.session ∷ [] })))) (planned pick) in
+      ap (λ (r : Answer CallPlan). r >>= (λ (found : CallPlan). effect_of tree (counts (seat ∷ [])) found.op pick >>= (λ (held : TreeAndOpens). Ok (found.reply, record { tree = held.tree; seats = changed seat found.session ∷ [] })))) (planned pick) in
       let steps : (pick : Option ℕ) → step (alone tree seat) 0 flight.call flight.moment pick ≡ (Refused e, alone tree seat) = λ pick. ap (or_refused (alone tree seat)) (serves pick) in
       subst (Comes view (alone tree seat) flight) (sym is) (record {
         performed = record {
@@ -71,7 +71,7 @@ module _ (view : Image) (tree : Tree) (seat : Seat) (flight : Flight) (finds : F
       })
 
   -- a call that is served
-  pub served : (reply : Reply) (op : Option FsOp) (changes : PageList) (session : SessionChange) (held : Held) → IsDone reply
+  pub served : (reply : Reply) (op : Option FsOp) (changes : PageList) (session : SessionChange) (held : TreeAndOpens) → IsDone reply
       → ((pick : Option ℕ) → plan (alone tree seat) 0 flight.call flight.moment pick ≡ Ok (record { reply = reply; op = op; session = session }))
       → ((pick : Option ℕ) → effect_of tree (counts (seat ∷ [])) op pick ≡ Ok held)
       → IsVolume (applied view changes) held.tree → Kept tree view held.tree (applied view changes) → IsPlainTree held.tree → IsPlainSeat held.tree.nodes (changed seat session)
@@ -80,8 +80,8 @@ module _ (view : Image) (tree : Tree) (seat : Seat) (flight : Flight) (finds : F
   served reply op changes session held done planned effect volume kept plain session_plain no_more =
       let next : Machine = alone held.tree (changed seat session) in
       let serves : (pick : Option ℕ) → serve (alone tree seat) 0 flight.call flight.moment pick ≡ Ok (reply, next) = λ pick.
-      (ap (λ (r : Answer Plan). r >>= (λ (found : Plan). effect_of tree (counts (seat ∷ [])) found.op pick >>= (λ (made : Held). Ok (found.reply, record { tree = made.tree; seats = changed seat found.session ∷ [] })))) (planned pick)
-      ∙ ap (λ (r : Answer Held). r >>= (λ (made : Held). Ok (reply, record { tree = made.tree; seats = changed seat session ∷ [] }))) (effect pick)) in
+      (ap (λ (r : Answer CallPlan). r >>= (λ (found : CallPlan). effect_of tree (counts (seat ∷ [])) found.op pick >>= (λ (made : TreeAndOpens). Ok (found.reply, record { tree = made.tree; seats = changed seat found.session ∷ [] })))) (planned pick)
+      ∙ ap (λ (r : Answer TreeAndOpens). r >>= (λ (made : TreeAndOpens). Ok (reply, record { tree = made.tree; seats = changed seat session ∷ [] }))) (effect pick)) in
       let steps : (pick : Option ℕ) → step (alone tree seat) 0 flight.call flight.moment pick ≡ (reply, next) = λ pick. ap (or_refused (alone tree seat)) (serves pick) in
       record {
         performed = record {
@@ -94,7 +94,7 @@ module _ (view : Image) (tree : Tree) (seat : Seat) (flight : Flight) (finds : F
       }
 
   -- a call that is served and changes neither a block nor the tree
-  pub same : (ready : Ready) (reply : Reply) (op : Option FsOp) (session : SessionChange) (held : Held) → ready ≡ unchanged reply op session → IsDone reply
+  pub same : (ready : Ready) (reply : Reply) (op : Option FsOp) (session : SessionChange) (held : TreeAndOpens) → ready ≡ unchanged reply op session → IsDone reply
       → ((pick : Option ℕ) → plan (alone tree seat) 0 flight.call flight.moment pick ≡ Ok (record { reply = reply; op = op; session = session }))
       → ((pick : Option ℕ) → effect_of tree (counts (seat ∷ [])) op pick ≡ Ok held) → held.tree ≡ tree → IsPlainSeat tree.nodes (changed seat session)
       → Comes view (alone tree seat) flight ready

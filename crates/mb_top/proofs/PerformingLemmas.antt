@@ -21,7 +21,7 @@ use Rattle.mb_tree.specs.Trees.{IsThere}
 use Rattle.mb_tree.specs.Views.{Kept}
 use Rattle.mb_tree.specs.Volume.{IsVolume}
 use Rattle.mb_tree.specs.declared.operations.FsOp.TheVariants.{Hold, Release, SetMode}
-use Rattle.mb_tree.specs.declared.plans.Plan.{Plan}
+use Rattle.mb_tree.specs.declared.plans.CallPlan.{CallPlan}
 use Rattle.mb_tree.specs.declared.seats.PlainFile.{PlainFile}
 use Rattle.mb_tree.specs.declared.seats.Seat.{Seat}
 use Rattle.mb_tree.specs.declared.seats.SessionChange.TheVariants.{Same, Fresh, Free, Move, Clear}
@@ -45,7 +45,7 @@ pub at_view : (told : Option Image) (view : Image) (P : Image → Type 0) → to
 at_view told view P is holds = subst (λ (o : Option Image). IfSome o P) is holds
 
 -- the plan of a call under another name
-named : (tree : Tree) (seat : Seat) (made other : Call) (moment : ℕ) (planned : Answer Plan) → made ≡ other → ((pick : Option ℕ) → plan (alone tree seat) 0 other moment pick ≡ planned)
+named : (tree : Tree) (seat : Seat) (made other : Call) (moment : ℕ) (planned : Answer CallPlan) → made ≡ other → ((pick : Option ℕ) → plan (alone tree seat) 0 other moment pick ≡ planned)
     → (pick : Option ℕ) → plan (alone tree seat) 0 made moment pick ≡ planned
 named tree seat made other moment planned same is pick = ap (λ (c : Call). plan (alone tree seat) 0 c moment pick) same ∙ is pick
 

@@ -7,7 +7,7 @@ use Rattle.mb_kinds.specs.declared.entries.Flight.{Flight}
 use Rattle.mb_kinds.specs.declared.replies.Reply.{Reply}
 use Rattle.mb_tree.specs.Lookup.{components, number_of}
 use Rattle.mb_tree.specs.Maps.{Numbered}
-use Rattle.mb_tree.specs.Sessions.{IsReady}
+use Rattle.mb_tree.specs.Sessions.{HasDescriptorInRange}
 use Rattle.mb_tree.specs.Step.{step}
 use Rattle.mb_tree.specs.Volume.{IsVolume}
 use Rattle.mb_tree.specs.declared.machines.Machine.{Machine}
@@ -56,7 +56,7 @@ IsPerformedAt told seat call moment ready = (view : Image) (tree : Tree) (flight
 pub record MayLog (ready : Ready) : Type 0 where
   pub plain : IsPlain ready.reply
   pub loggable : IfSome ready.op IsLoggable
-  pub session : IsReady ready.session
+  pub session : HasDescriptorInRange ready.session
 
 -- what changes no block
 abbrev pub unchanged : Reply → Option FsOp → SessionChange → Ready

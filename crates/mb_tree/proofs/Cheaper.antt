@@ -14,7 +14,7 @@ use Rattle.mb_tree.specs.Counting.{sum_below}
 use Rattle.mb_tree.specs.Lookup.{is_named, number_in}
 use Rattle.mb_tree.specs.Sessions.{Counts, counts}
 use Rattle.mb_tree.specs.Cost.{cost, cost_at, body_cost, index_blocks, first_parts, parts_for}
-use Rattle.mb_tree.specs.Effect.{Held, unlinked, emptied, on_slots, without_name, without_link, cleared, blanked, with_mode, with_owner, with_times, fitting, is_lost, less_name, remove_dir, delink, tree_after, nlink_in, opens_after}
+use Rattle.mb_tree.specs.Effect.{TreeAndOpens, unlinked, emptied, on_slots, without_name, without_link, cleared, blanked, with_mode, with_owner, with_times, fitting, is_lost, less_name, remove_dir, delink, tree_after, nlink_in, opens_after}
 use Rattle.mb_tree.specs.Step.{effect_of, serve, or_refused}
 use Rattle.mb_tree.specs.Laws.{CostKept}
 use Rattle.mb_tree.specs.declared.nodes.PlainSlot.{PlainSlot}
@@ -103,24 +103,24 @@ cleared_cost (Special size area) = omega arith
 
 -- ---- operations
 
-abbrev pub Keeps : Tree → Tree → Type 0
-Keeps tree next = (cost next ≤ tree.cap) × (next.cap ≡ tree.cap)
+abbrev pub KeepsRoom : Tree → Tree → Type 0
+KeepsRoom tree next = (cost next ≤ tree.cap) × (next.cap ≡ tree.cap)
 
-fitted : (tree : Tree) (nodes : Numbered Node) → Always (Keeps tree) (fitting tree nodes)
+fitted : (tree : Tree) (nodes : Numbered Node) → Always (KeepsRoom tree) (fitting tree nodes)
 fitted tree nodes =
-    elim (nat_le (cost (record tree { nodes = nodes })) tree.cap) as (λ b. nat_le (cost (record tree { nodes = nodes })) tree.cap ≡ b → Always (Keeps tree) (need b ENOSPC >> Ok (record tree { nodes = nodes }))) [
-      | true ↦ λ e. always_ok (Keeps tree) _ (grind (arith, nat_tests), refl)
-      | false ↦ λ e. always_err (Keeps tree) ENOSPC
+    elim (nat_le (cost (record tree { nodes = nodes })) tree.cap) as (λ b. nat_le (cost (record tree { nodes = nodes })) tree.cap ≡ b → Always (KeepsRoom tree) (need b ENOSPC >> Ok (record tree { nodes = nodes }))) [
+      | true ↦ λ e. always_ok (KeepsRoom tree) _ (grind (arith, nat_tests), refl)
+      | false ↦ λ e. always_err (KeepsRoom tree) ENOSPC
     ] refl
 
 module _ (tree : Tree) (sound : cost tree ≤ tree.cap) where
-  cheaper : (nodes : Numbered Node) → IsCheaper nodes tree.nodes → Always (Keeps tree) (Ok (record tree { nodes = nodes }))
-  cheaper nodes h = always_ok (Keeps tree) _ (let le = cheaper_cost tree nodes h in omega (arith, le), refl)
+  cheaper : (nodes : Numbered Node) → IsCheaper nodes tree.nodes → Always (KeepsRoom tree) (Ok (record tree { nodes = nodes }))
+  cheaper nodes h = always_ok (KeepsRoom tree) _ (let le = cheaper_cost tree nodes h in omega (arith, le), refl)
 
-  same_tree : Always (Keeps tree) (Ok tree)
-  same_tree = always_ok (Keeps tree) _ (sound, refl)
+  same_tree : Always (KeepsRoom tree) (Ok tree)
+  same_tree = always_ok (KeepsRoom tree) _ (sound, refl)
 
-  removed : (dir : ℕ) (name : List ℕ) (moment : ℕ) (target : Option ℕ) → Always (Keeps tree) (Ok (remove_dir tree dir name moment target))
+  removed : (dir : ℕ) (name : List ℕ) (moment : ℕ) (target : Option ℕ) → Always (KeepsRoom tree) (Ok (remove_dir tree dir name moment target))
   removed dir name moment None = same_tree
   removed dir name moment (Some ino) = cheaper _ (cheaper_trans _ (fin.remove tree.nodes ino) tree.nodes (cheaper_changed _ dir (without_link moment name) (λ x. emptied_cost name x.body)) (cheaper_removed tree.nodes ino))
 
@@ -130,34 +130,34 @@ module _ (tree : Tree) (sound : cost tree ≤ tree.cap) where
     | false ↦ cheaper_changed nodes ino (unlinked moment) (λ x. omega arith)
   ]
 
-  delinked : (opens : Counts) (dir : ℕ) (name : List ℕ) (moment : ℕ) (target : Option ℕ) → Always (Keeps tree) (Ok (delink tree opens dir name moment target))
+  delinked : (opens : Counts) (dir : ℕ) (name : List ℕ) (moment : ℕ) (target : Option ℕ) → Always (KeepsRoom tree) (Ok (delink tree opens dir name moment target))
   delinked opens dir name moment None = same_tree
   delinked opens dir name moment (Some ino) = cheaper _ (cheaper_trans _ (changed_at tree.nodes dir (without_name moment name)) tree.nodes (lost _ opens moment ino) (cheaper_changed tree.nodes dir (without_name moment name) (λ x. emptied_cost name x.body)))
 
-  pub after_op : (opens : Counts) (made : FsOp) (pick : Option ℕ) → Always (Keeps tree) (tree_after tree opens made pick)
-  after_op opens (op.Create dir name mode uid gid moment) pick = always_bind (Keeps tree) (some pick ENOSPC) _ (λ ino. fitted tree _)
+  pub after_op : (opens : Counts) (made : FsOp) (pick : Option ℕ) → Always (KeepsRoom tree) (tree_after tree opens made pick)
+  after_op opens (op.Create dir name mode uid gid moment) pick = always_bind (KeepsRoom tree) (some pick ENOSPC) _ (λ ino. fitted tree _)
   after_op opens (op.Empty ino moment) pick = cheaper _ (cheaper_changed tree.nodes ino (blanked moment) (λ x. cleared_cost x.body))
-  after_op opens (op.MakeDir dir name mode uid gid moment) pick = always_then (Keeps tree) (need (nat_lt (nlink_in tree.nodes dir) 32767) EMLINK) _ (always_bind (Keeps tree) (some pick ENOSPC) _ (λ ino. fitted tree _))
+  after_op opens (op.MakeDir dir name mode uid gid moment) pick = always_then (KeepsRoom tree) (need (nat_lt (nlink_in tree.nodes dir) 32767) EMLINK) _ (always_bind (KeepsRoom tree) (some pick ENOSPC) _ (λ ino. fitted tree _))
   after_op opens (op.RemoveDir dir name moment) pick = removed dir name moment (number_in tree.nodes dir name)
-  after_op opens (op.Enlink dir name ino moment) pick = always_then (Keeps tree) (need (nat_lt (nlink_in tree.nodes ino) 32767) EMLINK) _ (fitted tree _)
+  after_op opens (op.Enlink dir name ino moment) pick = always_then (KeepsRoom tree) (need (nat_lt (nlink_in tree.nodes ino) 32767) EMLINK) _ (fitted tree _)
   after_op opens (op.Delink dir name moment) pick = delinked opens dir name moment (number_in tree.nodes dir name)
-  after_op opens (op.Put ino offset bytes moment) pick = always_then (Keeps tree) (need (nat_le (offset + length bytes) 1082201088) EFBIG) _ (fitted tree _)
+  after_op opens (op.Put ino offset bytes moment) pick = always_then (KeepsRoom tree) (need (nat_le (offset + length bytes) 1082201088) EFBIG) _ (fitted tree _)
   after_op opens (op.SetMode ino mode moment) pick = cheaper _ (cheaper_changed tree.nodes ino (with_mode mode moment) (λ x. omega arith))
   after_op opens (op.SetOwner ino uid gid moment) pick = cheaper _ (cheaper_changed tree.nodes ino (with_owner uid gid moment) (λ x. omega arith))
   after_op opens (op.SetTimes ino atime mtime moment) pick = cheaper _ (cheaper_changed tree.nodes ino (with_times atime mtime moment) (λ x. omega arith))
   after_op opens (op.Hold ino) pick = same_tree
   after_op opens (op.Release inos) pick = cheaper _ (cheaper_retained tree.nodes _)
 
-  after_effect : (opens : Counts) (made : Option FsOp) (pick : Option ℕ) (held : Held) → effect_of tree opens made pick ≡ Ok held → Keeps tree held.tree
-  after_effect opens None pick held h = let e = same_ok _ _ h in subst (λ (h : Held). Keeps tree h.tree) e (sound, refl)
+  after_effect : (opens : Counts) (made : Option FsOp) (pick : Option ℕ) (held : TreeAndOpens) → effect_of tree opens made pick ≡ Ok held → KeepsRoom tree held.tree
+  after_effect opens None pick held h = let e = same_ok _ _ h in subst (λ (h : TreeAndOpens). KeepsRoom tree h.tree) e (sound, refl)
   after_effect opens (Some made) pick held h =
       let one = bind_ok (tree_after tree opens made pick) _ held h in
-      let e = same_ok {A = Held} (record { tree = one.0; opens = opens_after opens made pick }) held one.2 in
-      subst (λ (h : Held). Keeps tree h.tree) e ((after_op opens made pick).holds one.0 one.1)
+      let e = same_ok {A = TreeAndOpens} (record { tree = one.0; opens = opens_after opens made pick }) held one.2 in
+      subst (λ (h : TreeAndOpens). KeepsRoom tree h.tree) e ((after_op opens made pick).holds one.0 one.1)
 
 pub cost_kept : CostKept
 cost_kept machine caller call moment pick sound =
-    elim (serve machine caller call moment pick) as (λ (r : Answer (Reply × Machine)). serve machine caller call moment pick ≡ r → Keeps machine.tree (or_refused machine r).1.tree) [
-      | Ok s ↦ λ is. let by = served machine caller call moment pick s.0 s.1 is in subst (λ (t : Tree). Keeps machine.tree t) (sym by.tree) (after_effect machine.tree sound (counts machine.seats) by.planned.op pick by.held by.acts)
+    elim (serve machine caller call moment pick) as (λ (r : Answer (Reply × Machine)). serve machine caller call moment pick ≡ r → KeepsRoom machine.tree (or_refused machine r).1.tree) [
+      | Ok s ↦ λ is. let by = served machine caller call moment pick s.0 s.1 is in subst (λ (t : Tree). KeepsRoom machine.tree t) (sym by.tree) (after_effect machine.tree sound (counts machine.seats) by.planned.op pick by.held by.acts)
       | Err e ↦ λ is. (sound, refl)
     ] refl

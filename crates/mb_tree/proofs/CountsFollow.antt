@@ -8,7 +8,7 @@ use Rattle.std.specs.FinMap as fin
 use Rattle.mb_kinds.specs.declared.calls.Call.{Call}
 use Rattle.mb_kinds.specs.declared.calls.How.TheVariants.{Writing}
 use Rattle.mb_tree.specs.Sessions.{Counts, counts, changed, held_by, held_in, inos_of, file_on, is_shared, has_place, closed}
-use Rattle.mb_tree.specs.Effect.{Held, hold, opens_after, tree_after}
+use Rattle.mb_tree.specs.Effect.{TreeAndOpens, hold, opens_after, tree_after}
 use Rattle.mb_tree.specs.Step.{effect_of}
 use Rattle.mb_tree.specs.Machines.{IsSeated}
 use Rattle.mb_tree.specs.SessionLaws.{CountsFollow}
@@ -17,7 +17,7 @@ use Rattle.mb_tree.specs.declared.operations.FsOp.{FsOp}
 use Rattle.mb_tree.specs.declared.operations.FsOp.TheVariants.{Create}
 use Rattle.mb_tree.specs.declared.seats.SessionChange.TheVariants.{Fresh}
 use Rattle.mb_tree.specs.Rows.{masked}
-use Rattle.mb_tree.specs.declared.plans.Plan.{Plan}
+use Rattle.mb_tree.specs.declared.plans.CallPlan.{CallPlan}
 use Rattle.mb_tree.specs.declared.seats.PlainFile.{PlainFile}
 use Rattle.mb_tree.specs.declared.seats.Seat.{Seat}
 use Rattle.mb_tree.specs.declared.trees.Tree.{Tree}
@@ -52,7 +52,7 @@ abbrev pub opens_of : Counts → Option FsOp → Option ℕ → Counts
 opens_of opens None pick = opens
 opens_of opens (Some op) pick = opens_after opens op pick
 
-abbrev CountsAs : Seat → Option ℕ → Plan → Type 0
+abbrev CountsAs : Seat → Option ℕ → CallPlan → Type 0
 CountsAs seat pick planned = (opens : Counts) (ino : ℕ) → held_in seat ino ≤ opens ino → held_in (changed seat planned.session) ino + opens ino ≡ held_in seat ino + opens_of opens planned.op pick ino
 
 hold_count : (opens : Counts) (file : PlainFile) (ino : ℕ) → hold opens file.ino ino ≡ opens ino + held_by ino (Some file)
@@ -83,7 +83,7 @@ module _ (nodes : Numbered Node) (seats : List Seat) (seat : Seat) (moment : ℕ
       let alone : has_place (fin.remove seat.fds fd) at.0 ≡ false = sym (ap (λ o. unwrap_or (option_map (has_place (fin.remove seat.fds fd)) o) false) at.1) ∙ s in
       ap (λ (o : Option ℕ). held_in (closed seat fd o) ino + held_by ino (Some file)) at.1 ∙ last_count nodes seat valid fd at.0 file ino at.2 alone
 
-  counts_as : (asked : Call) (planned : Plan) → Outcome nodes seats seat moment pick asked planned → CountsAs seat pick planned
+  counts_as : (asked : Call) (planned : CallPlan) → Outcome nodes seats seat moment pick asked planned → CountsAs seat pick planned
   counts_as _ _ (answered asked answer) opens ino least = refl
   counts_as _ _ (opened path how stat fd found fits ordinary free) opens ino least =
       let file : PlainFile = record { ino = stat.ino; how = how; offset = 0 } in
@@ -117,11 +117,11 @@ module _ (nodes : Numbered Node) (seats : List Seat) (seat : Seat) (moment : ℕ
       let all : count_by (nat_eq ino) (inos_of seat) ≡ count_by (nat_eq ino) (first ∷ inos) = ap (count_by (nat_eq ino)) h in
       omega (arith, least, all, clear_count nodes seat valid ino, cleared_count nodes seat valid ino)
 
-pub held_opens : (tree : Tree) (opens : Counts) (op : Option FsOp) (pick : Option ℕ) (held : Held) → effect_of tree opens op pick ≡ Ok held → opens_of opens op pick ≡ held.opens
-held_opens tree opens None pick held h = ap (λ (x : Held). x.opens) (same_ok (record { tree = tree; opens = opens }) held h)
+pub held_opens : (tree : Tree) (opens : Counts) (op : Option FsOp) (pick : Option ℕ) (held : TreeAndOpens) → effect_of tree opens op pick ≡ Ok held → opens_of opens op pick ≡ held.opens
+held_opens tree opens None pick held h = ap (λ (x : TreeAndOpens). x.opens) (same_ok (record { tree = tree; opens = opens }) held h)
 held_opens tree opens (Some op) pick held h =
     let one = bind_ok (tree_after tree opens op pick) _ held h in
-    ap (λ (x : Held). x.opens) (same_ok (record { tree = one.0; opens = opens_after opens op pick }) held one.2)
+    ap (λ (x : TreeAndOpens). x.opens) (same_ok (record { tree = one.0; opens = opens_after opens op pick }) held one.2)
 
 pub counts_follow : CountsFollow
 counts_follow machine caller asked moment pick planned held valid h e =

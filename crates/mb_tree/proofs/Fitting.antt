@@ -13,7 +13,7 @@ use Rattle.mb_tree.specs.Machines.{IsSeated, FitsFresh, FitsSession}
 use Rattle.mb_tree.specs.SessionLaws.{KeepsUsed}
 use Rattle.mb_tree.specs.declared.nodes.Node.{Node}
 use Rattle.mb_tree.specs.declared.operations.FsOp.TheVariants as op
-use Rattle.mb_tree.specs.declared.plans.Plan.{Plan}
+use Rattle.mb_tree.specs.declared.plans.CallPlan.{CallPlan}
 use Rattle.mb_tree.specs.declared.seats.Seat.{Seat}
 use Rattle.mb_tree.specs.declared.seats.SessionChange.TheVariants.{Fresh}
 use Rattle.mb_tree.specs.declared.trees.Tree.{Tree}
@@ -25,7 +25,7 @@ use Rattle.mb_tree.proofs.Outcomes.{Outcome}
 use Rattle.mb_tree.proofs.Outcomes.Outcome.{answered, opened, emptied, created, closed_shared, closed_last, moved, put, doubled, linked, unlinked, made, removed, entered, mode_set, owner_set, times_set, masked_off, left, left_open}
 
 -- the plan of a file that is made
-pub record IsCreated (seat : Seat) (pick : Option ℕ) (planned : Plan) : Type 0 where
+pub record IsCreated (seat : Seat) (pick : Option ℕ) (planned : CallPlan) : Type 0 where
   pub dir : ℕ
   pub name : List ℕ
   pub mode : ℕ
@@ -53,7 +53,7 @@ module _ (tree : Tree) (sound : IsSound tree) (seats : List Seat) (seat : Seat) 
     written = written;
   }
 
-  pub session_fits : (asked : Call) (planned : Plan) → Outcome tree.nodes seats seat moment pick asked planned → FitsSession tree.nodes seat planned.session ⊎ IsCreated seat pick planned
+  pub session_fits : (asked : Call) (planned : CallPlan) → Outcome tree.nodes seats seat moment pick asked planned → FitsSession tree.nodes seat planned.session ⊎ IsCreated seat pick planned
   session_fits _ _ (answered asked answer) = inl tt
   session_fits _ _ (opened path how stat fd found fits ordinary free) =
       let at = path_ok tree.nodes seat.cred seat.cwd path stat found in

@@ -10,7 +10,7 @@ use Rattle.mb_tree.specs.Lookup.{is_used, number_of}
 use Rattle.mb_tree.specs.Rows.{is_dots}
 use Rattle.mb_tree.specs.Effect.{made, nlink_in, with_name, with_link, dot, dot_dot, first_slots}
 use Rattle.mb_tree.specs.Fits.{IsMissing}
-use Rattle.mb_tree.specs.Step.{IsFree}
+use Rattle.mb_tree.specs.Step.{IsFreeNumber}
 use Rattle.mb_tree.specs.Trees.{IsThere, IsName, AreSlots, leads_to, links_from, late_links_from, links_at, late_links_at, links, late_links, IsSound}
 use Rattle.mb_tree.specs.NameLaws.{CreateKept, MakeDirKept}
 use Rattle.mb_tree.specs.declared.nodes.PlainSlot.{PlainSlot}
@@ -32,7 +32,7 @@ use Rattle.mb_tree.proofs.Quiet.{kind_set, none_below}
 
 -- ---- a free number
 
-module _ (tree : Tree) (sound : IsSound tree) (ino : ℕ) (free : IsFree tree ino) where
+module _ (tree : Tree) (sound : IsSound tree) (ino : ℕ) (free : IsFreeNumber tree ino) where
   no_one : (old : Node) (slots : List PlainSlot) → fin.get tree.nodes ino ≡ Some old → old.body ≡ Directory slots → ⊥
   no_one old slots has body = let no : ◌≡◌ {A = Option Node} None (Some old) = sym free.unused ∙ has in cc
 
@@ -217,7 +217,7 @@ create_kept dir name mode uid gid moment tree opens pick next sound fits h =
     let room = (after_op tree sound.room opens (Create dir name mode uid gid moment) pick).holds next h in
     let one = bind_ok (some pick ENOSPC) _ next h in
     let ino : ℕ = one.0 in
-    let free : IsFree tree ino = subst (λ p. IfSome p (IsFree tree)) (some_ok pick ENOSPC ino one.1) fits.picked in
+    let free : IsFreeNumber tree ino = subst (λ p. IfSome p (IsFreeNumber tree)) (some_ok pick ENOSPC ino one.1) fits.picked in
     let x = fits.missing.directory in
     let y : Node = with_name moment name ino x.node in
     let z : Node = file tree sound ino free mode uid gid moment in
@@ -234,7 +234,7 @@ make_dir_kept dir name mode uid gid moment tree opens pick next sound fits h =
     let start = then_ok (need (nat_lt (nlink_in tree.nodes dir) 32767) EMLINK) _ next h in
     let one = bind_ok (some pick ENOSPC) _ next start.2 in
     let ino : ℕ = one.0 in
-    let free : IsFree tree ino = subst (λ p. IfSome p (IsFree tree)) (some_ok pick ENOSPC ino one.1) fits.picked in
+    let free : IsFreeNumber tree ino = subst (λ p. IfSome p (IsFreeNumber tree)) (some_ok pick ENOSPC ino one.1) fits.picked in
     let x = fits.missing.directory in
     let y : Node = with_link moment name ino x.node in
     let z : Node = folder tree sound ino free dir mode uid gid moment in

@@ -13,14 +13,14 @@ use Rattle.mb_kinds.specs.declared.credentials.Cred.{Cred}
 use Rattle.mb_kinds.specs.declared.calls.Call.{Call}
 use Rattle.mb_tree.specs.Sessions.{counts, inos_of, file_on, held_by}
 use Rattle.mb_tree.specs.Rows.{masked, stored, is_busy}
-use Rattle.mb_tree.specs.Step.{IsFree}
+use Rattle.mb_tree.specs.Step.{IsFreeNumber}
 use Rattle.mb_tree.specs.Trees.{IsSound}
 use Rattle.mb_tree.specs.Fits.{IsOpenable, FitsRelease, Fits}
 use Rattle.mb_tree.specs.Machines.{IsSeated}
 use Rattle.mb_tree.specs.SessionLaws.{IsCall, OperationsFit}
 use Rattle.mb_tree.specs.declared.machines.Machine.{Machine}
 use Rattle.mb_tree.specs.declared.operations.FsOp.{FsOp}
-use Rattle.mb_tree.specs.declared.plans.Plan.{Plan}
+use Rattle.mb_tree.specs.declared.plans.CallPlan.{CallPlan}
 use Rattle.mb_tree.specs.declared.seats.PlainFile.{PlainFile}
 use Rattle.mb_tree.specs.declared.seats.Seat.{Seat}
 use Rattle.mb_tree.proofs.FiniteMaps.{one_or_not, is_here, is_apart}
@@ -101,7 +101,7 @@ module _ (machine : Machine) (caller : ℕ) (seat : Seat) (moment : ℕ) (pick :
   PlanFits None = Unit {0}
   PlanFits (Some done) = Fits machine.tree (counts machine.seats) done pick
 
-  plan_fits : (asked : Call) (planned : Plan) → IfSome pick (IsFree machine.tree) → IsCall asked → Outcome machine.tree.nodes machine.seats seat moment pick asked planned → PlanFits planned.op
+  plan_fits : (asked : Call) (planned : CallPlan) → IfSome pick (IsFreeNumber machine.tree) → IsCall asked → Outcome machine.tree.nodes machine.seats seat moment pick asked planned → PlanFits planned.op
   plan_fits _ _ picked good (answered asked answer) = tt
   plan_fits _ _ picked good (opened path how stat fd found fits ordinary free) = is_openable_at machine.tree sound stat.ino stat (path_ok machine.tree.nodes seat.cred seat.cwd path stat found).1 ordinary
   plan_fits _ _ picked good (emptied path mode ino stat fd found regular ordinary free) = is_regular_at machine.tree sound ino stat found regular ordinary

@@ -24,13 +24,13 @@ use Rattle.mb_tree.specs.declared.seats.Seat.{Seat}
 use Rattle.mb_tree.specs.declared.seats.SessionChange.TheVariants.{Fresh, Twin, Free, Move, Cwd, Mask, Clear}
 use Rattle.mb_tree.specs.declared.lookups.Placed.{Placed}
 use Rattle.mb_tree.specs.declared.lookups.Placed.TheVariants.{Itself, At}
-use Rattle.mb_tree.specs.declared.plans.Plan.{Plan}
+use Rattle.mb_tree.specs.declared.plans.CallPlan.{CallPlan}
 use Rattle.mb_tree.specs.declared.operations.FsOp.TheVariants as op
 use Rattle.mb_tree.specs.declared.machines.Machine.{Machine}
 use Rattle.mb_tree.proofs.Always.{Always, always_ok, always_err, bind_ok, same_ok}
 
 -- a call, the plan that its row gives, and the tests that the row has passed on the way there
-pub data Outcome (nodes : Numbered Node) (seats : List Seat) (seat : Seat) (moment : ℕ) (pick : Option ℕ) : Call → Plan → Type 0 where
+pub data Outcome (nodes : Numbered Node) (seats : List Seat) (seat : Seat) (moment : ℕ) (pick : Option ℕ) : Call → CallPlan → Type 0 where
   answered : (asked : Call) (answer : Reply) → Outcome nodes seats seat moment pick asked (reply answer)
   opened : (path : List ℕ) (how : How) (stat : Stat) (fd : ℕ) → find_path nodes seat.cred seat.cwd path ≡ Ok stat → (is_directory stat.mode && writes how) ≡ false
       → is_special stat.mode ≡ false → free_descriptor seat ≡ Some fd
@@ -95,7 +95,7 @@ module _ {B : Type 0} (P : B → Type 0) where
   given_some None e f h = always_err P e
 
 module _ (nodes : Numbered Node) (seats : List Seat) (seat : Seat) (moment : ℕ) (pick : Option ℕ) where
-  abbrev Is : Call → Plan → Type 0
+  abbrev Is : Call → CallPlan → Type 0
   Is asked planned = Outcome nodes seats seat moment pick asked planned
 
   plain : (asked : Call) (answer : Reply) → Always (Is asked) (Ok (reply answer))
@@ -256,7 +256,7 @@ module _ (nodes : Numbered Node) (seats : List Seat) (seat : Seat) (moment : ℕ
   row_out call.Exit = always_ok (Is call.Exit) _ (exit_plan (inos_of seat) refl)
 
 -- the caller's seat, and what its row has found
-pub outcome : (machine : Machine) (caller : ℕ) (wanted : Call) (moment : ℕ) (pick : Option ℕ) (planned : Plan) → plan machine caller wanted moment pick ≡ Ok planned
+pub outcome : (machine : Machine) (caller : ℕ) (wanted : Call) (moment : ℕ) (pick : Option ℕ) (planned : CallPlan) → plan machine caller wanted moment pick ≡ Ok planned
     → (seat : Seat) × (slice_get machine.seats caller ≡ Some seat) × Outcome machine.tree.nodes machine.seats seat moment pick wanted planned
 outcome machine caller wanted moment pick planned h =
     let one = bind_ok (some (slice_get machine.seats caller) EINVAL) _ planned h in

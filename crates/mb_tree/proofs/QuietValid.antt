@@ -5,7 +5,7 @@ use Rattle.mb_tree.specs.Answers.{need}
 use Rattle.mb_tree.specs.Maps.{Numbered, changed_at}
 use Rattle.mb_tree.specs.Cost.{cost}
 use Rattle.mb_tree.specs.Sessions.{Counts, counts}
-use Rattle.mb_tree.specs.Effect.{Held, cleared, written, blanked, wrote, with_mode, with_owner, with_times, fitting, tree_after, opens_after}
+use Rattle.mb_tree.specs.Effect.{TreeAndOpens, cleared, written, blanked, wrote, with_mode, with_owner, with_times, fitting, tree_after, opens_after}
 use Rattle.mb_tree.specs.Step.{effect_of}
 use Rattle.mb_tree.specs.Trees.{IsSound}
 use Rattle.mb_tree.specs.Laws.{IsQuiet}
@@ -15,7 +15,7 @@ use Rattle.mb_tree.specs.declared.nodes.Body.{Body}
 use Rattle.mb_tree.specs.declared.nodes.Body.TheVariants.{Regular, Directory, Special}
 use Rattle.mb_tree.specs.declared.operations.FsOp.{FsOp}
 use Rattle.mb_tree.specs.declared.operations.FsOp.TheVariants.{Empty, Put, SetMode, SetOwner, SetTimes, Hold}
-use Rattle.mb_tree.specs.declared.plans.Plan.{Plan}
+use Rattle.mb_tree.specs.declared.plans.CallPlan.{CallPlan}
 use Rattle.mb_tree.specs.declared.seats.Seat.{Seat}
 use Rattle.mb_tree.specs.declared.trees.Tree.{Tree}
 use Rattle.mb_tree.proofs.Always.{bind_ok, then_ok, same_ok}
@@ -54,14 +54,14 @@ quiet_kinds tree opens (Hold ino) pick next quiet h = subst (KeepsKinds tree) (s
 quiet_kinds tree opens _ pick next quiet h = absurd quiet
 
 -- the tree that an operation leaves
-pub acted : (tree : Tree) (opens : Counts) (done : FsOp) (pick : Option ℕ) (held : Held) → effect_of tree opens (Some done) pick ≡ Ok held → tree_after tree opens done pick ≡ Ok held.tree
+pub acted : (tree : Tree) (opens : Counts) (done : FsOp) (pick : Option ℕ) (held : TreeAndOpens) → effect_of tree opens (Some done) pick ≡ Ok held → tree_after tree opens done pick ≡ Ok held.tree
 acted tree opens done pick held h =
     let one = bind_ok (tree_after tree opens done pick) _ held h in
-    one.1 ∙ ap Ok (ap (λ (x : Held). x.tree) (same_ok (record { tree = one.0; opens = opens_after opens done pick }) held one.2))
+    one.1 ∙ ap Ok (ap (λ (x : TreeAndOpens). x.tree) (same_ok (record { tree = one.0; opens = opens_after opens done pick }) held one.2))
 
-quiet_effect : (tree : Tree) (opens : Counts) (done : Option FsOp) (pick : Option ℕ) (held : Held) → IsSound tree → IsQuietPlan done → effect_of tree opens done pick ≡ Ok held → IsSound held.tree × KeepsKinds tree held.tree
+quiet_effect : (tree : Tree) (opens : Counts) (done : Option FsOp) (pick : Option ℕ) (held : TreeAndOpens) → IsSound tree → IsQuietPlan done → effect_of tree opens done pick ≡ Ok held → IsSound held.tree × KeepsKinds tree held.tree
 quiet_effect tree opens None pick held sound quiet h =
-    let is : tree ≡ held.tree = ap (λ (x : Held). x.tree) (same_ok (record { tree = tree; opens = opens }) held h) in
+    let is : tree ≡ held.tree = ap (λ (x : TreeAndOpens). x.tree) (same_ok (record { tree = tree; opens = opens }) held h) in
     subst (λ (t : Tree). IsSound t × KeepsKinds tree t) is (sound, λ q. kind_by_get tree.nodes tree.nodes q refl)
 quiet_effect tree opens (Some done) pick held sound quiet h =
     let after = acted tree opens done pick held h in
@@ -74,6 +74,6 @@ pub quiet_valid : QuietValid
 quiet_valid machine caller asked moment pick reply next planned valid h plans quiet =
     let by = served machine caller asked moment pick reply next h in
     let is : planned ≡ by.planned = same_ok planned by.planned (sym plans ∙ by.plans) in
-    let both = quiet_effect machine.tree (counts machine.seats) by.planned.op pick by.held (valid caller).tree (subst (λ (p : Plan). IsQuietPlan p.op) is quiet) by.acts in
+    let both = quiet_effect machine.tree (counts machine.seats) by.planned.op pick by.held (valid caller).tree (subst (λ (p : CallPlan). IsQuietPlan p.op) is quiet) by.acts in
     valid_stays machine caller asked moment pick reply next valid h (subst IsSound (sym by.tree) both.0)
     (λ other seat at. keeps_all machine.tree.nodes next.tree.nodes seat (subst (KeepsKinds machine.tree) (sym by.tree) both.1))

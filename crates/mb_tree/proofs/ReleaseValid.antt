@@ -8,7 +8,7 @@ use Rattle.std.specs.FinMap as fin
 use Rattle.std.specs.FinMap.{get-retain_keys, nat_cmp-IsAntisymmetric}
 use Rattle.mb_tree.specs.Maps.{Numbered}
 use Rattle.mb_tree.specs.Sessions.{Counts, counts, held_by}
-use Rattle.mb_tree.specs.Effect.{Held, is_lost, release, less_open}
+use Rattle.mb_tree.specs.Effect.{TreeAndOpens, is_lost, release, less_open}
 use Rattle.mb_tree.specs.Step.{effect_of}
 use Rattle.mb_tree.specs.Trees.{IsDirectoryAt, IsSound}
 use Rattle.mb_tree.specs.Machines.{IsSeated}
@@ -16,7 +16,7 @@ use Rattle.mb_tree.specs.SessionLaws.{KeepsUsed, ReleaseValid}
 use Rattle.mb_tree.specs.declared.nodes.Node.{Node}
 use Rattle.mb_tree.specs.declared.operations.FsOp.{FsOp}
 use Rattle.mb_tree.specs.declared.operations.FsOp.TheVariants as op
-use Rattle.mb_tree.specs.declared.plans.Plan.{Plan}
+use Rattle.mb_tree.specs.declared.plans.CallPlan.{CallPlan}
 use Rattle.mb_tree.specs.declared.seats.PlainFile.{PlainFile}
 use Rattle.mb_tree.specs.declared.seats.Seat.{Seat}
 use Rattle.mb_tree.specs.declared.trees.Tree.{Tree}
@@ -67,17 +67,17 @@ no_create : {inos : List ℕ} {dir : ℕ} {name : List ℕ} {mode uid gid moment
 no_create h = cc
 
 -- the counts that a release leaves
-held_release : (tree : Tree) (opens : Counts) (inos : List ℕ) (pick : Option ℕ) (held : Held) → effect_of tree opens (Some (op.Release inos)) pick ≡ Ok held → held.opens ≡ release opens inos
+held_release : (tree : Tree) (opens : Counts) (inos : List ℕ) (pick : Option ℕ) (held : TreeAndOpens) → effect_of tree opens (Some (op.Release inos)) pick ≡ Ok held → held.opens ≡ release opens inos
 held_release tree opens inos pick held h = sym (held_opens tree opens (Some (op.Release inos)) pick held h)
 
-not_created : (inos : List ℕ) (seat : Seat) (pick : Option ℕ) (planned : Plan) → planned.op ≡ Some (op.Release inos) → IsCreated seat pick planned → ⊥
+not_created : (inos : List ℕ) (seat : Seat) (pick : Option ℕ) (planned : CallPlan) → planned.op ≡ Some (op.Release inos) → IsCreated seat pick planned → ⊥
 not_created inos seat pick planned h m = no_create (sym h ∙ m.op)
 
 pub release_valid : ReleaseValid
 release_valid machine caller asked moment pick reply next planned inos valid h plans is =
     let by = served machine caller asked moment pick reply next h in
     let same_plan : planned ≡ by.planned = same_ok planned by.planned (sym plans ∙ by.plans) in
-    let releases : by.planned.op ≡ Some (op.Release inos) = ap (λ (p : Plan). p.op) (sym same_plan) ∙ is in
+    let releases : by.planned.op ≡ Some (op.Release inos) = ap (λ (p : CallPlan). p.op) (sym same_plan) ∙ is in
     let sound = (valid caller).tree in
     let acts = ap (λ o. effect_of machine.tree (counts machine.seats) o pick) (sym releases) ∙ by.acts in
     let tree_is = same_ok {A = Tree} (record machine.tree { nodes = less_open machine.tree.nodes (release (counts machine.seats) inos) inos }) by.held.tree (acted machine.tree (counts machine.seats) (op.Release inos) pick by.held acts) in

@@ -18,7 +18,7 @@ use Rattle.mb_tree.specs.declared.seats.PlainFile.{PlainFile}
 use Rattle.mb_tree.specs.declared.seats.Seat.{Seat}
 use Rattle.mb_tree.specs.declared.lookups.Placed.{Placed}
 use Rattle.mb_tree.specs.declared.lookups.Placed.TheVariants.{Itself, At}
-use Rattle.mb_tree.specs.declared.plans.Plan.{Plan}
+use Rattle.mb_tree.specs.declared.plans.CallPlan.{CallPlan}
 use Rattle.mb_tree.specs.declared.seats.SessionChange.TheVariants.{Free}
 use Rattle.mb_tree.specs.declared.operations.FsOp.TheVariants as op
 use Rattle.mb_kinds.specs.declared.errors.Errno.{Errno}
@@ -31,22 +31,22 @@ IsPlain (Got bytes) = Unit {0}
 IsPlain (Info stat) = Unit {0}
 IsPlain _ = ⊥
 
-abbrev IsPlanPlain : Plan → Type 0
+abbrev IsPlanPlain : CallPlan → Type 0
 IsPlanPlain planned = IsPlain planned.reply
 
-abbrev pub PlainAnswer : Answer Plan → Type 0
+abbrev pub PlainAnswer : Answer CallPlan → Type 0
 PlainAnswer answer = Always IsPlanPlain answer
 
-plain_ok : (p : Plan) → IsPlain p.reply → PlainAnswer (Ok p)
+plain_ok : (p : CallPlan) → IsPlain p.reply → PlainAnswer (Ok p)
 plain_ok = always_ok IsPlanPlain
 
 plain_err : (e : Errno) → PlainAnswer (Err e)
 plain_err = always_err IsPlanPlain
 
-plain_bind : {A : Type 0} (r : Answer A) (f : A → Answer Plan) → ((x : A) → PlainAnswer (f x)) → PlainAnswer (r >>= f)
+plain_bind : {A : Type 0} (r : Answer A) (f : A → Answer CallPlan) → ((x : A) → PlainAnswer (f x)) → PlainAnswer (r >>= f)
 plain_bind = always_bind IsPlanPlain
 
-plain_then : {A : Type 0} (r : Answer A) (s : Answer Plan) → PlainAnswer s → PlainAnswer (r >> s)
+plain_then : {A : Type 0} (r : Answer A) (s : Answer CallPlan) → PlainAnswer s → PlainAnswer (r >> s)
 plain_then = always_then IsPlanPlain
 
 plain_close : (shared : Bool) (fd : ℕ) (inos : List ℕ) → PlainAnswer (Ok (if shared then seated (Num 0) (Free fd) else both 0 (op.Release inos) (Free fd)))

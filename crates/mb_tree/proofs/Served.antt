@@ -12,7 +12,7 @@ use Rattle.mb_tree.specs.Rows.{plan}
 use Rattle.mb_tree.specs.Step.{effect_of, serve, or_refused}
 use Rattle.mb_tree.specs.Laws.{RefusedStays, ServedByEffect}
 use Rattle.mb_tree.specs.declared.machines.Machine.{Machine}
-use Rattle.mb_tree.specs.declared.plans.Plan.{Plan}
+use Rattle.mb_tree.specs.declared.plans.CallPlan.{CallPlan}
 use Rattle.mb_tree.proofs.Always.{bind_ok, same_ok}
 use Rattle.mb_tree.proofs.Rows.{IsPlain, plain_row}
 
@@ -31,7 +31,7 @@ served machine caller call moment pick reply next h =
       seats = ap (λ (s : Reply × Machine). s.1.seats) (sym last);
     }
 
-plain_plan : (machine : Machine) (caller : ℕ) (call : Call) (moment : ℕ) (pick : Option ℕ) (planned : Plan) → plan machine caller call moment pick ≡ Ok planned → IsPlain planned.reply
+plain_plan : (machine : Machine) (caller : ℕ) (call : Call) (moment : ℕ) (pick : Option ℕ) (planned : CallPlan) → plan machine caller call moment pick ≡ Ok planned → IsPlain planned.reply
 plain_plan machine caller call moment pick planned h =
     let one = bind_ok (some (slice_get machine.seats caller) EINVAL) _ planned h in
     (plain_row machine.tree.nodes machine.seats one.0 call moment pick).holds planned one.2

@@ -11,9 +11,9 @@ use Rattle.mb_tree.specs.Answers.{Answer, need}
 use Rattle.mb_tree.specs.Maps.{Numbered}
 use Rattle.mb_tree.specs.Inodes.{slots_of}
 use Rattle.mb_tree.specs.Sessions.{Counts, counts, changed, with_change}
-use Rattle.mb_tree.specs.Effect.{Held, nlink_in, tree_after}
+use Rattle.mb_tree.specs.Effect.{TreeAndOpens, nlink_in, tree_after}
 use Rattle.mb_tree.specs.Rows.{masked, plan}
-use Rattle.mb_tree.specs.Step.{effect_of, serve, or_refused, IsFree, IsLawful}
+use Rattle.mb_tree.specs.Step.{effect_of, serve, or_refused, IsFreeNumber, IsLawful}
 use Rattle.mb_tree.specs.Trees.{IsDirectoryAt, IsSound}
 use Rattle.mb_tree.specs.Fits.{IsLeafAt, Fits}
 use Rattle.mb_tree.specs.Machines.{IsSeated, IsValid}
@@ -24,7 +24,7 @@ use Rattle.mb_tree.specs.declared.nodes.Node.{Node}
 use Rattle.mb_tree.specs.declared.nodes.PlainSlot.{PlainSlot}
 use Rattle.mb_tree.specs.declared.operations.FsOp.{FsOp}
 use Rattle.mb_tree.specs.declared.operations.FsOp.TheVariants.{Create, MakeDir, RemoveDir, Enlink, Delink, Release}
-use Rattle.mb_tree.specs.declared.plans.Plan.{Plan}
+use Rattle.mb_tree.specs.declared.plans.CallPlan.{CallPlan}
 use Rattle.mb_tree.specs.declared.seats.Seat.{Seat}
 use Rattle.mb_tree.specs.declared.seats.SessionChange.TheVariants.{Same}
 use Rattle.mb_tree.specs.declared.trees.Tree.{Tree}
@@ -79,38 +79,38 @@ no_pick tree opens dir name mode uid gid moment next h =
     let one = then_ok (need (nat_lt (nlink_in tree.nodes dir) 32767) EMLINK) (Err ENOSPC) next h in
     not_ok ENOSPC next one.2
 
-pub record Facts (machine : Machine) (caller : ℕ) (asked : Call) (moment : ℕ) (pick : Option ℕ) (reply : Reply) (next : Machine) (planned : Plan) : Type 0 where
+pub record Facts (machine : Machine) (caller : ℕ) (asked : Call) (moment : ℕ) (pick : Option ℕ) (reply : Reply) (next : Machine) (planned : CallPlan) : Type 0 where
   pub serves : serve machine caller asked moment pick ≡ Ok (reply, next)
   pub plans : plan machine caller asked moment pick ≡ Ok planned
-  pub held : Held
+  pub held : TreeAndOpens
   pub acts : effect_of machine.tree (counts machine.seats) planned.op pick ≡ Ok held
   pub tree : next.tree ≡ held.tree
   pub sound : IsSound next.tree
   pub good : IsCall asked
 
 module _ (machine : Machine) (caller : ℕ) (moment : ℕ) (pick : Option ℕ) (reply : Reply) (next : Machine) (seat : Seat)
-    (valid : IsValid machine) (at : slice_get machine.seats caller ≡ Some seat) (picked : IfSome pick (IsFree machine.tree)) where
-  abbrev Known : Call → Plan → Type 0
+    (valid : IsValid machine) (at : slice_get machine.seats caller ≡ Some seat) (picked : IfSome pick (IsFreeNumber machine.tree)) where
+  abbrev Known : Call → CallPlan → Type 0
   Known asked planned = Facts machine caller asked moment pick reply next planned
 
-  quiet : (asked : Call) (planned : Plan) → Known asked planned → IsQuietPlan planned.op → IsValid next
+  quiet : (asked : Call) (planned : CallPlan) → Known asked planned → IsQuietPlan planned.op → IsValid next
   quiet asked planned facts is = quiet_valid machine caller asked moment pick reply next planned valid facts.serves facts.plans is
 
-  released : (asked : Call) (planned : Plan) (inos : List ℕ) → Known asked planned → planned.op ≡ Some (Release inos) → IsValid next
+  released : (asked : Call) (planned : CallPlan) (inos : List ℕ) → Known asked planned → planned.op ≡ Some (Release inos) → IsValid next
   released asked planned inos facts is = release_valid machine caller asked moment pick reply next planned inos valid facts.serves facts.plans is
 
-  by_kinds : (asked : Call) (planned : Plan) → (facts : Known asked planned) → KeepsKinds machine.tree facts.held.tree → IsValid next
+  by_kinds : (asked : Call) (planned : CallPlan) → (facts : Known asked planned) → KeepsKinds machine.tree facts.held.tree → IsValid next
   by_kinds asked planned facts kinds = valid_stays machine caller asked moment pick reply next valid facts.serves facts.sound
       (λ other s e. keeps_all machine.tree.nodes next.tree.nodes s (subst (KeepsKinds machine.tree) (sym facts.tree) kinds))
 
   -- where the sessions are as they were
-  by_seats : (asked : Call) (planned : Plan) → (facts : Known asked planned) → planned.session ≡ Same
+  by_seats : (asked : Call) (planned : CallPlan) → (facts : Known asked planned) → planned.session ≡ Same
       → ((other : ℕ) (s : Seat) → slice_get machine.seats other ≡ Some s → IsSeated machine.tree.nodes s → KeepsUsed machine.tree.nodes facts.held.tree.nodes s) → IsValid next
   by_seats asked planned facts same_session keeps =
       let by = served machine caller asked moment pick reply next facts.serves in
       let same_plan : by.planned ≡ planned = same_ok by.planned planned (sym by.plans ∙ facts.plans) in
       let seats : next.seats ≡ slice_set machine.seats caller seat =
-      by.seats ∙ ap (λ (p : Plan). with_change machine.seats caller p.session) same_plan
+      by.seats ∙ ap (λ (p : CallPlan). with_change machine.seats caller p.session) same_plan
       ∙ ap (with_change machine.seats caller) same_session
       ∙ ap (λ o. unwrap_or (option_map (λ s. slice_set machine.seats caller (changed s Same)) o) machine.seats) at in
       let one : (other : ℕ) (s : Seat) → slice_get machine.seats other ≡ Some s → KeepsUsed machine.tree.nodes next.tree.nodes s = λ other s e.
@@ -119,10 +119,10 @@ module _ (machine : Machine) (caller : ℕ) (moment : ℕ) (pick : Option ℕ) (
       (λ other s e. each_seat (KeepsUsed machine.tree.nodes next.tree.nodes) machine.seats caller seat seat at (one caller seat at) (λ c t apart h. one c t h) other s (sym (ap (λ l. slice_get l other) seats) ∙ e))
 
   free_of : (ino : ℕ) → pick ≡ Some ino → fin.get machine.tree.nodes ino ≡ None
-  free_of ino is = (subst (λ (o : Option ℕ). IfSome o (IsFree machine.tree)) is picked).unused
+  free_of ino is = (subst (λ (o : Option ℕ). IfSome o (IsFreeNumber machine.tree)) is picked).unused
 
   -- a directory is made with the number that was picked, and without one nothing is served
-  made_kept : (asked : Call) (planned : Plan) (dir : ℕ) (name : List ℕ) (mode : ℕ) (taken : Option ℕ) → taken ≡ pick → (facts : Known asked planned)
+  made_kept : (asked : Call) (planned : CallPlan) (dir : ℕ) (name : List ℕ) (mode : ℕ) (taken : Option ℕ) → taken ≡ pick → (facts : Known asked planned)
       → effect_of machine.tree (counts machine.seats) (Some (MakeDir dir name mode seat.cred.uid seat.cred.gid moment)) taken ≡ Ok facts.held → IsValid next
   made_kept asked planned dir name mode None is facts acts = absurd (no_pick machine.tree (counts machine.seats) dir name mode seat.cred.uid seat.cred.gid moment facts.held.tree
       (acted machine.tree (counts machine.seats) (MakeDir dir name mode seat.cred.uid seat.cred.gid moment) None facts.held acts))
@@ -130,7 +130,7 @@ module _ (machine : Machine) (caller : ℕ) (moment : ℕ) (pick : Option ℕ) (
       by_kinds asked planned facts (make_dir_kinds machine.tree (counts machine.seats) dir name mode seat.cred.uid seat.cred.gid moment ino facts.held.tree (free_of ino (sym is))
       (acted machine.tree (counts machine.seats) (MakeDir dir name mode seat.cred.uid seat.cred.gid moment) (Some ino) facts.held acts))
 
-  kept : (asked : Call) (planned : Plan) → Outcome machine.tree.nodes machine.seats seat moment pick asked planned → Known asked planned → IsValid next
+  kept : (asked : Call) (planned : CallPlan) → Outcome machine.tree.nodes machine.seats seat moment pick asked planned → Known asked planned → IsValid next
   kept _ _ (answered asked answer) facts = quiet asked _ facts tt
   kept _ _ (opened path how stat fd found fits ordinary free) facts = quiet _ _ facts tt
   kept _ _ (emptied path mode ino stat fd found regular ordinary free) facts = quiet _ _ facts tt
@@ -178,12 +178,12 @@ module _ (machine : Machine) (caller : ℕ) (moment : ℕ) (pick : Option ℕ) (
 
 -- ---- any step
 
-sound_after : OperationKept → (tree : Tree) (opens : Counts) (done : Option FsOp) (pick : Option ℕ) (held : Held) → IsSound tree
+sound_after : OperationKept → (tree : Tree) (opens : Counts) (done : Option FsOp) (pick : Option ℕ) (held : TreeAndOpens) → IsSound tree
     → ((op : FsOp) → done ≡ Some op → Fits tree opens op pick) → effect_of tree opens done pick ≡ Ok held → IsSound held.tree
-sound_after keeps tree opens None pick held sound fits h = subst IsSound (ap (λ (x : Held). x.tree) (same_ok (record { tree = tree; opens = opens }) held h)) sound
+sound_after keeps tree opens None pick held sound fits h = subst IsSound (ap (λ (x : TreeAndOpens). x.tree) (same_ok (record { tree = tree; opens = opens }) held h)) sound
 sound_after keeps tree opens (Some done) pick held sound fits h = keeps tree opens done pick held.tree sound (fits done refl) (acted tree opens done pick held h)
 
-served_kept : OperationKept → (machine : Machine) (caller : ℕ) (asked : Call) (moment : ℕ) (pick : Option ℕ) (reply : Reply) (next : Machine) → IsValid machine → IsCall asked → IfSome pick (IsFree machine.tree)
+served_kept : OperationKept → (machine : Machine) (caller : ℕ) (asked : Call) (moment : ℕ) (pick : Option ℕ) (reply : Reply) (next : Machine) → IsValid machine → IsCall asked → IfSome pick (IsFreeNumber machine.tree)
     → serve machine caller asked moment pick ≡ Ok (reply, next) → IsValid next
 served_kept keeps machine caller asked moment pick reply next valid good picked h =
     let by = served machine caller asked moment pick reply next h in
@@ -193,7 +193,7 @@ served_kept keeps machine caller asked moment pick reply next valid good picked 
     kept machine caller moment pick reply next out.0 valid out.1 picked asked by.planned out.2
     (record { serves = h; plans = by.plans; held = by.held; acts = by.acts; tree = by.tree; sound = subst IsSound (sym by.tree) sound; good = good })
 
-free_pick : (machine : Machine) (caller : ℕ) (asked : Call) (moment : ℕ) (pick : Option ℕ) → IsLawful machine caller asked moment pick → IfSome pick (IsFree machine.tree)
+free_pick : (machine : Machine) (caller : ℕ) (asked : Call) (moment : ℕ) (pick : Option ℕ) → IsLawful machine caller asked moment pick → IfSome pick (IsFreeNumber machine.tree)
 free_pick machine caller asked moment None h = tt
 free_pick machine caller asked moment (Some ino) h = h.0
 

@@ -9,7 +9,7 @@ use Rattle.mb_tree.specs.Answers.{need}
 use Rattle.mb_tree.specs.Maps.{Numbered, changed_at}
 use Rattle.mb_tree.specs.Cost.{cost}
 use Rattle.mb_tree.specs.Sessions.{Counts, counts, changed, with_change, opened, free_descriptor}
-use Rattle.mb_tree.specs.Effect.{Held, effect, made, with_name, tree_after, opens_after}
+use Rattle.mb_tree.specs.Effect.{TreeAndOpens, effect, made, with_name, tree_after, opens_after}
 use Rattle.mb_tree.specs.Rows.{plan}
 use Rattle.mb_tree.specs.Step.{effect_of}
 use Rattle.mb_tree.specs.Trees.{IsRegularAt}
@@ -19,7 +19,7 @@ use Rattle.mb_tree.specs.declared.machines.Machine.{Machine}
 use Rattle.mb_tree.specs.declared.nodes.Node.{Node}
 use Rattle.mb_tree.specs.declared.nodes.Body.TheVariants.{Regular}
 use Rattle.mb_tree.specs.declared.operations.FsOp.TheVariants as op
-use Rattle.mb_tree.specs.declared.plans.Plan.{Plan}
+use Rattle.mb_tree.specs.declared.plans.CallPlan.{CallPlan}
 use Rattle.mb_tree.specs.declared.seats.PlainFile.{PlainFile}
 use Rattle.mb_tree.specs.declared.seats.Seat.{Seat}
 use Rattle.mb_tree.specs.declared.seats.SessionChange.{SessionChange}
@@ -34,7 +34,7 @@ use Rattle.mb_tree.proofs.Outcomes.{Outcome, outcome}
 use Rattle.mb_tree.proofs.Fitting.{IsCreated, fits_fresh, session_fits, seated_over, each_seat}
 
 -- a file that was made is there
-made_regular : (tree : Tree) (opens : Counts) (dir : ℕ) (name : List ℕ) (mode uid gid moment ino : ℕ) (held : Held)
+made_regular : (tree : Tree) (opens : Counts) (dir : ℕ) (name : List ℕ) (mode uid gid moment ino : ℕ) (held : TreeAndOpens)
     → effect tree opens (op.Create dir name mode uid gid moment) (Some ino) ≡ Ok held → IsRegularAt held.tree.nodes ino
 made_regular tree opens dir name mode uid gid moment ino held h =
     let node : Node = made (bit_or 0x8000 mode) 1 uid gid moment (Regular 0 fin.empty) in
@@ -42,7 +42,7 @@ made_regular tree opens dir name mode uid gid moment ino held h =
     let one = bind_ok (tree_after tree opens (op.Create dir name mode uid gid moment) (Some ino)) _ held h in
     let two = then_ok (need (nat_le (cost (record tree { nodes = nodes })) tree.cap) ENOSPC) (Ok (record tree { nodes = nodes })) one.0 one.1 in
     let is : ◌≡◌ {A = Tree} (record tree { nodes = nodes }) one.0 = same_ok _ one.0 two.2 in
-    let at : one.0 ≡ held.tree = ap (λ (x : Held). x.tree) (same_ok (record { tree = one.0; opens = opens_after opens (op.Create dir name mode uid gid moment) (Some ino) }) held one.2) in
+    let at : one.0 ≡ held.tree = ap (λ (x : TreeAndOpens). x.tree) (same_ok (record { tree = one.0; opens = opens_after opens (op.Create dir name mode uid gid moment) (Some ino) }) held one.2) in
     subst (λ (t : Tree). IsRegularAt t.nodes ino) (is ∙ at) (record { node = node; size = 0; parts = fin.empty; has = get_here _ ino node; body = refl })
 
 -- what is used before a file is opened is used after it
@@ -52,7 +52,7 @@ used_before old new seat fd place file free keeps = record {
   files = λ pl f h. keeps.files pl f (get_there seat.files place file pl (λ is. apart_some (fin.get seat.files place) f free (ap (fin.get seat.files) (sym is) ∙ h)) ∙ h);
 }
 
-module _ (machine : Machine) (caller : ℕ) (asked : Call) (moment : ℕ) (pick : Option ℕ) (planned : Plan) (valid : IsValid machine) (h : plan machine caller asked moment pick ≡ Ok planned) where
+module _ (machine : Machine) (caller : ℕ) (asked : Call) (moment : ℕ) (pick : Option ℕ) (planned : CallPlan) (valid : IsValid machine) (h : plan machine caller asked moment pick ≡ Ok planned) where
   abbrev out : (seat : Seat) × (slice_get machine.seats caller ≡ Some seat) × Outcome machine.tree.nodes machine.seats seat moment pick asked planned
   out = outcome machine caller asked moment pick planned h
 
@@ -91,7 +91,7 @@ module _ (machine : Machine) (caller : ℕ) (asked : Call) (moment : ℕ) (pick 
           (λ other s apart at used. seated_over machine.tree.nodes nodes s ((valid other).seat s at) used) other s e) (keeps other s e)
     ]
 
-made_there : (machine : Machine) (seat : Seat) (pick : Option ℕ) (planned : Plan) (held : Held) → effect_of machine.tree (counts machine.seats) planned.op pick ≡ Ok held
+made_there : (machine : Machine) (seat : Seat) (pick : Option ℕ) (planned : CallPlan) (held : TreeAndOpens) → effect_of machine.tree (counts machine.seats) planned.op pick ≡ Ok held
     → (made_one : IsCreated seat pick planned) → IsRegularAt held.tree.nodes made_one.ino
 made_there machine seat pick planned held e m =
     made_regular machine.tree (counts machine.seats) m.dir m.name m.mode m.uid m.gid m.moment m.ino held

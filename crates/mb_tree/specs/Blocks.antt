@@ -50,5 +50,5 @@ abbrev pub list_in : (ℕ → List ℕ) → ℕ → Listed
 list_in blocks block = record { count = chain_count (blocks block); entry = chain_entry (blocks block) }
 
 -- these are the free blocks, in the order in which they are taken
-abbrev pub IsFree : (ℕ → List ℕ) → List ℕ → Type 0
-IsFree blocks chain = IsChain (list_in blocks) (first_list blocks) chain
+abbrev pub IsFreeChain : (ℕ → List ℕ) → List ℕ → Type 0
+IsFreeChain blocks chain = IsChain (list_in blocks) (first_list blocks) chain

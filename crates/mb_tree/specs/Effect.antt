@@ -19,7 +19,7 @@ use Rattle.mb_tree.specs.declared.operations.FsOp.{FsOp}
 use Rattle.mb_tree.specs.declared.operations.FsOp.TheVariants.{Create, Empty, MakeDir, RemoveDir, Enlink, Delink, Put, SetMode, SetOwner, SetTimes, Hold, Release}
 
 -- a tree and the counts of open files on its inodes
-pub record Held : Type 0 where
+pub record TreeAndOpens : Type 0 where
   pub tree : Tree
   pub opens : Counts
 
@@ -231,7 +231,7 @@ opens_after opens (Hold ino) pick = hold opens ino
 opens_after opens (Release inos) pick = release opens inos
 
 -- both; refused with ENOSPC, EFBIG or EMLINK alone
-abbrev pub effect : Tree → Counts → FsOp → Option ℕ → Answer Held
+abbrev pub effect : Tree → Counts → FsOp → Option ℕ → Answer TreeAndOpens
 effect tree opens op pick = do
   next ← tree_after tree opens op pick
   Ok (record { tree = next; opens = opens_after opens op pick })

@@ -7,7 +7,7 @@ use Rattle.mb_tree.specs.Inodes.{slots_of}
 use Rattle.mb_tree.specs.Lookup.{number_in, used_in}
 use Rattle.mb_tree.specs.Sessions.{Counts}
 use Rattle.mb_tree.specs.Rows.{is_dots}
-use Rattle.mb_tree.specs.Step.{IsFree}
+use Rattle.mb_tree.specs.Step.{IsFreeNumber}
 use Rattle.mb_tree.specs.Trees.{IsThere, IsDirectoryAt, IsRegularAt, IsName}
 use Rattle.mb_tree.specs.declared.nodes.Node.{Node}
 use Rattle.mb_tree.specs.declared.trees.Tree.{Tree}
@@ -34,7 +34,7 @@ pub record IsMissing (nodes : Numbered Node) (dir : ℕ) (name : List ℕ) : Typ
 pub record FitsNew (tree : Tree) (dir : ℕ) (name : List ℕ) (mode : ℕ) (pick : Option ℕ) : Type 0 where
   pub missing : IsMissing tree.nodes dir name
   pub permissions : mode < 512
-  pub picked : IfSome pick (IsFree tree)
+  pub picked : IfSome pick (IsFreeNumber tree)
 
 -- a directory removed: it has two used slots and is not open
 pub record FitsRemoval (tree : Tree) (opens : Counts) (dir : ℕ) (name : List ℕ) : Type 0 where

@@ -27,10 +27,10 @@ abbrev pub is_special : ℕ → Bool
 is_special mode = kind_of mode == 0x2000 || kind_of mode == 0x6000
 
 -- a directory's size is 16 bytes for each slot, empty ones among them; a size has 32 bits
-abbrev pub size_of : Body → ℕ
-size_of (Regular size parts) = size
-size_of (Directory slots) = min (16 * length slots) 0xFFFFFFFF
-size_of (Special size area) = size
+abbrev pub body_size : Body → ℕ
+body_size (Regular size parts) = size
+body_size (Directory slots) = min (16 * length slots) 0xFFFFFFFF
+body_size (Special size area) = size
 
 abbrev pub slots_of : Body → Option (List PlainSlot)
 slots_of (Regular size parts) = None
@@ -45,7 +45,7 @@ stat_of ino node = record {
   nlink = node.nlink;
   uid = node.uid;
   gid = node.gid;
-  size = size_of node.body;
+  size = body_size node.body;
   atime = node.atime;
   mtime = node.mtime;
   ctime = node.ctime;
@@ -67,13 +67,13 @@ abbrev pub part_at : Numbered (List ℕ) → ℕ → List ℕ
 part_at parts part = unwrap_or (fin.get parts part) zeros
 
 -- dir(5): the number, low byte first, and then the name
-abbrev pub slot_bytes : PlainSlot → List ℕ
-slot_bytes slot = slot.ino % 256 ∷ slot.ino / 256 ∷ slot.name
+abbrev pub plain_slot_bytes : PlainSlot → List ℕ
+plain_slot_bytes slot = slot.ino % 256 ∷ slot.ino / 256 ∷ slot.name
 
 -- the byte at an index: a directory's bytes are those of its slots
 abbrev pub byte_at : Body → ℕ → ℕ
 byte_at (Regular size parts) index = slice_index (part_at parts (index / 512)) (index % 512)
-byte_at (Directory slots) index = unwrap_or (option_map (λ slot. slice_index (slot_bytes slot) (index % 16)) (slice_get slots (index / 16))) 0
+byte_at (Directory slots) index = unwrap_or (option_map (λ slot. slice_index (plain_slot_bytes slot) (index % 16)) (slice_get slots (index / 16))) 0
 byte_at (Special size area) index = 0
 
 -- count bytes from an index on
@@ -83,4 +83,4 @@ bytes_from body index (suc count) = byte_at body index ∷ bytes_from body (inde
 
 -- what a read of count bytes at an offset gets: none at or past the size
 abbrev pub read_at : Body → ℕ → ℕ → List ℕ
-read_at body offset count = bytes_from body offset (min count (size_of body - offset))
+read_at body offset count = bytes_from body offset (min count (body_size body - offset))

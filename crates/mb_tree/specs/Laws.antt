@@ -12,7 +12,7 @@ use Rattle.mb_tree.specs.Machines.{IsSeated, FitsSession}
 use Rattle.mb_tree.specs.declared.nodes.Node.{Node}
 use Rattle.mb_tree.specs.declared.seats.Seat.{Seat}
 use Rattle.mb_tree.specs.declared.seats.SessionChange.{SessionChange}
-use Rattle.mb_tree.specs.Effect.{Held, release, less_open, tree_after}
+use Rattle.mb_tree.specs.Effect.{TreeAndOpens, release, less_open, tree_after}
 use Rattle.mb_tree.specs.declared.operations.FsOp.{FsOp}
 use Rattle.mb_tree.specs.declared.operations.FsOp.TheVariants.{Empty, Put, SetMode, SetOwner, SetTimes, Hold}
 use Rattle.mb_tree.specs.Rows.{plan}
@@ -26,7 +26,7 @@ use Rattle.mb_tree.specs.declared.trees.Tree.{Tree}
 use Rattle.mb_tree.specs.Cost.{cost}
 use Rattle.mb_tree.specs.History.{after, Runs, Follows, Legal}
 use Rattle.mb_tree.specs.declared.machines.Machine.{Machine}
-use Rattle.mb_tree.specs.declared.plans.Plan.{Plan}
+use Rattle.mb_tree.specs.declared.plans.CallPlan.{CallPlan}
 
 -- the machine after two histories in a row
 abbrev pub AfterAppends : Type 0
@@ -53,8 +53,8 @@ RefusedStays = (machine : Machine) (caller : ℕ) (call : Call) (moment : ℕ) (
 
 -- what a call that is served did: its plan, the effect of the plan's operation on the tree, its session change
 pub record IsServed (machine : Machine) (caller : ℕ) (call : Call) (moment : ℕ) (pick : Option ℕ) (reply : Reply) (next : Machine) : Type 0 where
-  pub planned : Plan
-  pub held : Held
+  pub planned : CallPlan
+  pub held : TreeAndOpens
   pub plans : plan machine caller call moment pick ≡ Ok planned
   pub acts : effect_of machine.tree (counts machine.seats) planned.op pick ≡ Ok held
   pub answers : reply ≡ planned.reply

@@ -9,28 +9,28 @@ use Rattle.mb_tree.specs.declared.operations.FsOp.{FsOp}
 use Rattle.mb_tree.specs.declared.operations.FsOp.TheVariants.{Create, MakeDir, RemoveDir, Enlink, Delink}
 
 -- an operation that fits keeps a sound tree sound
-abbrev pub Keeps : FsOp → Type 0
-Keeps op = (tree : Tree) (opens : Counts) (pick : Option ℕ) (next : Tree) → IsSound tree → Fits tree opens op pick → tree_after tree opens op pick ≡ Ok next → IsSound next
+abbrev pub KeepsSound : FsOp → Type 0
+KeepsSound op = (tree : Tree) (opens : Counts) (pick : Option ℕ) (next : Tree) → IsSound tree → Fits tree opens op pick → tree_after tree opens op pick ≡ Ok next → IsSound next
 
 -- one name more
 abbrev pub EnlinkKept : Type 0
-EnlinkKept = (dir : ℕ) (name : List ℕ) (ino moment : ℕ) → Keeps (Enlink dir name ino moment)
+EnlinkKept = (dir : ℕ) (name : List ℕ) (ino moment : ℕ) → KeepsSound (Enlink dir name ino moment)
 
 -- one name less
 abbrev pub DelinkKept : Type 0
-DelinkKept = (dir : ℕ) (name : List ℕ) (moment : ℕ) → Keeps (Delink dir name moment)
+DelinkKept = (dir : ℕ) (name : List ℕ) (moment : ℕ) → KeepsSound (Delink dir name moment)
 
 -- a file made under a missing name, with a free number
 abbrev pub CreateKept : Type 0
-CreateKept = (dir : ℕ) (name : List ℕ) (mode uid gid moment : ℕ) → Keeps (Create dir name mode uid gid moment)
+CreateKept = (dir : ℕ) (name : List ℕ) (mode uid gid moment : ℕ) → KeepsSound (Create dir name mode uid gid moment)
 
 -- a directory made so
 abbrev pub MakeDirKept : Type 0
-MakeDirKept = (dir : ℕ) (name : List ℕ) (mode uid gid moment : ℕ) → Keeps (MakeDir dir name mode uid gid moment)
+MakeDirKept = (dir : ℕ) (name : List ℕ) (mode uid gid moment : ℕ) → KeepsSound (MakeDir dir name mode uid gid moment)
 
 -- a directory with two used slots removed
 abbrev pub RemoveDirKept : Type 0
-RemoveDirKept = (dir : ℕ) (name : List ℕ) (moment : ℕ) → Keeps (RemoveDir dir name moment)
+RemoveDirKept = (dir : ℕ) (name : List ℕ) (moment : ℕ) → KeepsSound (RemoveDir dir name moment)
 
 -- each operation that fits
 abbrev pub OperationKept : Type 0

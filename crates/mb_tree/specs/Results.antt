@@ -3,7 +3,7 @@
 use Rattle.std.specs.Prelude.{◌≡◌, Result, Ok, Err, IsOkAnd}
 use Rattle.mb_kinds.specs.declared.replies.Reply.{Reply}
 use Rattle.mb_tree.specs.Answers.{Answer}
-use Rattle.mb_tree.specs.Effect.{Held}
+use Rattle.mb_tree.specs.Effect.{TreeAndOpens}
 use Rattle.mb_tree.specs.declared.trees.Tree.{Tree}
 use Rattle.mb_tree.specs.declared.machines.Machine.{Machine}
 use Rattle.mb_tree.specs.declared.stops.Stop.{Stop}
@@ -20,9 +20,9 @@ Gives view (Ok x) answer = answer ≡ Ok (view x)
 Gives view (Err stop) answer = Stops stop answer
 
 -- a change of the tree is done, or nothing is
-abbrev pub Acts : {X : Type 0} → Result X Stop → Tree → Tree → Answer Held → Type 0
-Acts (Ok x) old new answer = IsOkAnd answer (λ (held : Held). held.tree ≡ new)
-Acts (Err stop) old new answer = Stops stop answer × (new ≡ old)
+abbrev pub GivesTree : {X : Type 0} → Result X Stop → Tree → Tree → Answer TreeAndOpens → Type 0
+GivesTree (Ok x) old new answer = IsOkAnd answer (λ (held : TreeAndOpens). held.tree ≡ new)
+GivesTree (Err stop) old new answer = Stops stop answer × (new ≡ old)
 
 -- a call is served, or the machine is as before
 abbrev pub Serves : Result Reply Stop → Machine → Machine → Answer (Reply × Machine) → Type 0

@@ -17,7 +17,7 @@ use Rattle.mb_kinds.specs.declared.calls.Call.TheVariants as call
 use Rattle.mb_kinds.specs.declared.errors.Errno.TheVariants.{EPERM, ENOENT, ENXIO, EBADF, EACCES, EBUSY, EEXIST, ENOTDIR, EISDIR, EINVAL, EMFILE, EFBIG, ENOSPC}
 use Rattle.mb_tree.specs.Answers.{Answer, ◌>>=◌, ◌>>◌, need, some}
 use Rattle.mb_tree.specs.Maps.{Numbered}
-use Rattle.mb_tree.specs.Inodes.{is_directory, is_special, size_of, may, read_at}
+use Rattle.mb_tree.specs.Inodes.{is_directory, is_special, body_size, may, read_at}
 use Rattle.mb_tree.specs.Lookup.{stat_in, find_path, find_place, used_in}
 use Rattle.mb_tree.specs.Sessions.{reads, writes, free_descriptor, file_on, is_shared, inos_of, counts}
 use Rattle.mb_tree.specs.Effect.{dot, dot_dot}
@@ -27,33 +27,33 @@ use Rattle.mb_tree.specs.declared.seats.Seat.{Seat}
 use Rattle.mb_tree.specs.declared.machines.Machine.{Machine}
 use Rattle.mb_tree.specs.declared.lookups.Placed.{Placed}
 use Rattle.mb_tree.specs.declared.lookups.Placed.TheVariants.{Itself, At}
-use Rattle.mb_tree.specs.declared.plans.Plan.{Plan}
+use Rattle.mb_tree.specs.declared.plans.CallPlan.{CallPlan}
 use Rattle.mb_tree.specs.declared.seats.SessionChange.{SessionChange}
 use Rattle.mb_tree.specs.declared.seats.SessionChange.TheVariants.{Same, Fresh, Twin, Free, Move, Cwd, Mask, Clear}
 use Rattle.mb_tree.specs.declared.operations.FsOp.{FsOp}
 use Rattle.mb_tree.specs.declared.operations.FsOp.TheVariants as op
 
 -- a reply alone
-abbrev pub reply : Reply → Plan
+abbrev pub reply : Reply → CallPlan
 reply answer = record { reply = answer; op = None; session = Same }
 
 -- a reply and a session change
-abbrev pub seated : Reply → SessionChange → Plan
+abbrev pub seated : Reply → SessionChange → CallPlan
 seated answer change = record { reply = answer; op = None; session = change }
 
 -- reply 0 and an operation
-abbrev pub act : FsOp → Plan
+abbrev pub act : FsOp → CallPlan
 act operation = record { reply = Num 0; op = Some operation; session = Same }
 
 -- all three
-abbrev pub both : ℕ → FsOp → SessionChange → Plan
+abbrev pub both : ℕ → FsOp → SessionChange → CallPlan
 both number operation change = record { reply = Num number; op = Some operation; session = change }
 
 -- the permission bits that a direction wants
 abbrev pub bits_of : How → ℕ
 bits_of how = (if reads how then 4 else 0) + (if writes how then 2 else 0)
 
-abbrev pub open_row : Numbered Node → Seat → List ℕ → How → Answer Plan
+abbrev pub open_row : Numbered Node → Seat → List ℕ → How → Answer CallPlan
 open_row nodes seat path how = do
   stat ← find_path nodes seat.cred seat.cwd path
   need (may seat.cred stat (bits_of how)) EACCES
@@ -66,7 +66,7 @@ open_row nodes seat path how = do
 abbrev pub masked : ℕ → Seat → ℕ
 masked mode seat = bit_and (bit_and mode 0x1FF) (0xFFFF - seat.umask)
 
-abbrev pub creat_present : Numbered Node → Seat → ℕ → ℕ → Answer Plan
+abbrev pub creat_present : Numbered Node → Seat → ℕ → ℕ → Answer CallPlan
 creat_present nodes seat moment ino = do
   stat ← stat_in nodes ino
   need (may seat.cred stat 2) EACCES
@@ -76,7 +76,7 @@ creat_present nodes seat moment ino = do
   Ok (both fd (op.Empty ino moment) (Fresh fd ino Writing))
 
 -- where no number is picked no inode is free
-abbrev pub creat_missing : Numbered Node → Seat → ℕ → ℕ → Option ℕ → ℕ → List ℕ → Answer Plan
+abbrev pub creat_missing : Numbered Node → Seat → ℕ → ℕ → Option ℕ → ℕ → List ℕ → Answer CallPlan
 creat_missing nodes seat mode moment pick dir name = do
   parent ← stat_in nodes dir
   need (may seat.cred parent 2) EACCES
@@ -84,27 +84,27 @@ creat_missing nodes seat mode moment pick dir name = do
   ino ← some pick ENOSPC
   Ok (both fd (op.Create dir name (masked mode seat) seat.cred.uid seat.cred.gid moment) (Fresh fd ino Writing))
 
-abbrev pub creat_at : Numbered Node → Seat → ℕ → ℕ → Option ℕ → Placed → Answer Plan
+abbrev pub creat_at : Numbered Node → Seat → ℕ → ℕ → Option ℕ → Placed → Answer CallPlan
 creat_at nodes seat mode moment pick (Itself ino) = creat_present nodes seat moment ino
 creat_at nodes seat mode moment pick (At dir name (Some ino)) = creat_present nodes seat moment ino
 creat_at nodes seat mode moment pick (At dir name None) = creat_missing nodes seat mode moment pick dir name
 
-abbrev pub creat_row : Numbered Node → Seat → List ℕ → ℕ → ℕ → Option ℕ → Answer Plan
+abbrev pub creat_row : Numbered Node → Seat → List ℕ → ℕ → ℕ → Option ℕ → Answer CallPlan
 creat_row nodes seat path mode moment pick = do
   placed ← find_place nodes seat.cred seat.cwd path
   creat_at nodes seat mode moment pick placed
 
 -- the open file is released with its last descriptor
-abbrev pub close_row : Seat → ℕ → Answer Plan
+abbrev pub close_row : Seat → ℕ → Answer CallPlan
 close_row seat fd = do
   file ← some (file_on seat fd) EBADF
   Ok (if is_shared seat fd then seated (Num 0) (Free fd) else both 0 (op.Release (file.ino ∷ [])) (Free fd))
 
 -- the offset grows by what is got
-abbrev pub got : ℕ → ℕ → List ℕ → Plan
+abbrev pub got : ℕ → ℕ → List ℕ → CallPlan
 got fd offset bytes = seated (Got bytes) (Move fd (offset + length bytes))
 
-abbrev pub read_row : Numbered Node → Seat → ℕ → ℕ → Answer Plan
+abbrev pub read_row : Numbered Node → Seat → ℕ → ℕ → Answer CallPlan
 read_row nodes seat fd count = do
   file ← some (file_on seat fd) EBADF
   need (reads file.how) EBADF
@@ -112,11 +112,11 @@ read_row nodes seat fd count = do
   Ok (got fd file.offset (read_at node.body file.offset count))
 
 -- with no bytes nothing changes
-abbrev pub wrote : ℕ → PlainFile → List ℕ → ℕ → Plan
+abbrev pub wrote : ℕ → PlainFile → List ℕ → ℕ → CallPlan
 wrote fd file [] moment = reply (Num 0)
 wrote fd file (byte ∷ bytes) moment = both (length (byte ∷ bytes)) (op.Put file.ino file.offset (byte ∷ bytes) moment) (Move fd (file.offset + length (byte ∷ bytes)))
 
-abbrev pub write_row : Seat → ℕ → List ℕ → ℕ → Answer Plan
+abbrev pub write_row : Seat → ℕ → List ℕ → ℕ → Answer CallPlan
 write_row seat fd bytes moment = do
   file ← some (file_on seat fd) EBADF
   need (writes file.how) EBADF
@@ -125,7 +125,7 @@ write_row seat fd bytes moment = do
 
 -- the size of the inode with a number, 0 where there is none
 abbrev pub size_in : Numbered Node → ℕ → ℕ
-size_in nodes ino = unwrap_or (option_map (λ (node : Node). size_of node.body) (fin.get nodes ino)) 0
+size_in nodes ino = unwrap_or (option_map (λ (node : Node). body_size node.body) (fin.get nodes ino)) 0
 
 -- where an offset counts from
 abbrev pub base_of : Numbered Node → PlainFile → Whence → ℕ
@@ -138,19 +138,19 @@ abbrev pub offset_at : ℤ → Option ℕ
 offset_at (pos offset) = if nat_le offset 2147483647 then Some offset else None
 offset_at (negsuc below) = None
 
-abbrev pub lseek_row : Numbered Node → Seat → ℕ → ℤ → Whence → Answer Plan
+abbrev pub lseek_row : Numbered Node → Seat → ℕ → ℤ → Whence → Answer CallPlan
 lseek_row nodes seat fd by whence = do
   file ← some (file_on seat fd) EBADF
   offset ← some (offset_at (pos (base_of nodes file whence) +ℤ by)) EINVAL
   Ok (seated (Num offset) (Move fd offset))
 
-abbrev pub dup_row : Seat → ℕ → Answer Plan
+abbrev pub dup_row : Seat → ℕ → Answer CallPlan
 dup_row seat fd = do
   file ← some (file_on seat fd) EBADF
   to ← some (free_descriptor seat) EMFILE
   Ok (seated (Num to) (Twin fd to))
 
-abbrev pub link_at : Numbered Node → Seat → ℕ → ℕ → Placed → Answer Plan
+abbrev pub link_at : Numbered Node → Seat → ℕ → ℕ → Placed → Answer CallPlan
 link_at nodes seat moment ino (Itself other) = Err EEXIST
 link_at nodes seat moment ino (At dir name (Some other)) = Err EEXIST
 link_at nodes seat moment ino (At dir name None) = do
@@ -158,14 +158,14 @@ link_at nodes seat moment ino (At dir name None) = do
   need (may seat.cred parent 2) EACCES
   Ok (act (op.Enlink dir name ino moment))
 
-abbrev pub link_row : Numbered Node → Seat → List ℕ → List ℕ → ℕ → Answer Plan
+abbrev pub link_row : Numbered Node → Seat → List ℕ → List ℕ → ℕ → Answer CallPlan
 link_row nodes seat from to moment = do
   stat ← find_path nodes seat.cred seat.cwd from
   need (not (is_directory stat.mode)) EPERM
   placed ← find_place nodes seat.cred seat.cwd to
   link_at nodes seat moment stat.ino placed
 
-abbrev pub unlink_named : Numbered Node → Seat → ℕ → ℕ → List ℕ → ℕ → Answer Plan
+abbrev pub unlink_named : Numbered Node → Seat → ℕ → ℕ → List ℕ → ℕ → Answer CallPlan
 unlink_named nodes seat moment dir name ino = do
   stat ← stat_in nodes ino
   parent ← stat_in nodes dir
@@ -173,17 +173,17 @@ unlink_named nodes seat moment dir name ino = do
   need (not (is_directory stat.mode)) EPERM
   Ok (act (op.Delink dir name moment))
 
-abbrev pub unlink_at : Numbered Node → Seat → ℕ → Placed → Answer Plan
+abbrev pub unlink_at : Numbered Node → Seat → ℕ → Placed → Answer CallPlan
 unlink_at nodes seat moment (Itself ino) = Err EPERM
 unlink_at nodes seat moment (At dir name None) = Err ENOENT
 unlink_at nodes seat moment (At dir name (Some ino)) = unlink_named nodes seat moment dir name ino
 
-abbrev pub unlink_row : Numbered Node → Seat → List ℕ → ℕ → Answer Plan
+abbrev pub unlink_row : Numbered Node → Seat → List ℕ → ℕ → Answer CallPlan
 unlink_row nodes seat path moment = do
   placed ← find_place nodes seat.cred seat.cwd path
   unlink_at nodes seat moment placed
 
-abbrev pub mkdir_at : Numbered Node → Seat → ℕ → ℕ → Placed → Answer Plan
+abbrev pub mkdir_at : Numbered Node → Seat → ℕ → ℕ → Placed → Answer CallPlan
 mkdir_at nodes seat mode moment (Itself ino) = Err EEXIST
 mkdir_at nodes seat mode moment (At dir name (Some ino)) = Err EEXIST
 mkdir_at nodes seat mode moment (At dir name None) = do
@@ -191,7 +191,7 @@ mkdir_at nodes seat mode moment (At dir name None) = do
   need (may seat.cred parent 2) EACCES
   Ok (act (op.MakeDir dir name (masked mode seat) seat.cred.uid seat.cred.gid moment))
 
-abbrev pub mkdir_row : Numbered Node → Seat → List ℕ → ℕ → ℕ → Answer Plan
+abbrev pub mkdir_row : Numbered Node → Seat → List ℕ → ℕ → ℕ → Answer CallPlan
 mkdir_row nodes seat path mode moment = do
   placed ← find_place nodes seat.cred seat.cwd path
   mkdir_at nodes seat mode moment placed
@@ -203,7 +203,7 @@ is_busy seats ino = ino == 2 || nat_lt 0 (counts seats ino) || list_any (λ (sea
 abbrev pub is_dots : List ℕ → Bool
 is_dots name = bytes_eq name dot || bytes_eq name dot_dot
 
-abbrev pub rmdir_named : Numbered Node → List Seat → Seat → ℕ → ℕ → List ℕ → ℕ → Answer Plan
+abbrev pub rmdir_named : Numbered Node → List Seat → Seat → ℕ → ℕ → List ℕ → ℕ → Answer CallPlan
 rmdir_named nodes seats seat moment dir name ino = do
   stat ← stat_in nodes ino
   need (is_directory stat.mode) ENOTDIR
@@ -214,29 +214,29 @@ rmdir_named nodes seats seat moment dir name ino = do
   need (nat_le (used_in nodes ino) 2) EEXIST
   Ok (act (op.RemoveDir dir name moment))
 
-abbrev pub rmdir_at : Numbered Node → List Seat → Seat → ℕ → Placed → Answer Plan
+abbrev pub rmdir_at : Numbered Node → List Seat → Seat → ℕ → Placed → Answer CallPlan
 rmdir_at nodes seats seat moment (Itself ino) = Err EBUSY
 rmdir_at nodes seats seat moment (At dir name None) = Err ENOENT
 rmdir_at nodes seats seat moment (At dir name (Some ino)) = rmdir_named nodes seats seat moment dir name ino
 
-abbrev pub rmdir_row : Numbered Node → List Seat → Seat → List ℕ → ℕ → Answer Plan
+abbrev pub rmdir_row : Numbered Node → List Seat → Seat → List ℕ → ℕ → Answer CallPlan
 rmdir_row nodes seats seat path moment = do
   placed ← find_place nodes seat.cred seat.cwd path
   rmdir_at nodes seats seat moment placed
 
-abbrev pub chdir_row : Numbered Node → Seat → List ℕ → Answer Plan
+abbrev pub chdir_row : Numbered Node → Seat → List ℕ → Answer CallPlan
 chdir_row nodes seat path = do
   stat ← find_path nodes seat.cred seat.cwd path
   need (is_directory stat.mode) ENOTDIR
   need (may seat.cred stat 1) EACCES
   Ok (seated (Num 0) (Cwd stat.ino))
 
-abbrev pub stat_row : Numbered Node → Seat → List ℕ → Answer Plan
+abbrev pub stat_row : Numbered Node → Seat → List ℕ → Answer CallPlan
 stat_row nodes seat path = do
   stat ← find_path nodes seat.cred seat.cwd path
   Ok (reply (Info stat))
 
-abbrev pub fstat_row : Numbered Node → Seat → ℕ → Answer Plan
+abbrev pub fstat_row : Numbered Node → Seat → ℕ → Answer CallPlan
 fstat_row nodes seat fd = do
   file ← some (file_on seat fd) EBADF
   stat ← stat_in nodes file.ino
@@ -249,45 +249,45 @@ is_owner cred stat = cred.uid == 0 || cred.uid == stat.uid
 abbrev pub stored : ℕ → Cred → ℕ
 stored mode cred = bit_and mode (if cred.uid == 0 then 0xFFF else 0xDFF)
 
-abbrev pub chmod_row : Numbered Node → Seat → List ℕ → ℕ → ℕ → Answer Plan
+abbrev pub chmod_row : Numbered Node → Seat → List ℕ → ℕ → ℕ → Answer CallPlan
 chmod_row nodes seat path mode moment = do
   stat ← find_path nodes seat.cred seat.cwd path
   need (is_owner seat.cred stat) EPERM
   Ok (act (op.SetMode stat.ino (stored mode seat.cred) moment))
 
-abbrev pub chown_row : Numbered Node → Seat → List ℕ → ℕ → ℕ → ℕ → Answer Plan
+abbrev pub chown_row : Numbered Node → Seat → List ℕ → ℕ → ℕ → ℕ → Answer CallPlan
 chown_row nodes seat path uid gid moment = do
   stat ← find_path nodes seat.cred seat.cwd path
   need (seat.cred.uid == 0) EPERM
   Ok (act (op.SetOwner stat.ino uid gid moment))
 
-abbrev pub utime_row : Numbered Node → Seat → List ℕ → ℕ → ℕ → ℕ → Answer Plan
+abbrev pub utime_row : Numbered Node → Seat → List ℕ → ℕ → ℕ → ℕ → Answer CallPlan
 utime_row nodes seat path atime mtime moment = do
   stat ← find_path nodes seat.cred seat.cwd path
   need (is_owner seat.cred stat) EPERM
   Ok (act (op.SetTimes stat.ino atime mtime moment))
 
-abbrev pub access_row : Numbered Node → Seat → List ℕ → ℕ → Answer Plan
+abbrev pub access_row : Numbered Node → Seat → List ℕ → ℕ → Answer CallPlan
 access_row nodes seat path bits = do
   stat ← find_path nodes seat.cred seat.cwd path
   need (may seat.cred stat bits) EACCES
   Ok (reply (Num 0))
 
-abbrev pub umask_row : Seat → ℕ → Answer Plan
+abbrev pub umask_row : Seat → ℕ → Answer CallPlan
 umask_row seat mask = Ok (seated (Num seat.umask) (Mask (bit_and mask 0x1FF)))
 
-abbrev pub sync_row : Answer Plan
+abbrev pub sync_row : Answer CallPlan
 sync_row = Ok (reply (Num 0))
 
 -- all descriptors closed
-abbrev pub exited : List ℕ → Plan
+abbrev pub exited : List ℕ → CallPlan
 exited [] = seated (Num 0) Clear
 exited (ino ∷ inos) = both 0 (op.Release (ino ∷ inos)) Clear
 
-abbrev pub exit_row : Seat → Answer Plan
+abbrev pub exit_row : Seat → Answer CallPlan
 exit_row seat = Ok (exited (inos_of seat))
 
-abbrev pub row : Numbered Node → List Seat → Seat → Call → ℕ → Option ℕ → Answer Plan
+abbrev pub row : Numbered Node → List Seat → Seat → Call → ℕ → Option ℕ → Answer CallPlan
 row nodes seats seat (call.Open path how) moment pick = open_row nodes seat path how
 row nodes seats seat (call.Creat path mode) moment pick = creat_row nodes seat path mode moment pick
 row nodes seats seat (call.Close fd) moment pick = close_row seat fd
@@ -311,7 +311,7 @@ row nodes seats seat call.Sync moment pick = sync_row
 row nodes seats seat call.Exit moment pick = exit_row seat
 
 -- the plan of a declared caller's call
-abbrev pub plan : Machine → ℕ → Call → ℕ → Option ℕ → Answer Plan
+abbrev pub plan : Machine → ℕ → Call → ℕ → Option ℕ → Answer CallPlan
 plan machine caller call moment pick = do
   seat ← some (slice_get machine.seats caller) EINVAL
   row machine.tree.nodes machine.seats seat call moment pick

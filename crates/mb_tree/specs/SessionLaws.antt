@@ -7,9 +7,9 @@ use Rattle.mb_kinds.specs.declared.calls.Call.TheVariants as call
 use Rattle.mb_kinds.specs.declared.replies.Reply.{Reply}
 use Rattle.mb_tree.specs.Maps.{Numbered}
 use Rattle.mb_tree.specs.Sessions.{counts, with_change}
-use Rattle.mb_tree.specs.Effect.{Held}
+use Rattle.mb_tree.specs.Effect.{TreeAndOpens}
 use Rattle.mb_tree.specs.Rows.{plan}
-use Rattle.mb_tree.specs.Step.{IsFree, IsLawful, effect_of, serve, step}
+use Rattle.mb_tree.specs.Step.{IsFreeNumber, IsLawful, effect_of, serve, step}
 use Rattle.mb_tree.specs.Trees.{IsDirectoryAt, IsRegularAt, IsSound}
 use Rattle.mb_tree.specs.Fits.{Fits}
 use Rattle.mb_tree.specs.Machines.{IsValidFor, IsValid}
@@ -18,13 +18,13 @@ use Rattle.mb_tree.specs.declared.machines.Machine.{Machine}
 use Rattle.mb_tree.specs.declared.nodes.Node.{Node}
 use Rattle.mb_tree.specs.declared.operations.FsOp.{FsOp}
 use Rattle.mb_tree.specs.declared.operations.FsOp.TheVariants.{Release}
-use Rattle.mb_tree.specs.declared.plans.Plan.{Plan}
+use Rattle.mb_tree.specs.declared.plans.CallPlan.{CallPlan}
 use Rattle.mb_tree.specs.declared.seats.PlainFile.{PlainFile}
 use Rattle.mb_tree.specs.declared.seats.Seat.{Seat}
 
 -- the counts of open files after a call are those that its operation leaves
 abbrev pub CountsFollow : Type 0
-CountsFollow = (machine : Machine) (caller : ℕ) (made : Call) (moment : ℕ) (pick : Option ℕ) (planned : Plan) (held : Held)
+CountsFollow = (machine : Machine) (caller : ℕ) (made : Call) (moment : ℕ) (pick : Option ℕ) (planned : CallPlan) (held : TreeAndOpens)
     → IsValidFor machine caller → plan machine caller made moment pick ≡ Ok planned → effect_of machine.tree (counts machine.seats) planned.op pick ≡ Ok held
     → counts (with_change machine.seats caller planned.session) ≡ held.opens
 
@@ -54,12 +54,12 @@ IsQuietPlan (Some made) = IsQuiet made
 
 -- a call with such a plan keeps a machine valid
 abbrev pub QuietValid : Type 0
-QuietValid = (machine : Machine) (caller : ℕ) (made : Call) (moment : ℕ) (pick : Option ℕ) (reply : Reply) (next : Machine) (planned : Plan)
+QuietValid = (machine : Machine) (caller : ℕ) (made : Call) (moment : ℕ) (pick : Option ℕ) (reply : Reply) (next : Machine) (planned : CallPlan)
     → IsValid machine → serve machine caller made moment pick ≡ Ok (reply, next) → plan machine caller made moment pick ≡ Ok planned → IsQuietPlan planned.op → IsValid next
 
 -- and so does one that releases open files: what is dropped with its last open file nobody uses any longer
 abbrev pub ReleaseValid : Type 0
-ReleaseValid = (machine : Machine) (caller : ℕ) (made : Call) (moment : ℕ) (pick : Option ℕ) (reply : Reply) (next : Machine) (planned : Plan) (inos : List ℕ)
+ReleaseValid = (machine : Machine) (caller : ℕ) (made : Call) (moment : ℕ) (pick : Option ℕ) (reply : Reply) (next : Machine) (planned : CallPlan) (inos : List ℕ)
     → IsValid machine → serve machine caller made moment pick ≡ Ok (reply, next) → plan machine caller made moment pick ≡ Ok planned → planned.op ≡ Some (Release inos) → IsValid next
 
 -- what the types of a call's arguments keep: a path has no byte 0, and a write has at most 65535 bytes
@@ -81,8 +81,8 @@ IsCall _ = Unit {0}
 
 -- the operation of a call fits the tree and the counts on which the call is planned
 abbrev pub OperationsFit : Type 0
-OperationsFit = (machine : Machine) (caller : ℕ) (made : Call) (moment : ℕ) (pick : Option ℕ) (planned : Plan) (op : FsOp)
-    → IsValidFor machine caller → IsCall made → plan machine caller made moment pick ≡ Ok planned → planned.op ≡ Some op → IfSome pick (IsFree machine.tree)
+OperationsFit = (machine : Machine) (caller : ℕ) (made : Call) (moment : ℕ) (pick : Option ℕ) (planned : CallPlan) (op : FsOp)
+    → IsValidFor machine caller → IsCall made → plan machine caller made moment pick ≡ Ok planned → planned.op ≡ Some op → IfSome pick (IsFreeNumber machine.tree)
     → Fits machine.tree (counts machine.seats) op pick
 
 -- a step with a lawful pick keeps a valid machine valid

@@ -72,10 +72,10 @@ moved seat offset None = seat
 moved seat offset (Some place) = record seat { files = changed_at seat.files place (λ file. record file { offset = offset }) }
 
 -- the descriptor that a change puts in use is below 20
-abbrev pub IsReady : SessionChange → Type 0
-IsReady (Fresh fd ino how) = fd < 20
-IsReady (Twin fd to) = to < 20
-IsReady _ = Unit {0}
+abbrev pub HasDescriptorInRange : SessionChange → Type 0
+HasDescriptorInRange (Fresh fd ino how) = fd < 20
+HasDescriptorInRange (Twin fd to) = to < 20
+HasDescriptorInRange _ = Unit {0}
 
 abbrev pub changed : Seat → SessionChange → Seat
 changed seat Same = seat

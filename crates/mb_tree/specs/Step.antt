@@ -7,14 +7,14 @@ use Rattle.mb_kinds.specs.declared.replies.Reply.{Reply}
 use Rattle.mb_kinds.specs.declared.replies.Reply.TheVariants.{Refused}
 use Rattle.mb_tree.specs.Answers.{Answer, ◌>>=◌}
 use Rattle.mb_tree.specs.Sessions.{Counts, counts, with_change}
-use Rattle.mb_tree.specs.Effect.{Held, effect}
+use Rattle.mb_tree.specs.Effect.{TreeAndOpens, effect}
 use Rattle.mb_tree.specs.Rows.{plan}
 use Rattle.mb_tree.specs.declared.machines.Machine.{Machine}
 use Rattle.mb_tree.specs.declared.operations.FsOp.{FsOp}
 use Rattle.mb_tree.specs.declared.trees.Tree.{Tree}
 
 -- the effect of one operation, or nothing
-abbrev pub effect_of : Tree → Counts → Option FsOp → Option ℕ → Answer Held
+abbrev pub effect_of : Tree → Counts → Option FsOp → Option ℕ → Answer TreeAndOpens
 effect_of tree opens None pick = Ok (record { tree = tree; opens = opens })
 effect_of tree opens (Some op) pick = effect tree opens op pick
 
@@ -33,14 +33,14 @@ abbrev pub step : Machine → ℕ → Call → ℕ → Option ℕ → Reply × M
 step machine caller call moment pick = or_refused machine (serve machine caller call moment pick)
 
 -- a number that a new inode may get; inode 1 and the root are never picked
-pub record IsFree (tree : Tree) (ino : ℕ) : Type 0 where
+pub record IsFreeNumber (tree : Tree) (ino : ℕ) : Type 0 where
   pub above : 3 ≤ ino
   pub within : ino ≤ tree.last
   pub unused : fin.get tree.nodes ino ≡ None
 
 -- the call makes an inode with that free number
 abbrev pub Makes : Machine → ℕ → Call → ℕ → ℕ → Type 0
-Makes machine caller call moment ino = IsFree machine.tree ino × IsSome (fin.get (step machine caller call moment (Some ino)).1.tree.nodes ino)
+Makes machine caller call moment ino = IsFreeNumber machine.tree ino × IsSome (fin.get (step machine caller call moment (Some ino)).1.tree.nodes ino)
 
 -- a pick is lawful where the call makes an inode with it; no pick is lawful where the call makes none,
 -- whatever number is picked

@@ -4,7 +4,7 @@ use Rattle.mb_kinds.specs.Image.{Image}
 use Rattle.mb_word.specs.Fields.{isize_of, fsize_of, inode_block, inode_place}
 use Rattle.mb_word.specs.Numbers.{SameFrom}
 use Rattle.mb_tree.specs.declared.trees.Tree.{Tree}
-use Rattle.mb_tree.specs.Blocks.{pointers, IsFree}
+use Rattle.mb_tree.specs.Blocks.{pointers, IsFreeChain}
 use Rattle.mb_tree.specs.Places.{Place, at, IsPlace}
 use Rattle.mb_tree.specs.Volume.{has_addresses, last_inode}
 
@@ -19,7 +19,7 @@ IsPart shown blocks = (block : ℕ) → IfSome (shown block) (λ bytes. blocks b
 -- a block that neither a node nor the free chain holds
 pub record IsLost (tree : Tree) (blocks : ℕ → List ℕ) (block : ℕ) : Type 0 where
   pub by_no_node : (q : Place) → IsPlace (has_addresses tree) q → at (pointers blocks) q ≢ block
-  pub not_free : (chain : List ℕ) → IsFree blocks chain → All (λ free. free ≢ block) chain
+  pub not_free : (chain : List ℕ) → IsFreeChain blocks chain → All (λ free. free ≢ block) chain
 
 -- what stays as it was on a volume, whatever happens to its tree: block 0, the sizes and the unused
 -- end of the super-block, the byte of each inode that holds no address, the blocks that are not

@@ -11,7 +11,7 @@ use Rattle.mb_tree.specs.declared.nodes.Body.TheVariants.{Regular, Directory, Sp
 use Rattle.mb_tree.specs.declared.nodes.Node.{Node}
 use Rattle.mb_tree.specs.declared.nodes.PlainSlot.{PlainSlot}
 use Rattle.mb_tree.specs.declared.trees.Tree.{Tree}
-use Rattle.mb_tree.specs.Blocks.{pointers, part_in, slot_in, IsFree}
+use Rattle.mb_tree.specs.Blocks.{pointers, part_in, slot_in, IsFreeChain}
 use Rattle.mb_tree.specs.Cost.{cost, most_parts}
 use Rattle.mb_tree.specs.Trees.{IsSound}
 use Rattle.mb_tree.specs.Places.{Place, at, level, IsPlace}
@@ -97,7 +97,7 @@ pub record HoldsBlocks (tree : Tree) (blocks : ℕ → List ℕ) : Type 0 where
 
 -- the free blocks: each once, and none that an inode holds
 pub record SparesBlocks (tree : Tree) (blocks : ℕ → List ℕ) (chain : List ℕ) : Type 0 where
-  pub listed : IsFree blocks chain
+  pub listed : IsFreeChain blocks chain
   pub in_range : All (IsOpenToFiles blocks) chain
   pub once : AllPairs (λ one other. one ≢ other) chain
   pub apart : All (λ block. (q : Place) → IsPlace (has_addresses tree) q → at (pointers blocks) q ≢ block) chain

@@ -1,6 +1,6 @@
 ghost use Rattle.std.specs.Prelude.{◌≡◌, ◌<◌, ◌≤◌, ◌+◌, ◌^◌, IfOk, OnOk, length};
 ghost use Rattle.mb_kinds.specs.Image.{zeros};
-ghost use Rattle.mb_tree.specs.Inodes.{slot_bytes, byte_at, bytes_from, read_at, part_at};
+ghost use Rattle.mb_tree.specs.Inodes.{plain_slot_bytes, byte_at, bytes_from, read_at, part_at};
 ghost use Rattle.mb_tree.specs.Effect.{put_byte, put_bytes};
 ghost use Rattle.std.specs.Prelude.{slice_index};
 
@@ -29,7 +29,7 @@ fn part_at(parts: &Parts, part: u32) -> [u8; 512]
 /// One of the 16 bytes of a slot.
 fn slot_byte(slot: &PlainSlot, at: usize) -> u8
     requires { at < 16 }
-    ensures { result ≡ slice_index (slot_bytes slot.now) at }
+    ensures { result ≡ slice_index (plain_slot_bytes slot.now) at }
 {
     match at {
         0 => (slot.ino % 256) as u8,

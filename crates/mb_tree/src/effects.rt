@@ -1,7 +1,7 @@
 ghost use Rattle.std.specs.Prelude.{◌≡◌, ◌<◌, ◌≤◌, ◌+◌, ◌^◌, ◌-◌, ◌&&◌, IfOk, OnOk, length, count_by, nat_eq, Some, None};
 ghost use Rattle.std.specs.FinMap as fin;
 ghost use Rattle.mb_tree.specs.Maps.{changed_at};
-ghost use Rattle.mb_tree.specs.Results.{Gives, Acts};
+ghost use Rattle.mb_tree.specs.Results.{Gives, GivesTree};
 ghost use Rattle.mb_tree.specs.Step.{effect_of};
 ghost use Rattle.mb_tree.specs.Lookup.{number_in};
 ghost use Rattle.mb_tree.specs.Sessions.{counts};
@@ -467,7 +467,7 @@ pub fn act(
     op: &Option<FsOp>,
     pick: Option<u16>,
 ) -> Result<(), Stop>
-    ensures { Acts result tree.old tree.new (effect_of tree.old (counts seats.now) op.now pick) }
+    ensures { GivesTree result tree.old tree.new (effect_of tree.old (counts seats.now) op.now pick) }
 {
     let Some(op) = op else {
         return Ok(());

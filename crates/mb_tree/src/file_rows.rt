@@ -2,13 +2,13 @@ ghost use Rattle.std.specs.Prelude.{◌≡◌, ◌≤◌, ◌+◌, ◌+ℤ◌, p
 ghost use Rattle.mb_kinds.specs.declared.errors.Errno.TheVariants.{EBADF};
 ghost use Rattle.mb_tree.specs.Answers.{some};
 ghost use Rattle.mb_tree.specs.Results.{Gives};
-ghost use Rattle.mb_tree.specs.Sessions.{IsReady, file_on};
+ghost use Rattle.mb_tree.specs.Sessions.{HasDescriptorInRange, file_on};
 ghost use Rattle.mb_tree.specs.Rows.{close_row, read_row, write_row, size_in, base_of, offset_at, lseek_row, dup_row, fstat_row, exit_row, wrote, exited};
 
 use crate::lookups::stat_in;
 use crate::nodes::Nodes;
 use crate::operations::{FsOp, Inos};
-use crate::plans::{Plan, answered, both, seated};
+use crate::plans::{CallPlan, answered, both, seated};
 use crate::seats::{PlainFile, Seat, SessionChange, reads, writes};
 use crate::stops::Stop;
 use mb_kinds::{Errno, Octets, Reply, Seq, Whence};
@@ -30,9 +30,9 @@ fn open_file(seat: &Seat, fd: u16) -> Result<PlainFile, Stop>
 }
 
 /// close(2).
-pub fn close_row(alloc: Global, seat: &Seat, fd: u16) -> Result<Plan, Stop>
+pub fn close_row(alloc: Global, seat: &Seat, fd: u16) -> Result<CallPlan, Stop>
     ensures row { Gives (λ plan. plan) result (close_row seat.now fd) }
-    ensures ready { IfOk result (λ plan. IsReady plan.session) }
+    ensures ready { IfOk result (λ plan. HasDescriptorInRange plan.session) }
 {
     let file = open_file(seat, fd)?;
     if seat.is_shared(fd) {
@@ -50,9 +50,9 @@ pub fn read_row(
     seat: &Seat,
     fd: u16,
     count: u16,
-) -> Result<Plan, Stop>
+) -> Result<CallPlan, Stop>
     ensures row { Gives (λ plan. plan) result (read_row nodes.now seat.now fd count) }
-    ensures ready { IfOk result (λ plan. IsReady plan.session) }
+    ensures ready { IfOk result (λ plan. HasDescriptorInRange plan.session) }
 {
     let file = open_file(seat, fd)?;
     if !reads(file.how) {
@@ -79,10 +79,10 @@ fn wrote(
     file: PlainFile,
     bytes: &Octets,
     moment: u32,
-) -> Result<Plan, AllocError>
+) -> Result<CallPlan, AllocError>
     requires { file.offset + length bytes.now ≤ 1082201088 }
     ensures row { IfOk result (λ plan. plan ≡ wrote fd file bytes.now moment) }
-    ensures ready { IfOk result (λ plan. IsReady plan.session) }
+    ensures ready { IfOk result (λ plan. HasDescriptorInRange plan.session) }
 {
     if bytes.as_slice().is_empty() {
         return Ok(answered(Reply::Num(0)));
@@ -105,9 +105,9 @@ pub fn write_row(
     fd: u16,
     bytes: &Octets,
     moment: u32,
-) -> Result<Plan, Stop>
+) -> Result<CallPlan, Stop>
     ensures row { Gives (λ plan. plan) result (write_row seat.now fd bytes.now moment) }
-    ensures ready { IfOk result (λ plan. IsReady plan.session) }
+    ensures ready { IfOk result (λ plan. HasDescriptorInRange plan.session) }
 {
     let file = open_file(seat, fd)?;
     if !writes(file.how) {
@@ -152,9 +152,9 @@ fn offset_from(base: u32, by: i32) -> Option<u32>
 }
 
 /// lseek(2).
-pub fn lseek_row(nodes: &Nodes, seat: &Seat, fd: u16, by: i32, whence: Whence) -> Result<Plan, Stop>
+pub fn lseek_row(nodes: &Nodes, seat: &Seat, fd: u16, by: i32, whence: Whence) -> Result<CallPlan, Stop>
     ensures row { Gives (λ plan. plan) result (lseek_row nodes.now seat.now fd by whence) }
-    ensures ready { IfOk result (λ plan. IsReady plan.session) }
+    ensures ready { IfOk result (λ plan. HasDescriptorInRange plan.session) }
 {
     let file = open_file(seat, fd)?;
     let Some(offset) = offset_from(base_of(nodes, file, whence), by) else {
@@ -164,9 +164,9 @@ pub fn lseek_row(nodes: &Nodes, seat: &Seat, fd: u16, by: i32, whence: Whence) -
 }
 
 /// dup(2).
-pub fn dup_row(seat: &Seat, fd: u16) -> Result<Plan, Stop>
+pub fn dup_row(seat: &Seat, fd: u16) -> Result<CallPlan, Stop>
     ensures row { Gives (λ plan. plan) result (dup_row seat.now fd) }
-    ensures ready { IfOk result (λ plan. IsReady plan.session) }
+    ensures ready { IfOk result (λ plan. HasDescriptorInRange plan.session) }
 {
     let _file = open_file(seat, fd)?;
     let Some(to) = seat.free_descriptor() else {
@@ -176,9 +176,9 @@ pub fn dup_row(seat: &Seat, fd: u16) -> Result<Plan, Stop>
 }
 
 /// fstat(2).
-pub fn fstat_row(nodes: &Nodes, seat: &Seat, fd: u16) -> Result<Plan, Stop>
+pub fn fstat_row(nodes: &Nodes, seat: &Seat, fd: u16) -> Result<CallPlan, Stop>
     ensures row { Gives (λ plan. plan) result (fstat_row nodes.now seat.now fd) }
-    ensures ready { IfOk result (λ plan. IsReady plan.session) }
+    ensures ready { IfOk result (λ plan. HasDescriptorInRange plan.session) }
 {
     let file = open_file(seat, fd)?;
     let stat = stat_in(nodes, file.ino)?;
@@ -186,9 +186,9 @@ pub fn fstat_row(nodes: &Nodes, seat: &Seat, fd: u16) -> Result<Plan, Stop>
 }
 
 /// exit(2).
-pub fn exit_row(alloc: Global, seat: &Seat) -> Result<Plan, Stop>
+pub fn exit_row(alloc: Global, seat: &Seat) -> Result<CallPlan, Stop>
     ensures row { Gives (λ plan. plan) result (exit_row seat.now) }
-    ensures ready { IfOk result (λ plan. IsReady plan.session) }
+    ensures ready { IfOk result (λ plan. HasDescriptorInRange plan.session) }
 {
     let inos = seat.inos(alloc)?;
     if inos.as_slice().is_empty() {

@@ -1,5 +1,5 @@
 ghost use Rattle.std.specs.Prelude.{◌≡◌, ◌++◌, ◌*◌, min, IfOk, MatchOption, Some, None};
-ghost use Rattle.mb_tree.specs.Inodes.{kind_of, is_directory, is_regular, is_special, size_of, stat_of, bits_for, may, byte_at, bytes_from, read_at, part_at};
+ghost use Rattle.mb_tree.specs.Inodes.{kind_of, is_directory, is_regular, is_special, body_size, stat_of, bits_for, may, byte_at, bytes_from, read_at, part_at};
 ghost use Rattle.mb_tree.specs.Lookup.{is_used};
 
 use crate::nodes::{Body, Node, Parts, PlainSlot};
@@ -63,7 +63,7 @@ pub fn is_used(slot: &PlainSlot) -> bool
 }
 
 /// The bytes of so many slots.
-fn slot_bytes(slots: usize) -> u32
+fn bytes_of_slots(slots: usize) -> u32
     ensures { result ≡ min (16 * slots) 4294967295 }
 {
     u32::try_from(slots).map_or(u32::MAX, |slots| slots.saturating_mul(16))
@@ -72,11 +72,11 @@ fn slot_bytes(slots: usize) -> u32
 impl Body {
     /// The size in bytes.
     pub fn size(&self) -> u32
-        ensures { result ≡ size_of self.now }
+        ensures { result ≡ body_size self.now }
     {
         match self {
             Body::Regular { size, .. } => *size,
-            Body::Directory { slots } => slot_bytes(slots.len()),
+            Body::Directory { slots } => bytes_of_slots(slots.len()),
             Body::Special { size, .. } => *size,
         }
     }

@@ -50,7 +50,7 @@ pub use name_laws::{
 };
 pub use nodes::{Body, Node, Nodes, Parts, PlainSlot, PlainSlots};
 pub use operations::{FsOp, Inos};
-pub use plans::Plan;
+pub use plans::CallPlan;
 pub use seats::{PlainFile, Seat, Seats, SessionChange, reads};
 pub use session_laws::{
     counts_follow, operations_fit, quiet_valid, release_valid, valid_kept, valid_stays,

@@ -3,7 +3,7 @@ ghost use Rattle.std.specs.List.{list_any};
 ghost use Rattle.mb_tree.specs.Results.{Gives};
 ghost use Rattle.mb_kinds.specs.declared.errors.Errno.TheVariants.{EMFILE};
 ghost use Rattle.mb_tree.specs.Answers.{need, some};
-ghost use Rattle.mb_tree.specs.Sessions.{IsReady, free_descriptor};
+ghost use Rattle.mb_tree.specs.Sessions.{HasDescriptorInRange, free_descriptor};
 ghost use Rattle.mb_tree.specs.Rows.{bits_of, open_row, masked, creat_present, creat_missing, creat_at, creat_row, link_at, link_row, unlink_named, unlink_at, unlink_row, mkdir_at, mkdir_row, is_busy, is_dots, rmdir_named, rmdir_at, rmdir_row, chdir_row, stat_row, is_owner, stored, chmod_row, chown_row, utime_row, access_row};
 
 use crate::changes::{DOT, DOT_DOT};
@@ -11,7 +11,7 @@ use crate::inodes::{is_directory, is_special, may};
 use crate::lookups::{Placed, find_path, find_place, stat_in, used_in};
 use crate::nodes::Nodes;
 use crate::operations::FsOp;
-use crate::plans::{Plan, acting, answered, both, seated};
+use crate::plans::{CallPlan, acting, answered, both, seated};
 use crate::seats::{Seat, SessionChange, count, reads, writes};
 use crate::stops::Stop;
 use mb_kinds::{Cred, Errno, How, Name, Reply, Stat};
@@ -55,9 +55,9 @@ pub fn open_row(
     seat: &Seat,
     path: &[u8],
     how: How,
-) -> Result<Plan, Stop>
+) -> Result<CallPlan, Stop>
     ensures row { Gives (λ plan. plan) result (open_row nodes.now seat.now path.now how) }
-    ensures ready { IfOk result (λ plan. IsReady plan.session) }
+    ensures ready { IfOk result (λ plan. HasDescriptorInRange plan.session) }
 {
     let stat = find_path(alloc, nodes, seat.cred, seat.cwd, path)?;
     need(may(seat.cred, &stat, bits_of(how)), Errno::EACCES)?;
@@ -83,9 +83,9 @@ fn masked(mode: u16, seat: &Seat) -> u16
     mode & 0o777 & !seat.umask
 }
 
-fn creat_present(nodes: &Nodes, seat: &Seat, moment: u32, ino: u16) -> Result<Plan, Stop>
+fn creat_present(nodes: &Nodes, seat: &Seat, moment: u32, ino: u16) -> Result<CallPlan, Stop>
     ensures row { Gives (λ plan. plan) result (creat_present nodes.now seat.now moment ino) }
-    ensures ready { IfOk result (λ plan. IsReady plan.session) }
+    ensures ready { IfOk result (λ plan. HasDescriptorInRange plan.session) }
 {
     let stat = stat_in(nodes, ino)?;
     need(may(seat.cred, &stat, 2), Errno::EACCES)?;
@@ -112,9 +112,9 @@ fn creat_missing(
     pick: Option<u16>,
     dir: u16,
     name: Name,
-) -> Result<Plan, Stop>
+) -> Result<CallPlan, Stop>
     ensures row { Gives (λ plan. plan) result (creat_missing nodes.now seat.now mode moment pick dir name) }
-    ensures ready { IfOk result (λ plan. IsReady plan.session) }
+    ensures ready { IfOk result (λ plan. HasDescriptorInRange plan.session) }
 {
     let parent = stat_in(nodes, dir)?;
     need(may(seat.cred, &parent, 2), Errno::EACCES)?;
@@ -152,9 +152,9 @@ pub fn creat_row(
     mode: u16,
     moment: u32,
     pick: Option<u16>,
-) -> Result<Plan, Stop>
+) -> Result<CallPlan, Stop>
     ensures row { Gives (λ plan. plan) result (creat_row nodes.now seat.now path.now mode moment pick) }
-    ensures ready { IfOk result (λ plan. IsReady plan.session) }
+    ensures ready { IfOk result (λ plan. HasDescriptorInRange plan.session) }
 {
     match find_place(alloc, nodes, seat.cred, seat.cwd, path)? {
         Placed::Itself(ino) => creat_present(nodes, seat, moment, ino),
@@ -167,9 +167,9 @@ pub fn creat_row(
     }
 }
 
-fn link_at(nodes: &Nodes, seat: &Seat, moment: u32, ino: u16, placed: Placed) -> Result<Plan, Stop>
+fn link_at(nodes: &Nodes, seat: &Seat, moment: u32, ino: u16, placed: Placed) -> Result<CallPlan, Stop>
     ensures row { Gives (λ plan. plan) result (link_at nodes.now seat.now moment ino placed) }
-    ensures ready { IfOk result (λ plan. IsReady plan.session) }
+    ensures ready { IfOk result (λ plan. HasDescriptorInRange plan.session) }
 {
     let Placed::At {
         dir,
@@ -197,9 +197,9 @@ pub fn link_row(
     from: &[u8],
     to: &[u8],
     moment: u32,
-) -> Result<Plan, Stop>
+) -> Result<CallPlan, Stop>
     ensures row { Gives (λ plan. plan) result (link_row nodes.now seat.now from.now to.now moment) }
-    ensures ready { IfOk result (λ plan. IsReady plan.session) }
+    ensures ready { IfOk result (λ plan. HasDescriptorInRange plan.session) }
 {
     let stat = find_path(alloc, nodes, seat.cred, seat.cwd, from)?;
     need(!is_directory(stat.mode), Errno::EPERM)?;
@@ -214,9 +214,9 @@ fn unlink_named(
     dir: u16,
     name: Name,
     ino: u16,
-) -> Result<Plan, Stop>
+) -> Result<CallPlan, Stop>
     ensures row { Gives (λ plan. plan) result (unlink_named nodes.now seat.now moment dir name ino) }
-    ensures ready { IfOk result (λ plan. IsReady plan.session) }
+    ensures ready { IfOk result (λ plan. HasDescriptorInRange plan.session) }
 {
     let stat = stat_in(nodes, ino)?;
     let parent = stat_in(nodes, dir)?;
@@ -232,9 +232,9 @@ pub fn unlink_row(
     seat: &Seat,
     path: &[u8],
     moment: u32,
-) -> Result<Plan, Stop>
+) -> Result<CallPlan, Stop>
     ensures row { Gives (λ plan. plan) result (unlink_row nodes.now seat.now path.now moment) }
-    ensures ready { IfOk result (λ plan. IsReady plan.session) }
+    ensures ready { IfOk result (λ plan. HasDescriptorInRange plan.session) }
 {
     match find_place(alloc, nodes, seat.cred, seat.cwd, path)? {
         Placed::Itself(_) => Err(Stop::Refused(Errno::EPERM)),
@@ -253,9 +253,9 @@ fn mkdir_at(
     mode: u16,
     moment: u32,
     placed: Placed,
-) -> Result<Plan, Stop>
+) -> Result<CallPlan, Stop>
     ensures row { Gives (λ plan. plan) result (mkdir_at nodes.now seat.now mode moment placed) }
-    ensures ready { IfOk result (λ plan. IsReady plan.session) }
+    ensures ready { IfOk result (λ plan. HasDescriptorInRange plan.session) }
 {
     let Placed::At {
         dir,
@@ -287,9 +287,9 @@ pub fn mkdir_row(
     path: &[u8],
     mode: u16,
     moment: u32,
-) -> Result<Plan, Stop>
+) -> Result<CallPlan, Stop>
     ensures row { Gives (λ plan. plan) result (mkdir_row nodes.now seat.now path.now mode moment) }
-    ensures ready { IfOk result (λ plan. IsReady plan.session) }
+    ensures ready { IfOk result (λ plan. HasDescriptorInRange plan.session) }
 {
     let placed = find_place(alloc, nodes, seat.cred, seat.cwd, path)?;
     mkdir_at(nodes, seat, mode, moment, placed)
@@ -324,9 +324,9 @@ fn rmdir_named(
     dir: u16,
     name: Name,
     ino: u16,
-) -> Result<Plan, Stop>
+) -> Result<CallPlan, Stop>
     ensures row { Gives (λ plan. plan) result (rmdir_named nodes.now seats.now seat.now moment dir name ino) }
-    ensures ready { IfOk result (λ plan. IsReady plan.session) }
+    ensures ready { IfOk result (λ plan. HasDescriptorInRange plan.session) }
 {
     let stat = stat_in(nodes, ino)?;
     need(is_directory(stat.mode), Errno::ENOTDIR)?;
@@ -346,9 +346,9 @@ pub fn rmdir_row(
     seat: &Seat,
     path: &[u8],
     moment: u32,
-) -> Result<Plan, Stop>
+) -> Result<CallPlan, Stop>
     ensures row { Gives (λ plan. plan) result (rmdir_row nodes.now seats.now seat.now path.now moment) }
-    ensures ready { IfOk result (λ plan. IsReady plan.session) }
+    ensures ready { IfOk result (λ plan. HasDescriptorInRange plan.session) }
 {
     match find_place(alloc, nodes, seat.cred, seat.cwd, path)? {
         Placed::Itself(_) => Err(Stop::Refused(Errno::EBUSY)),
@@ -362,9 +362,9 @@ pub fn rmdir_row(
 }
 
 /// chdir(2).
-pub fn chdir_row(alloc: Global, nodes: &Nodes, seat: &Seat, path: &[u8]) -> Result<Plan, Stop>
+pub fn chdir_row(alloc: Global, nodes: &Nodes, seat: &Seat, path: &[u8]) -> Result<CallPlan, Stop>
     ensures row { Gives (λ plan. plan) result (chdir_row nodes.now seat.now path.now) }
-    ensures ready { IfOk result (λ plan. IsReady plan.session) }
+    ensures ready { IfOk result (λ plan. HasDescriptorInRange plan.session) }
 {
     let stat = find_path(alloc, nodes, seat.cred, seat.cwd, path)?;
     need(is_directory(stat.mode), Errno::ENOTDIR)?;
@@ -373,9 +373,9 @@ pub fn chdir_row(alloc: Global, nodes: &Nodes, seat: &Seat, path: &[u8]) -> Resu
 }
 
 /// stat(2).
-pub fn stat_row(alloc: Global, nodes: &Nodes, seat: &Seat, path: &[u8]) -> Result<Plan, Stop>
+pub fn stat_row(alloc: Global, nodes: &Nodes, seat: &Seat, path: &[u8]) -> Result<CallPlan, Stop>
     ensures row { Gives (λ plan. plan) result (stat_row nodes.now seat.now path.now) }
-    ensures ready { IfOk result (λ plan. IsReady plan.session) }
+    ensures ready { IfOk result (λ plan. HasDescriptorInRange plan.session) }
 {
     let stat = find_path(alloc, nodes, seat.cred, seat.cwd, path)?;
     Ok(answered(Reply::Info(stat)))
@@ -407,9 +407,9 @@ pub fn chmod_row(
     path: &[u8],
     mode: u16,
     moment: u32,
-) -> Result<Plan, Stop>
+) -> Result<CallPlan, Stop>
     ensures row { Gives (λ plan. plan) result (chmod_row nodes.now seat.now path.now mode moment) }
-    ensures ready { IfOk result (λ plan. IsReady plan.session) }
+    ensures ready { IfOk result (λ plan. HasDescriptorInRange plan.session) }
 {
     let stat = find_path(alloc, nodes, seat.cred, seat.cwd, path)?;
     need(is_owner(seat.cred, &stat), Errno::EPERM)?;
@@ -430,9 +430,9 @@ pub fn chown_row(
     uid: u16,
     gid: u16,
     moment: u32,
-) -> Result<Plan, Stop>
+) -> Result<CallPlan, Stop>
     ensures row { Gives (λ plan. plan) result (chown_row nodes.now seat.now path.now uid gid moment) }
-    ensures ready { IfOk result (λ plan. IsReady plan.session) }
+    ensures ready { IfOk result (λ plan. HasDescriptorInRange plan.session) }
 {
     let stat = find_path(alloc, nodes, seat.cred, seat.cwd, path)?;
     need(seat.cred.uid == 0, Errno::EPERM)?;
@@ -453,9 +453,9 @@ pub fn utime_row(
     atime: u32,
     mtime: u32,
     moment: u32,
-) -> Result<Plan, Stop>
+) -> Result<CallPlan, Stop>
     ensures row { Gives (λ plan. plan) result (utime_row nodes.now seat.now path.now atime mtime moment) }
-    ensures ready { IfOk result (λ plan. IsReady plan.session) }
+    ensures ready { IfOk result (λ plan. HasDescriptorInRange plan.session) }
 {
     let stat = find_path(alloc, nodes, seat.cred, seat.cwd, path)?;
     need(is_owner(seat.cred, &stat), Errno::EPERM)?;
@@ -474,9 +474,9 @@ pub fn access_row(
     seat: &Seat,
     path: &[u8],
     bits: u8,
-) -> Result<Plan, Stop>
+) -> Result<CallPlan, Stop>
     ensures row { Gives (λ plan. plan) result (access_row nodes.now seat.now path.now bits) }
-    ensures ready { IfOk result (λ plan. IsReady plan.session) }
+    ensures ready { IfOk result (λ plan. HasDescriptorInRange plan.session) }
 {
     let stat = find_path(alloc, nodes, seat.cred, seat.cwd, path)?;
     need(may(seat.cred, &stat, bits), Errno::EACCES)?;

@@ -8,17 +8,17 @@ use mb_kinds::Reply;
 /// What a call that is not refused will do: its reply, one operation on the file system or none, and
 /// one change of its caller's session.
 #[derive(Drop)]
-pub struct Plan {
+pub struct CallPlan {
     pub reply: Reply,
     pub op: Option<FsOp>,
     pub session: SessionChange,
 }
 
 /// A reply alone.
-pub fn answered(answer: Reply) -> Plan
+pub fn answered(answer: Reply) -> CallPlan
     ensures { result ≡ reply answer }
 {
-    Plan {
+    CallPlan {
         reply: answer,
         op: None,
         session: SessionChange::Same,
@@ -26,10 +26,10 @@ pub fn answered(answer: Reply) -> Plan
 }
 
 /// A reply and a session change.
-pub fn seated(answer: Reply, change: SessionChange) -> Plan
+pub fn seated(answer: Reply, change: SessionChange) -> CallPlan
     ensures { result ≡ seated answer change }
 {
-    Plan {
+    CallPlan {
         reply: answer,
         op: None,
         session: change,
@@ -37,10 +37,10 @@ pub fn seated(answer: Reply, change: SessionChange) -> Plan
 }
 
 /// Reply 0 and an operation.
-pub fn acting(op: FsOp) -> Plan
+pub fn acting(op: FsOp) -> CallPlan
     ensures { result ≡ act op }
 {
-    Plan {
+    CallPlan {
         reply: Reply::Num(0),
         op: Some(op),
         session: SessionChange::Same,
@@ -48,10 +48,10 @@ pub fn acting(op: FsOp) -> Plan
 }
 
 /// A number, an operation and a session change.
-pub fn both(number: u32, op: FsOp, change: SessionChange) -> Plan
+pub fn both(number: u32, op: FsOp, change: SessionChange) -> CallPlan
     ensures { result ≡ both number op change }
 {
-    Plan {
+    CallPlan {
         reply: Reply::Num(number),
         op: Some(op),
         session: change,

@@ -1,6 +1,6 @@
 ghost use Rattle.std.specs.Prelude.{◌≡◌, ◌<◌, length};
 ghost use Rattle.std.specs.FinMap as fin;
-ghost use Rattle.mb_tree.specs.Sessions.{reads, writes, free_descriptor, file_on, is_shared, inos_of, free_place, opened, doubled, closed, moved, changed, with_change, held_in, counts, IsReady};
+ghost use Rattle.mb_tree.specs.Sessions.{reads, writes, free_descriptor, file_on, is_shared, inos_of, free_place, opened, doubled, closed, moved, changed, with_change, held_in, counts, HasDescriptorInRange};
 ghost use Rattle.std.specs.Prelude.{IfOk, IfSome, IsSome};
 
 use crate::operations::Inos;
@@ -157,7 +157,7 @@ impl Seat {
     /// Makes a session change. `Fresh` and `Twin` want a descriptor below 20; nothing else is asked,
     /// and a change that names a bad descriptor changes nothing.
     pub fn change(&mut self, change: SessionChange)
-        requires { IsReady change }
+        requires { HasDescriptorInRange change }
         ensures { self.new ≡ changed self.old change }
     {
         match change {
@@ -212,7 +212,7 @@ impl Seat {
 /// Makes a session change of one caller.
 pub fn change_session(seats: &mut Seats, caller: usize, change: SessionChange)
     requires caller { caller < length seats.old }
-    requires ready { IsReady change }
+    requires ready { HasDescriptorInRange change }
     ensures { seats.new ≡ with_change seats.old caller change }
 {
     let mut seat = Seat::new(Cred { uid: 0, gid: 0 }, 0);
