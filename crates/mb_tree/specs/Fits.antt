@@ -70,7 +70,7 @@ pub record FitsPut (tree : Tree) (ino : ℕ) (bytes : List ℕ) : Type 0 where
 -- open files released: there are so many
 pub record FitsRelease (tree : Tree) (opens : Counts) (inos : List ℕ) : Type 0 where
   pub some : 0 < length inos
-  pub there : All (IsOpenable tree.nodes) inos
+  pub there : All (IsThere tree.nodes) inos
   pub covered : (ino : ℕ) → count_by (nat_eq ino) inos ≤ opens ino
 
 abbrev pub Fits : Tree → Counts → FsOp → Option ℕ → Type 0
