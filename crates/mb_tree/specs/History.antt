@@ -1,5 +1,5 @@
 -- Which lists of entries are histories of a machine, and the machine after them.
-use Rattle.std.specs.Prelude.{List, [], ◌∷◌, ℕ, ◌≡◌, ◌≢◌, ◌<◌, take, None}
+use Rattle.std.specs.Prelude.{List, [], ◌∷◌, ℕ, ◌≡◌, ◌≢◌, ◌<◌, length, take, None}
 use Rattle.std.specs.List.{AllByRecursion}
 use Rattle.mb_kinds.specs.declared.entries.Entry.{Entry}
 use Rattle.mb_kinds.specs.declared.replies.Reply.{Reply}
@@ -32,20 +32,26 @@ after machine (entry ∷ entries) = after (past machine entry) entries
 abbrev pub after_first : Machine → List Entry → ℕ → Machine
 after_first machine entries count = after machine (take count entries)
 
--- the reply is the step's, on a lawful pick
+-- the call of a declared caller, that is one with a seat, with the step's reply on a lawful pick
 pub record IsStep (machine : Machine) (entry : Entry) : Type 0 where
+  pub declared : entry.caller < length machine.seats
   pub lawful : IsLawful machine entry.caller entry.call entry.moment entry.pick
   pub answer : (stepped machine entry).0 ≡ entry.reply
 
--- an entry's reply fits the machine before it: a plain reply is the step's, another one comes with no pick
+-- the call of a declared caller that a fault or the disk ended: no number was picked
+pub record IsUnserved (machine : Machine) (entry : Entry) : Type 0 where
+  pub declared : entry.caller < length machine.seats
+  pub unpicked : entry.pick ≡ None
+
+-- an entry's reply fits the machine before it: a plain reply is the step's, any other leaves the call unserved
 abbrev pub Runs : Machine → Entry → Reply → Type 0
 Runs machine entry (Num number) = IsStep machine entry
 Runs machine entry (Got bytes) = IsStep machine entry
 Runs machine entry (Info stat) = IsStep machine entry
 Runs machine entry (Refused e) = IsStep machine entry
-Runs machine entry (Restart first second) = entry.pick ≡ None
-Runs machine entry Device = entry.pick ≡ None
-Runs machine entry (Failed faults) = entry.pick ≡ None
+Runs machine entry (Restart first second) = IsUnserved machine entry
+Runs machine entry Device = IsUnserved machine entry
+Runs machine entry (Failed faults) = IsUnserved machine entry
 
 -- entry after entry
 abbrev pub AreRuns : Machine → List Entry → Type 0
