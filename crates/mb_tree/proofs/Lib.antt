@@ -15,6 +15,7 @@ pub mod FreePlaces
 pub mod Groups
 pub mod Histories
 pub mod InodeKinds
+pub mod KeptVolumes
 pub mod Leaving
 pub mod MapCopies
 pub mod NamedKinds

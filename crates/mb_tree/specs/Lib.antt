@@ -26,3 +26,4 @@ pub mod Trees
 pub mod ValidLaws
 pub mod Views
 pub mod Volume
+pub mod VolumeLaws

@@ -36,6 +36,7 @@ mod tables;
 mod tests;
 mod trees;
 mod valid_laws;
+mod volume_laws;
 
 pub use inodes::{is_directory, is_regular};
 pub use laws::{
@@ -59,3 +60,4 @@ pub use stops::NoMemory;
 pub use tables::{Fds, Files};
 pub use trees::Tree;
 pub use valid_laws::{history_valid, one_tree, opening_valid};
+pub use volume_laws::{kept_composes, kept_resized, kept_same, volume_resized};
