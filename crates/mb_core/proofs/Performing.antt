@@ -11,7 +11,7 @@ use Rattle.mb_tree.specs.Effect.{TreeAndOpens}
 use Rattle.mb_tree.specs.History.{IsStep, Runs, past_reply, stepped}
 use Rattle.mb_tree.specs.Machines.{IsValid}
 use Rattle.mb_tree.specs.Rows.{plan}
-use Rattle.mb_tree.specs.SessionLaws.{IsQuietPlan}
+use Rattle.mb_tree.specs.SessionLaws.{IsAtMostOnBytesOrAttributes}
 use Rattle.mb_tree.specs.Sessions.{Counts, changed, counts, with_change}
 use Rattle.mb_tree.specs.Step.{effect_of, or_refused, serve, step, IsLawful}
 use Rattle.mb_tree.specs.Views.{Kept}
@@ -24,7 +24,7 @@ use Rattle.mb_tree.specs.declared.seats.Seat.{Seat}
 use Rattle.mb_tree.specs.declared.seats.SessionChange.TheVariants.{Same}
 use Rattle.mb_tree.proofs.Always.{same_ok}
 use Rattle.mb_tree.proofs.CountsFollow.{counts_follow, held_opens, opens_of}
-use Rattle.mb_tree.proofs.QuietValid.{acted, quiet_valid}
+use Rattle.mb_tree.proofs.BytesOrAttributesValid.{acted, bytes_or_attributes_valid}
 use Rattle.mb_tree.proofs.ReleaseValid.{release_valid}
 use Rattle.mb_fsops.proofs.Keeping.{kept_same}
 use Rattle.mb_core.specs.Events.{entry_for}
@@ -76,8 +76,8 @@ past_plain now next (Failed faults) plain = absurd plain
 
 -- ---- operations
 
--- an operation that is logged is quiet, or releases open files
-loggable_kinds : (held : TreeAndOpens) (op : Option FsOp) → IfSome op IsLoggable → IfSome op (IsRedoable held) → IsQuietPlan op ⊎ ((inos : List ℕ) × (op ≡ Some (Release inos)))
+-- an operation that is logged touches bytes or attributes alone, or releases open files
+loggable_kinds : (held : TreeAndOpens) (op : Option FsOp) → IfSome op IsLoggable → IfSome op (IsRedoable held) → IsAtMostOnBytesOrAttributes op ⊎ ((inos : List ℕ) × (op ≡ Some (Release inos)))
 loggable_kinds held None logged redo = inl tt
 loggable_kinds held (Some (SetMode ino mode moment)) logged redo = inl redo.1
 loggable_kinds held (Some (Hold ino)) logged redo = inl tt
@@ -172,7 +172,7 @@ module _ (now : Machine) (flight : Flight) (ready : Ready) (view : Image) where
           effect = effect_list (held_by now) by.held ready.op ready.pick by.effect ∙ ap (λ opens. Some (record { tree = by.held.tree; opens = opens })) (sym follow);
           redoable = redoable_list (held_by now) ready.op ready.pick redo;
           valid = elim (loggable_kinds (held_by now) ready.op loggable redo) [
-            | inl quiet ↦ quiet_valid now 0 flight.call flight.moment ready.pick ready.reply (moved_to by.held) planned valid serves by.planned quiet
+            | inl only ↦ bytes_or_attributes_valid now 0 flight.call flight.moment ready.pick ready.reply (moved_to by.held) planned valid serves by.planned only
             | inr releases ↦ release_valid now 0 flight.call flight.moment ready.pick ready.reply (moved_to by.held) planned releases.0 valid serves by.planned releases.1
           ];
           names = names_if now ready.op ready.pick by.held loggable by.effect names;

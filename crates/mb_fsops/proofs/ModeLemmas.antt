@@ -21,7 +21,7 @@ use Rattle.mb_tree.specs.declared.nodes.Node.{Node}
 use Rattle.mb_tree.specs.declared.trees.Tree.{Tree}
 use Rattle.mb_tree.specs.declared.operations.FsOp.TheVariants.{SetMode}
 use Rattle.mb_tree.proofs.FiniteMaps.{get_here, get_there, one_or_not}
-use Rattle.mb_tree.proofs.Quiet.{quiet_kept}
+use Rattle.mb_tree.proofs.BytesOrAttributes.{bytes_or_attributes_kept}
 use Rattle.mb_fsops.specs.Modes.{new_mode, mode_set, replaced, IsModeSet, SetModeKeeps}
 use Rattle.mb_fsops.proofs.Fields.{length-both, both_same, both_first, both_last}
 use Rattle.mb_fsops.proofs.Frames.{Framed}
@@ -218,7 +218,7 @@ module _ (image : Image) (tree : Tree) (ino mode moment : ℕ) (volume : IsVolum
   ]
 
   sound : IsSound (set_mode tree ino mode moment)
-  sound = quiet_kept tree (λ other. 0) (SetMode ino mode moment) None (set_mode tree ino mode moment) volume.sound small refl
+  sound = bytes_or_attributes_kept tree (λ other. 0) (SetMode ino mode moment) None (set_mode tree ino mode moment) volume.sound small refl
 
   pub is_mode_set : IsModeSet image tree ino mode moment
   is_mode_set = record {

@@ -19,9 +19,9 @@ pub struct Dinode {
     pub size: u32,
     /// Thirteen addresses of three bytes each, and one byte that is kept as found.
     pub area: [u8; 40],
-    /// When its bytes were last read.
+    /// When the inode was made, or what `utime` set since; reading leaves it as it is.
     pub atime: u32,
-    /// When its bytes were last written.
+    /// When the inode was made or its bytes were last written, or what `utime` set since.
     pub mtime: u32,
     /// When the inode was last changed.
     pub ctime: u32,

@@ -1,6 +1,7 @@
-pub mod Alike
 pub mod Always
 pub mod Arms
+pub mod BytesOrAttributes
+pub mod BytesOrAttributesValid
 pub mod CellMaps
 pub mod Chains
 pub mod Changed
@@ -29,8 +30,6 @@ pub mod Outcomes
 pub mod Padding
 pub mod PathNames
 pub mod PlacedNames
-pub mod Quiet
-pub mod QuietValid
 pub mod ReleaseValid
 pub mod Released
 pub mod RemovedDirectories
@@ -41,6 +40,7 @@ pub mod Seated
 pub mod Served
 pub mod Shapes
 pub mod SlotLists
+pub mod SlotsAndLinks
 pub mod Slotted
 pub mod Sums
 pub mod Swaps

@@ -19,7 +19,7 @@ use Rattle.mb_tree.specs.declared.trees.Tree.{Tree}
 use Rattle.mb_tree.proofs.FiniteMaps.{get_there, gone_there, one_or_not}
 use Rattle.mb_tree.proofs.Always.{then_ok, same_ok}
 use Rattle.mb_tree.proofs.InodeKinds.{SameKind, same_body, kind_by_get, kind_after, kind_changed}
-use Rattle.mb_tree.proofs.QuietValid.{KeepsKinds}
+use Rattle.mb_tree.proofs.BytesOrAttributesValid.{KeepsKinds}
 use Rattle.mb_tree.proofs.ReleaseValid.{open_stays}
 
 same_slots : (f : List PlainSlot → List PlainSlot) (body : Body) → SameKind body (on_slots f body)

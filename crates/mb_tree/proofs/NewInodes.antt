@@ -28,7 +28,7 @@ use Rattle.mb_tree.proofs.Rewritten.{number_by}
 use Rattle.mb_tree.proofs.Shapes.{CanBePut}
 use Rattle.mb_tree.proofs.Entering.{CanBeEntered, entered_sound, used_number}
 use Rattle.mb_tree.proofs.NewNames.{changed_is, swapped, sound_at, some_ok, few_of, fitted_is, entered_body, not_one}
-use Rattle.mb_tree.proofs.Quiet.{kind_set, none_below}
+use Rattle.mb_tree.proofs.BytesOrAttributes.{kind_set, none_below}
 
 -- ---- a free number
 

@@ -28,7 +28,7 @@ use Rattle.mb_tree.proofs.InodeKinds.{kind_by_get}
 use Rattle.mb_tree.proofs.Fitting.{IsCreated, session_fits}
 use Rattle.mb_tree.proofs.Outcomes.{outcome}
 use Rattle.mb_tree.proofs.CountsFollow.{held_opens, seat_least, counts_follow}
-use Rattle.mb_tree.proofs.QuietValid.{acted}
+use Rattle.mb_tree.proofs.BytesOrAttributesValid.{acted}
 use Rattle.mb_tree.proofs.ValidStays.{seats_are, seated_before, valid_stays}
 
 and_no : (a : Bool) → (a && false) ≡ false

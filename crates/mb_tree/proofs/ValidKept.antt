@@ -17,7 +17,7 @@ use Rattle.mb_tree.specs.Step.{effect_of, serve, or_refused, IsFreeNumber, IsLaw
 use Rattle.mb_tree.specs.Trees.{IsDirectoryAt, IsSound}
 use Rattle.mb_tree.specs.Fits.{IsLeafAt, Fits}
 use Rattle.mb_tree.specs.Machines.{IsSeated, IsValid}
-use Rattle.mb_tree.specs.SessionLaws.{KeepsUsed, IsQuietPlan, IsCall, ValidKept}
+use Rattle.mb_tree.specs.SessionLaws.{KeepsUsed, IsAtMostOnBytesOrAttributes, IsCall, ValidKept}
 use Rattle.mb_tree.specs.NameLaws.{OperationKept}
 use Rattle.mb_tree.specs.declared.machines.Machine.{Machine}
 use Rattle.mb_tree.specs.declared.nodes.Node.{Node}
@@ -37,7 +37,7 @@ use Rattle.mb_tree.proofs.Fitting.{each_seat}
 use Rattle.mb_tree.proofs.InodeKinds.{is_leaf_at}
 use Rattle.mb_tree.proofs.PlacedNames.{place_ok}
 use Rattle.mb_tree.proofs.OperationsFit.{operations_fit, stored_low, unopened, or_none}
-use Rattle.mb_tree.proofs.QuietValid.{KeepsKinds, acted, keeps_all, quiet_valid}
+use Rattle.mb_tree.proofs.BytesOrAttributesValid.{KeepsKinds, acted, keeps_all, bytes_or_attributes_valid}
 use Rattle.mb_tree.proofs.ReleaseValid.{counted_open, release_valid}
 use Rattle.mb_tree.proofs.NamedKinds.{create_kinds, make_dir_kinds, enlink_kinds, remove_dir_kinds, delink_kinds}
 use Rattle.mb_tree.proofs.ValidStays.{valid_stays}
@@ -93,8 +93,8 @@ module _ (machine : Machine) (caller : ℕ) (moment : ℕ) (pick : Option ℕ) (
   abbrev Known : Call → CallPlan → Type 0
   Known asked planned = Facts machine caller asked moment pick reply next planned
 
-  quiet : (asked : Call) (planned : CallPlan) → Known asked planned → IsQuietPlan planned.op → IsValid next
-  quiet asked planned facts is = quiet_valid machine caller asked moment pick reply next planned valid facts.serves facts.plans is
+  without_names : (asked : Call) (planned : CallPlan) → Known asked planned → IsAtMostOnBytesOrAttributes planned.op → IsValid next
+  without_names asked planned facts is = bytes_or_attributes_valid machine caller asked moment pick reply next planned valid facts.serves facts.plans is
 
   released : (asked : Call) (planned : CallPlan) (inos : List ℕ) → Known asked planned → planned.op ≡ Some (Release inos) → IsValid next
   released asked planned inos facts is = release_valid machine caller asked moment pick reply next planned inos valid facts.serves facts.plans is
@@ -131,18 +131,18 @@ module _ (machine : Machine) (caller : ℕ) (moment : ℕ) (pick : Option ℕ) (
       (acted machine.tree (counts machine.seats) (MakeDir dir name mode seat.cred.uid seat.cred.gid moment) (Some ino) facts.held acts))
 
   kept : (asked : Call) (planned : CallPlan) → Outcome machine.tree.nodes machine.seats seat moment pick asked planned → Known asked planned → IsValid next
-  kept _ _ (answered asked answer) facts = quiet asked _ facts tt
-  kept _ _ (opened path how stat fd found fits ordinary free) facts = quiet _ _ facts tt
-  kept _ _ (emptied path mode ino stat fd found regular ordinary free) facts = quiet _ _ facts tt
+  kept _ _ (answered asked answer) facts = without_names asked _ facts tt
+  kept _ _ (opened path how stat fd found fits ordinary free) facts = without_names _ _ facts tt
+  kept _ _ (emptied path mode ino stat fd found regular ordinary free) facts = without_names _ _ facts tt
   kept _ _ (created path mode dir name fd ino placed free taken) facts =
       let acts = ap (effect_of machine.tree (counts machine.seats) (Some (Create dir name (masked mode seat) seat.cred.uid seat.cred.gid moment))) (sym taken) ∙ facts.acts in
       by_kinds _ _ facts (create_kinds machine.tree (counts machine.seats) dir name (masked mode seat) seat.cred.uid seat.cred.gid moment ino facts.held.tree (free_of ino taken)
       (acted machine.tree (counts machine.seats) (Create dir name (masked mode seat) seat.cred.uid seat.cred.gid moment) (Some ino) facts.held acts))
-  kept _ _ (closed_shared fd file h s) facts = quiet _ _ facts tt
+  kept _ _ (closed_shared fd file h s) facts = without_names _ _ facts tt
   kept _ _ (closed_last fd file h s) facts = released _ _ (file.ino ∷ []) facts refl
-  kept _ _ (moved asked answer fd offset) facts = quiet asked _ facts tt
-  kept _ _ (put fd file byte bytes h w) facts = quiet _ _ facts tt
-  kept _ _ (doubled fd to free) facts = quiet _ _ facts tt
+  kept _ _ (moved asked answer fd offset) facts = without_names asked _ facts tt
+  kept _ _ (put fd file byte bytes h w) facts = without_names _ _ facts tt
+  kept _ _ (doubled fd to free) facts = without_names _ _ facts tt
   kept _ _ (linked from to stat dir name f d h) facts =
       by_kinds _ _ facts (enlink_kinds machine.tree (counts machine.seats) dir name stat.ino moment pick facts.held.tree
       (acted machine.tree (counts machine.seats) (Enlink dir name stat.ino moment) pick facts.held facts.acts))
@@ -168,12 +168,12 @@ module _ (machine : Machine) (caller : ℕ) (moment : ℕ) (pick : Option ℕ) (
             let some : 0 < counts machine.seats ino = subst (λ q. 0 < counts machine.seats q) is (counted_open machine.tree.nodes machine.seats other s pl file e sat has) in
             absurd (omega (arith, some, unheld)));
       })
-  kept _ _ (entered path stat h d) facts = quiet _ _ facts tt
-  kept _ _ (mode_set path mode stat h) facts = quiet _ _ facts (stored_low mode seat.cred)
-  kept _ _ (owner_set path uid gid stat h) facts = quiet _ _ facts tt
-  kept _ _ (times_set path atime mtime stat h) facts = quiet _ _ facts tt
-  kept _ _ (masked_off mask) facts = quiet _ _ facts tt
-  kept _ _ (left h) facts = quiet _ _ facts tt
+  kept _ _ (entered path stat h d) facts = without_names _ _ facts tt
+  kept _ _ (mode_set path mode stat h) facts = without_names _ _ facts (stored_low mode seat.cred)
+  kept _ _ (owner_set path uid gid stat h) facts = without_names _ _ facts tt
+  kept _ _ (times_set path atime mtime stat h) facts = without_names _ _ facts tt
+  kept _ _ (masked_off mask) facts = without_names _ _ facts tt
+  kept _ _ (left h) facts = without_names _ _ facts tt
   kept _ _ (left_open ino inos h) facts = released _ _ (ino ∷ inos) facts refl
 
 -- ---- any step

@@ -114,7 +114,7 @@ fitting tree nodes = do
   need (nat_le (cost (record tree { nodes = nodes })) tree.cap) ENOSPC
   Ok (record tree { nodes = nodes })
 
--- the nodes that stay: not those that are nameless and no longer open
+-- whether an inode is lost: it is there, has no name and is not open
 abbrev pub is_lost : Counts → ℕ → Option Node → Bool
 is_lost opens ino None = false
 is_lost opens ino (Some node) = node.nlink == 0 && opens ino == 0

@@ -1,5 +1,6 @@
--- Which operations an operation of the file system may be: those that a row can give on a tree that is as the
--- row found it. What does not fit has no effect that is promised.
+-- Which operations fit a tree and the counts of open files: they name what is there, and enter only names that
+-- are missing. The operation that a call plans fits the valid machine on which it is planned (law
+-- operations_fit). Nothing is promised of one that does not fit.
 use Rattle.std.specs.Prelude.{List, ℕ, ◌<◌, ◌≤◌, ◌≡◌, ◌≢◌, ◌⊎◌, false, length, Option, Some, None, IfSome, All, count_by, nat_eq}
 use Rattle.std.specs.FinMap as fin
 use Rattle.mb_tree.specs.Maps.{Numbered}

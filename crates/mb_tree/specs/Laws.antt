@@ -74,37 +74,38 @@ CostKept = (machine : Machine) (caller : ℕ) (call : Call) (moment : ℕ) (pick
 abbrev pub SessionKept : Type 0
 SessionKept = (nodes : Numbered Node) (seat : Seat) (change : SessionChange) → IsSeated nodes seat → FitsSession nodes seat change → IsSeated nodes (changed seat change)
 
--- an inode as another one was, but for its attributes and the bytes of a file
-pub record IsAlike (old new : Node) : Type 0 where
+-- an inode with the slots and the link count that it had; its other attributes and the bytes of a file may differ
+pub record KeepsSlotsAndLinks (old new : Node) : Type 0 where
   pub nlink : new.nlink ≡ old.nlink
   pub slots : slots_of new.body ≡ slots_of old.body
   pub kind : HasKind new.mode new.body
   pub size : HasSize new.body
 
-abbrev pub AreAlike : Option Node → Option Node → Type 0
-AreAlike None None = Unit {0}
-AreAlike None (Some new) = ⊥
-AreAlike (Some old) None = ⊥
-AreAlike (Some old) (Some new) = IsAlike old new
+-- an inode that is there stays so, with its slots and its link count, and a free number stays free
+abbrev pub StaysWithSlotsAndLinks : Option Node → Option Node → Type 0
+StaysWithSlotsAndLinks None None = Unit {0}
+StaysWithSlotsAndLinks None (Some new) = ⊥
+StaysWithSlotsAndLinks (Some old) None = ⊥
+StaysWithSlotsAndLinks (Some old) (Some new) = KeepsSlotsAndLinks old new
 
 -- a tree stays sound where each inode keeps its slots and its link count, and there is room
-abbrev pub AlikeKept : Type 0
-AlikeKept = (tree : Tree) (nodes : Numbered Node) → IsSound tree → ((ino : ℕ) → AreAlike (fin.get tree.nodes ino) (fin.get nodes ino))
+abbrev pub SlotsAndLinksKept : Type 0
+SlotsAndLinksKept = (tree : Tree) (nodes : Numbered Node) → IsSound tree → ((ino : ℕ) → StaysWithSlotsAndLinks (fin.get tree.nodes ino) (fin.get nodes ino))
     → cost (record tree { nodes = nodes }) ≤ tree.cap → IsSound (record tree { nodes = nodes })
 
--- the operations that touch bytes or attributes alone
-abbrev pub IsQuiet : FsOp → Type 0
-IsQuiet (Empty ino moment) = Unit {0}
-IsQuiet (Put ino offset bytes moment) = Unit {0}
-IsQuiet (SetMode ino mode moment) = mode < 4096
-IsQuiet (SetOwner ino uid gid moment) = Unit {0}
-IsQuiet (SetTimes ino atime mtime moment) = Unit {0}
-IsQuiet (Hold ino) = Unit {0}
-IsQuiet _ = ⊥
+-- the operations that touch bytes, attributes or counts of open files alone
+abbrev pub IsOnBytesOrAttributes : FsOp → Type 0
+IsOnBytesOrAttributes (Empty ino moment) = Unit {0}
+IsOnBytesOrAttributes (Put ino offset bytes moment) = Unit {0}
+IsOnBytesOrAttributes (SetMode ino mode moment) = mode < 4096
+IsOnBytesOrAttributes (SetOwner ino uid gid moment) = Unit {0}
+IsOnBytesOrAttributes (SetTimes ino atime mtime moment) = Unit {0}
+IsOnBytesOrAttributes (Hold ino) = Unit {0}
+IsOnBytesOrAttributes _ = ⊥
 
 -- they keep a sound tree sound
-abbrev pub QuietKept : Type 0
-QuietKept = (tree : Tree) (opens : Counts) (made : FsOp) (pick : Option ℕ) (next : Tree) → IsSound tree → IsQuiet made
+abbrev pub BytesOrAttributesKept : Type 0
+BytesOrAttributesKept = (tree : Tree) (opens : Counts) (made : FsOp) (pick : Option ℕ) (next : Tree) → IsSound tree → IsOnBytesOrAttributes made
     → tree_after tree opens made pick ≡ Ok next → IsSound next
 
 -- no used slot leads to an inode

@@ -41,7 +41,8 @@ is_named name slot = is_used slot && bytes_eq slot.name name
 abbrev pub number_of : List PlainSlot → List ℕ → Option ℕ
 number_of slots name = option_map (λ slot. slot.ino) (find (is_named name) slots)
 
--- that number, refused where the inode is no directory or may not be searched
+-- the same in the inode with a number: ENOTDIR where that is no directory, EACCES where the caller may not
+-- search it, and None where no used slot has the name
 abbrev pub look : Numbered Node → Cred → ℕ → List ℕ → Answer (Option ℕ)
 look nodes cred dir name = do
   node ← some (fin.get nodes dir) ENOTDIR

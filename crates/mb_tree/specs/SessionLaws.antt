@@ -13,7 +13,7 @@ use Rattle.mb_tree.specs.Step.{IsFreeNumber, IsLawful, effect_of, serve, step}
 use Rattle.mb_tree.specs.Trees.{IsDirectoryAt, IsRegularAt, IsSound}
 use Rattle.mb_tree.specs.Fits.{Fits}
 use Rattle.mb_tree.specs.Machines.{IsValidFor, IsValid}
-use Rattle.mb_tree.specs.Laws.{IsQuiet}
+use Rattle.mb_tree.specs.Laws.{IsOnBytesOrAttributes}
 use Rattle.mb_tree.specs.declared.machines.Machine.{Machine}
 use Rattle.mb_tree.specs.declared.nodes.Node.{Node}
 use Rattle.mb_tree.specs.declared.operations.FsOp.{FsOp}
@@ -48,14 +48,14 @@ ValidStays = (machine : Machine) (caller : ℕ) (made : Call) (moment : ℕ) (pi
     → IsValid machine → serve machine caller made moment pick ≡ Ok (reply, next) → IsSound next.tree → KeepsOpenable machine next → IsValid next
 
 -- no operation, or one that touches bytes or attributes alone
-abbrev pub IsQuietPlan : Option FsOp → Type 0
-IsQuietPlan None = Unit {0}
-IsQuietPlan (Some made) = IsQuiet made
+abbrev pub IsAtMostOnBytesOrAttributes : Option FsOp → Type 0
+IsAtMostOnBytesOrAttributes None = Unit {0}
+IsAtMostOnBytesOrAttributes (Some made) = IsOnBytesOrAttributes made
 
 -- a call with such a plan keeps a machine valid
-abbrev pub QuietValid : Type 0
-QuietValid = (machine : Machine) (caller : ℕ) (made : Call) (moment : ℕ) (pick : Option ℕ) (reply : Reply) (next : Machine) (planned : CallPlan)
-    → IsValid machine → serve machine caller made moment pick ≡ Ok (reply, next) → plan machine caller made moment pick ≡ Ok planned → IsQuietPlan planned.op → IsValid next
+abbrev pub BytesOrAttributesValid : Type 0
+BytesOrAttributesValid = (machine : Machine) (caller : ℕ) (made : Call) (moment : ℕ) (pick : Option ℕ) (reply : Reply) (next : Machine) (planned : CallPlan)
+    → IsValid machine → serve machine caller made moment pick ≡ Ok (reply, next) → plan machine caller made moment pick ≡ Ok planned → IsAtMostOnBytesOrAttributes planned.op → IsValid next
 
 -- and so does one that releases open files: what is dropped with its last open file nobody uses any longer
 abbrev pub ReleaseValid : Type 0

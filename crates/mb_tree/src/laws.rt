@@ -1,4 +1,4 @@
-ghost use Rattle.mb_tree.specs.Laws.{AfterAppends, LegalSplits, LegalAppends, LegalGrows, RefusedStays, ServedByEffect, CostKept, SessionKept, AlikeKept, QuietKept, DropKept, ReleaseKept};
+ghost use Rattle.mb_tree.specs.Laws.{AfterAppends, LegalSplits, LegalAppends, LegalGrows, RefusedStays, ServedByEffect, CostKept, SessionKept, SlotsAndLinksKept, BytesOrAttributesKept, DropKept, ReleaseKept};
 
 /// The machine after two histories in a row is the one after the second, from the one after the first.
 pub fn after_appends()
@@ -41,13 +41,13 @@ pub fn session_kept()
 {}
 
 /// A tree stays sound where each inode keeps its slots and its link count, and there is room.
-pub fn alike_kept()
-    ensures { AlikeKept }
+pub fn slots_and_links_kept()
+    ensures { SlotsAndLinksKept }
 {}
 
 /// An operation that touches bytes or attributes alone keeps a sound tree sound.
-pub fn quiet_kept()
-    ensures { QuietKept }
+pub fn bytes_or_attributes_kept()
+    ensures { BytesOrAttributesKept }
 {}
 
 /// A tree stays sound where inodes are dropped to which no used slot leads, and there is room.

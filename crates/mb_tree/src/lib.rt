@@ -40,8 +40,9 @@ mod volume_laws;
 
 pub use inodes::{is_directory, is_regular};
 pub use laws::{
-    after_appends, alike_kept, cost_kept, drop_kept, legal_appends, legal_grows, legal_splits,
-    quiet_kept, refused_stays, release_kept, served_by_effect, session_kept,
+    after_appends, bytes_or_attributes_kept, cost_kept, drop_kept, legal_appends, legal_grows,
+    legal_splits, refused_stays, release_kept, served_by_effect, session_kept,
+    slots_and_links_kept,
 };
 pub use lookups::{Placed, components, number_of};
 pub use machines::Machine;
@@ -54,7 +55,8 @@ pub use operations::{FsOp, Inos};
 pub use plans::CallPlan;
 pub use seats::{PlainFile, Seat, Seats, SessionChange, reads};
 pub use session_laws::{
-    counts_follow, operations_fit, quiet_valid, release_valid, valid_kept, valid_stays,
+    bytes_or_attributes_valid, counts_follow, operations_fit, release_valid, valid_kept,
+    valid_stays,
 };
 pub use stops::NoMemory;
 pub use tables::{Fds, Files};

@@ -1,4 +1,4 @@
-ghost use Rattle.mb_tree.specs.SessionLaws.{CountsFollow, ValidStays, QuietValid, ReleaseValid, OperationsFit, ValidKept};
+ghost use Rattle.mb_tree.specs.SessionLaws.{CountsFollow, ValidStays, BytesOrAttributesValid, ReleaseValid, OperationsFit, ValidKept};
 
 /// The counts of open files after a call are those that its operation leaves.
 pub fn counts_follow()
@@ -13,8 +13,8 @@ pub fn valid_stays()
 
 /// A call without an operation, or with one that touches bytes or attributes alone, keeps a machine
 /// valid.
-pub fn quiet_valid()
-    ensures { QuietValid }
+pub fn bytes_or_attributes_valid()
+    ensures { BytesOrAttributesValid }
 {}
 
 /// A call that releases open files keeps a machine valid.

@@ -17,7 +17,7 @@ use Rattle.mb_tree.specs.Inodes.{slots_of}
 use Rattle.mb_tree.specs.Cost.{cost, most_parts}
 use Rattle.mb_tree.specs.Effect.{cleared, written, blanked, wrote, with_owner, with_times, put_byte, put_bytes, fitting}
 use Rattle.mb_tree.specs.Trees.{HasKind, HasSize, IsSound}
-use Rattle.mb_tree.specs.Laws.{IsAlike, AreAlike, QuietKept}
+use Rattle.mb_tree.specs.Laws.{KeepsSlotsAndLinks, StaysWithSlotsAndLinks, BytesOrAttributesKept}
 use Rattle.mb_tree.specs.declared.nodes.Node.{Node}
 use Rattle.mb_tree.specs.declared.nodes.Body.{Body}
 use Rattle.mb_tree.specs.declared.nodes.Body.TheVariants.{Regular, Directory, Special}
@@ -25,7 +25,7 @@ use Rattle.mb_tree.specs.declared.trees.Tree.{Tree}
 use Rattle.mb_tree.specs.declared.operations.FsOp.TheVariants.{Empty, Put, SetMode, SetOwner, SetTimes, Hold}
 use Rattle.mb_tree.proofs.FiniteMaps.{get_here, get_there, one_or_not}
 use Rattle.mb_tree.proofs.Always.{then_ok, same_ok}
-use Rattle.mb_tree.proofs.Alike.{alike_kept}
+use Rattle.mb_tree.proofs.SlotsAndLinks.{slots_and_links_kept}
 use Rattle.mb_tree.proofs.Cheaper.{after_op}
 
 -- ---- bodies
@@ -91,25 +91,25 @@ kind_same old new (Special size area) e h = ap (λ k. k == 0x2000 || k == 0x6000
 -- ---- trees
 
 module _ (tree : Tree) (sound : IsSound tree) where
-  itself : (ino : ℕ) (o : Option Node) → fin.get tree.nodes ino ≡ o → AreAlike o o
+  itself : (ino : ℕ) (o : Option Node) → fin.get tree.nodes ino ≡ o → StaysWithSlotsAndLinks o o
   itself ino None e = tt
   itself ino (Some x) e = record { nlink = refl; slots = refl; kind = sound.kinds ino x e; size = sound.sizes ino x e }
 
-  changed : (ino : ℕ) (f : Node → Node) → ((x : Node) → fin.get tree.nodes ino ≡ Some x → IsAlike x (f x)) → (q : ℕ) → AreAlike (fin.get tree.nodes q) (fin.get (changed_at tree.nodes ino f) q)
+  changed : (ino : ℕ) (f : Node → Node) → ((x : Node) → fin.get tree.nodes ino ≡ Some x → KeepsSlotsAndLinks x (f x)) → (q : ℕ) → StaysWithSlotsAndLinks (fin.get tree.nodes q) (fin.get (changed_at tree.nodes ino f) q)
   changed ino f each q =
-      elim (fin.get tree.nodes ino) as (λ (o : Option Node). fin.get tree.nodes ino ≡ o → AreAlike (fin.get tree.nodes q) (fin.get (unwrap_or (option_map (λ x. fin.insert tree.nodes ino (f x)) o) tree.nodes) q)) [
+      elim (fin.get tree.nodes ino) as (λ (o : Option Node). fin.get tree.nodes ino ≡ o → StaysWithSlotsAndLinks (fin.get tree.nodes q) (fin.get (unwrap_or (option_map (λ x. fin.insert tree.nodes ino (f x)) o) tree.nodes) q)) [
         | None ↦ λ e. itself q (fin.get tree.nodes q) refl
         | Some x ↦ λ e. elim (one_or_not q ino) [
-          | inl is ↦ subst (λ (o : Option Node). AreAlike (fin.get tree.nodes q) o) (sym (ap (fin.get (fin.insert tree.nodes ino (f x))) is ∙ get_here tree.nodes ino (f x)))
-              (subst (λ (o : Option Node). AreAlike o (Some (f x))) (sym (ap (fin.get tree.nodes) is ∙ e)) (each x e))
-          | inr apart ↦ subst (λ (o : Option Node). AreAlike (fin.get tree.nodes q) o) (sym (get_there tree.nodes ino (f x) q apart)) (itself q (fin.get tree.nodes q) refl)
+          | inl is ↦ subst (λ (o : Option Node). StaysWithSlotsAndLinks (fin.get tree.nodes q) o) (sym (ap (fin.get (fin.insert tree.nodes ino (f x))) is ∙ get_here tree.nodes ino (f x)))
+              (subst (λ (o : Option Node). StaysWithSlotsAndLinks o (Some (f x))) (sym (ap (fin.get tree.nodes) is ∙ e)) (each x e))
+          | inr apart ↦ subst (λ (o : Option Node). StaysWithSlotsAndLinks (fin.get tree.nodes q) o) (sym (get_there tree.nodes ino (f x) q apart)) (itself q (fin.get tree.nodes q) refl)
         ]
       ] refl
 
   -- the node changed, where the files still fit
-  on_one : (ino : ℕ) (f : Node → Node) → ((x : Node) → fin.get tree.nodes ino ≡ Some x → IsAlike x (f x))
+  on_one : (ino : ℕ) (f : Node → Node) → ((x : Node) → fin.get tree.nodes ino ≡ Some x → KeepsSlotsAndLinks x (f x))
       → cost (record tree { nodes = changed_at tree.nodes ino f }) ≤ tree.cap → IsSound (record tree { nodes = changed_at tree.nodes ino f })
-  on_one ino f each room = alike_kept tree (changed_at tree.nodes ino f) sound (changed ino f each) room
+  on_one ino f each room = slots_and_links_kept tree (changed_at tree.nodes ino f) sound (changed ino f each) room
 
 limit_of : (offset n : ℕ) (u : Unit {0}) → need (nat_le (offset + n) 1082201088) EFBIG ≡ Ok u → offset + n ≤ 1082201088
 limit_of offset n u h = elim (nat_le (offset + n) 1082201088) as (λ b. nat_le (offset + n) 1082201088 ≡ b → need b EFBIG ≡ Ok u → offset + n ≤ 1082201088) [
@@ -117,13 +117,13 @@ limit_of offset n u h = elim (nat_le (offset + n) 1082201088) as (λ b. nat_le (
   | false ↦ λ e s. cc
 ] refl h
 
-pub quiet_kept : QuietKept
-quiet_kept tree opens (Empty ino moment) pick next sound quiet h =
+pub bytes_or_attributes_kept : BytesOrAttributesKept
+bytes_or_attributes_kept tree opens (Empty ino moment) pick next sound only h =
     let room = (after_op tree sound.room opens (Empty ino moment) pick).holds next h in
     let e = same_ok {A = Tree} (record tree { nodes = changed_at tree.nodes ino (blanked moment) }) next h in
     subst IsSound e (on_one tree sound ino (blanked moment) (λ x has. record { nlink = refl; slots = slots_cleared x.body; kind = kind_cleared x.mode x.body (sound.kinds ino x has); size = size_cleared x.body (sound.sizes ino x has) })
     (subst (λ (t : Tree). cost t ≤ tree.cap) (sym e) room.0))
-quiet_kept tree opens (Put ino offset bytes moment) pick next sound quiet h =
+bytes_or_attributes_kept tree opens (Put ino offset bytes moment) pick next sound only h =
     let room = (after_op tree sound.room opens (Put ino offset bytes moment) pick).holds next h in
     let one = then_ok (need (nat_le (offset + length bytes) 1082201088) EFBIG) (fitting tree (changed_at tree.nodes ino (wrote moment offset bytes))) next h in
     let two = then_ok (need (nat_le (cost (record tree { nodes = changed_at tree.nodes ino (wrote moment offset bytes) })) tree.cap) ENOSPC) (Ok (record tree { nodes = changed_at tree.nodes ino (wrote moment offset bytes) })) next one.2 in
@@ -131,20 +131,20 @@ quiet_kept tree opens (Put ino offset bytes moment) pick next sound quiet h =
     let limit = limit_of offset (length bytes) one.0 one.1 in
     subst IsSound e (on_one tree sound ino (wrote moment offset bytes) (λ x has. record { nlink = refl; slots = slots_written offset bytes x.body; kind = kind_written x.mode offset bytes x.body (sound.kinds ino x has); size = size_written offset bytes x.body limit (sound.sizes ino x has) })
     (subst (λ (t : Tree). cost t ≤ tree.cap) (sym e) room.0))
-quiet_kept tree opens (SetMode ino mode moment) pick next sound quiet h =
+bytes_or_attributes_kept tree opens (SetMode ino mode moment) pick next sound only h =
     let room = (after_op tree sound.room opens (SetMode ino mode moment) pick).holds next h in
     let e = same_ok {A = Tree} (record tree { nodes = changed_at tree.nodes ino (with_mode mode moment) }) next h in
-    subst IsSound e (on_one tree sound ino (with_mode mode moment) (λ x has. record { nlink = refl; slots = refl; kind = kind_same x.mode (bit_or (kind_of x.mode) mode) x.body (kind_set x.mode mode quiet) (sound.kinds ino x has); size = sound.sizes ino x has })
+    subst IsSound e (on_one tree sound ino (with_mode mode moment) (λ x has. record { nlink = refl; slots = refl; kind = kind_same x.mode (bit_or (kind_of x.mode) mode) x.body (kind_set x.mode mode only) (sound.kinds ino x has); size = sound.sizes ino x has })
     (subst (λ (t : Tree). cost t ≤ tree.cap) (sym e) room.0))
-quiet_kept tree opens (SetOwner ino uid gid moment) pick next sound quiet h =
+bytes_or_attributes_kept tree opens (SetOwner ino uid gid moment) pick next sound only h =
     let room = (after_op tree sound.room opens (SetOwner ino uid gid moment) pick).holds next h in
     let e = same_ok {A = Tree} (record tree { nodes = changed_at tree.nodes ino (with_owner uid gid moment) }) next h in
     subst IsSound e (on_one tree sound ino (with_owner uid gid moment) (λ x has. record { nlink = refl; slots = refl; kind = sound.kinds ino x has; size = sound.sizes ino x has })
     (subst (λ (t : Tree). cost t ≤ tree.cap) (sym e) room.0))
-quiet_kept tree opens (SetTimes ino atime mtime moment) pick next sound quiet h =
+bytes_or_attributes_kept tree opens (SetTimes ino atime mtime moment) pick next sound only h =
     let room = (after_op tree sound.room opens (SetTimes ino atime mtime moment) pick).holds next h in
     let e = same_ok {A = Tree} (record tree { nodes = changed_at tree.nodes ino (with_times atime mtime moment) }) next h in
     subst IsSound e (on_one tree sound ino (with_times atime mtime moment) (λ x has. record { nlink = refl; slots = refl; kind = sound.kinds ino x has; size = sound.sizes ino x has })
     (subst (λ (t : Tree). cost t ≤ tree.cap) (sym e) room.0))
-quiet_kept tree opens (Hold ino) pick next sound quiet h = subst IsSound (same_ok tree next h) sound
-quiet_kept tree opens _ pick next sound quiet h = absurd quiet
+bytes_or_attributes_kept tree opens (Hold ino) pick next sound only h = subst IsSound (same_ok tree next h) sound
+bytes_or_attributes_kept tree opens _ pick next sound only h = absurd only

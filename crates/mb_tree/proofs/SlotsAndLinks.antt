@@ -8,7 +8,7 @@ use Rattle.mb_tree.specs.Inodes.{slots_of}
 use Rattle.mb_tree.specs.Cost.{cost}
 use Rattle.mb_tree.specs.Trees.{IsThere, AreSlots, links_from, late_links_from, links_at, late_links_at, links, late_links, leads_to, Leads, Reached, IsRoot, IsSound}
 use Rattle.mb_tree.specs.Trees.Reached.{root, down}
-use Rattle.mb_tree.specs.Laws.{IsAlike, AreAlike, AlikeKept}
+use Rattle.mb_tree.specs.Laws.{KeepsSlotsAndLinks, StaysWithSlotsAndLinks, SlotsAndLinksKept}
 use Rattle.mb_tree.specs.declared.nodes.PlainSlot.{PlainSlot}
 use Rattle.mb_tree.specs.declared.nodes.Node.{Node}
 use Rattle.mb_tree.specs.declared.nodes.Body.{Body}
@@ -30,45 +30,45 @@ late_links_by ino (Regular size parts) = refl
 late_links_by ino (Directory slots) = refl
 late_links_by ino (Special size area) = refl
 
-links_alike : (ino : ℕ) (old new : Option Node) → AreAlike old new → links_at ino new ≡ links_at ino old
-links_alike ino None None h = refl
-links_alike ino None (Some y) h = absurd h
-links_alike ino (Some x) None h = absurd h
-links_alike ino (Some x) (Some y) h = links_by ino y.body ∙ ap (λ s. unwrap_or (option_map (count_by (leads_to ino)) s) 0) h.slots ∙ sym (links_by ino x.body)
+links_stay : (ino : ℕ) (old new : Option Node) → StaysWithSlotsAndLinks old new → links_at ino new ≡ links_at ino old
+links_stay ino None None h = refl
+links_stay ino None (Some y) h = absurd h
+links_stay ino (Some x) None h = absurd h
+links_stay ino (Some x) (Some y) h = links_by ino y.body ∙ ap (λ s. unwrap_or (option_map (count_by (leads_to ino)) s) 0) h.slots ∙ sym (links_by ino x.body)
 
-late_alike : (ino : ℕ) (old new : Option Node) → AreAlike old new → late_links_at ino new ≡ late_links_at ino old
-late_alike ino None None h = refl
-late_alike ino None (Some y) h = absurd h
-late_alike ino (Some x) None h = absurd h
-late_alike ino (Some x) (Some y) h = late_links_by ino y.body ∙ ap (λ s. unwrap_or (option_map (λ slots. count_by (leads_to ino) (drop 2 slots)) s) 0) h.slots ∙ sym (late_links_by ino x.body)
+late_stay : (ino : ℕ) (old new : Option Node) → StaysWithSlotsAndLinks old new → late_links_at ino new ≡ late_links_at ino old
+late_stay ino None None h = refl
+late_stay ino None (Some y) h = absurd h
+late_stay ino (Some x) None h = absurd h
+late_stay ino (Some x) (Some y) h = late_links_by ino y.body ∙ ap (λ s. unwrap_or (option_map (λ slots. count_by (leads_to ino) (drop 2 slots)) s) 0) h.slots ∙ sym (late_links_by ino x.body)
 
 -- the inode before, and the one after
-before : (old new : Option Node) (y : Node) → AreAlike old new → new ≡ Some y → (x : Node) × (old ≡ Some x) × IsAlike x y
+before : (old new : Option Node) (y : Node) → StaysWithSlotsAndLinks old new → new ≡ Some y → (x : Node) × (old ≡ Some x) × KeepsSlotsAndLinks x y
 before old None y h e = cc
 before None (Some z) y h e = absurd h
-before (Some x) (Some z) y h e = let at : z ≡ y = cc in (x, refl, subst (λ (n : Node). IsAlike x n) at h)
+before (Some x) (Some z) y h e = let at : z ≡ y = cc in (x, refl, subst (λ (n : Node). KeepsSlotsAndLinks x n) at h)
 
-later : (old new : Option Node) (x : Node) → AreAlike old new → old ≡ Some x → (y : Node) × (new ≡ Some y) × IsAlike x y
+later : (old new : Option Node) (x : Node) → StaysWithSlotsAndLinks old new → old ≡ Some x → (y : Node) × (new ≡ Some y) × KeepsSlotsAndLinks x y
 later None new x h e = cc
 later (Some z) None x h e = absurd h
-later (Some z) (Some y) x h e = let at : z ≡ x = cc in (y, refl, subst (λ (n : Node). IsAlike n y) at h)
+later (Some z) (Some y) x h e = let at : z ≡ x = cc in (y, refl, subst (λ (n : Node). KeepsSlotsAndLinks n y) at h)
 
-module _ (tree : Tree) (nodes : Numbered Node) (sound : IsSound tree) (alike : (ino : ℕ) → AreAlike (fin.get tree.nodes ino) (fin.get nodes ino)) where
+module _ (tree : Tree) (nodes : Numbered Node) (sound : IsSound tree) (stay : (ino : ℕ) → StaysWithSlotsAndLinks (fin.get tree.nodes ino) (fin.get nodes ino)) where
   abbrev next : Tree
   next = record tree { nodes = nodes }
 
   same_links : (ino : ℕ) → links next ino ≡ links tree ino
-  same_links ino = ap (λ (g : ℕ → ℕ). sum_below g (tree.last + 1)) (λ i dir. links_alike ino (fin.get tree.nodes dir) (fin.get nodes dir) (alike dir) i)
+  same_links ino = ap (λ (g : ℕ → ℕ). sum_below g (tree.last + 1)) (λ i dir. links_stay ino (fin.get tree.nodes dir) (fin.get nodes dir) (stay dir) i)
 
   same_late : (ino : ℕ) → late_links next ino ≡ late_links tree ino
-  same_late ino = ap (λ (g : ℕ → ℕ). sum_below g (tree.last + 1)) (λ i dir. late_alike ino (fin.get tree.nodes dir) (fin.get nodes dir) (alike dir) i)
+  same_late ino = ap (λ (g : ℕ → ℕ). sum_below g (tree.last + 1)) (λ i dir. late_stay ino (fin.get tree.nodes dir) (fin.get nodes dir) (stay dir) i)
 
   there : (ino : ℕ) → IsThere tree.nodes ino → IsThere nodes ino
-  there ino h = let y = later (fin.get tree.nodes ino) (fin.get nodes ino) h.node (alike ino) h.has in record { node = y.0; has = y.1 }
+  there ino h = let y = later (fin.get tree.nodes ino) (fin.get nodes ino) h.node (stay ino) h.has in record { node = y.0; has = y.1 }
 
   leads : (dir at ino : ℕ) → Leads tree.nodes dir at ino → Leads nodes dir at ino
   leads dir at ino h =
-      let y = later (fin.get tree.nodes dir) (fin.get nodes dir) h.node (alike dir) h.has in
+      let y = later (fin.get tree.nodes dir) (fin.get nodes dir) h.node (stay dir) h.has in
       record { node = y.0; slots = h.slots; slot = h.slot; has = y.1; body = directory_of y.0.body h.slots (y.2.slots ∙ ap slots_of h.body); late = h.late; entry = h.entry; leads = h.leads }
 
   reached : (ino : ℕ) → Reached tree.nodes ino → Reached nodes ino
@@ -87,29 +87,29 @@ module _ (tree : Tree) (nodes : Numbered Node) (sound : IsSound tree) (alike : (
     distinct = h.distinct;
   }
 
-  was_directory : (ino : ℕ) (y : Node) (slots : List PlainSlot) (x : Node) → IsAlike x y → y.body ≡ Directory slots → x.body ≡ Directory slots
+  was_directory : (ino : ℕ) (y : Node) (slots : List PlainSlot) (x : Node) → KeepsSlotsAndLinks x y → y.body ≡ Directory slots → x.body ≡ Directory slots
   was_directory ino y slots x h body = directory_of x.body slots (sym h.slots ∙ ap slots_of body)
 
   root_kept : IsRoot next
   root_kept =
-      let y = later (fin.get tree.nodes 2) (fin.get nodes 2) sound.root.node (alike 2) sound.root.has in
+      let y = later (fin.get tree.nodes 2) (fin.get nodes 2) sound.root.node (stay 2) sound.root.has in
       record { node = y.0; slots = sound.root.slots; has = y.1; body = directory_of y.0.body sound.root.slots (y.2.slots ∙ ap slots_of sound.root.body); upward = sound.root.upward; top = same_late 2 ∙ sound.root.top }
 
   kept : cost next ≤ tree.cap → IsSound next
   kept room = record {
-    numbers = λ ino y has. let x = before _ _ y (alike ino) has in sound.numbers ino x.0 x.1;
-    kinds = λ ino y has. (before _ _ y (alike ino) has).2.kind;
-    sizes = λ ino y has. (before _ _ y (alike ino) has).2.size;
+    numbers = λ ino y has. let x = before _ _ y (stay ino) has in sound.numbers ino x.0 x.1;
+    kinds = λ ino y has. (before _ _ y (stay ino) has).2.kind;
+    sizes = λ ino y has. (before _ _ y (stay ino) has).2.size;
     root = root_kept;
-    slots = λ ino y slots has body. let x = before _ _ y (alike ino) has in slots_kept ino slots (sound.slots ino x.0 slots x.1 (was_directory ino y slots x.0 x.2 body));
+    slots = λ ino y slots has body. let x = before _ _ y (stay ino) has in slots_kept ino slots (sound.slots ino x.0 slots x.1 (was_directory ino y slots x.0 x.2 body));
     parents = λ ino y slots has body other.
-        let x = before _ _ y (alike ino) has in
+        let x = before _ _ y (stay ino) has in
         let old = sound.parents ino x.0 slots x.1 (was_directory ino y slots x.0 x.2 body) other in
         record { one = same_late ino ∙ old.one; parent = old.parent; at = old.at; upward = old.upward; entry = leads old.parent old.at ino old.entry; reached = reached ino old.reached };
-    counted = λ ino y has other. let x = before _ _ y (alike ino) has in x.2.nlink ∙ sound.counted ino x.0 x.1 other ∙ sym (same_links ino);
-    few = λ ino y has other. let x = before _ _ y (alike ino) has in subst (λ n. n ≤ 32767) (sym x.2.nlink) (sound.few ino x.0 x.1 other);
+    counted = λ ino y has other. let x = before _ _ y (stay ino) has in x.2.nlink ∙ sound.counted ino x.0 x.1 other ∙ sym (same_links ino);
+    few = λ ino y has other. let x = before _ _ y (stay ino) has in subst (λ n. n ≤ 32767) (sym x.2.nlink) (sound.few ino x.0 x.1 other);
     room = room;
   }
 
-pub alike_kept : AlikeKept
-alike_kept tree nodes sound alike room = kept tree nodes sound alike room
+pub slots_and_links_kept : SlotsAndLinksKept
+slots_and_links_kept tree nodes sound stay room = kept tree nodes sound stay room
