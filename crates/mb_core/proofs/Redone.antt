@@ -3,7 +3,7 @@ use Rattle.std.proofs.Common.{List, [], ◌∷◌, ◌++◌, ℕ, zero, suc, ◌
 use Rattle.std.specs.Prelude.{IfSome, option_map}
 use Rattle.mb_kinds.specs.Image.{Image, put}
 use Rattle.mb_word.specs.Fields.{inode_block}
-use Rattle.mb_fsops.specs.Modes.{mode_set}
+use Rattle.mb_attrs.specs.Modes.{mode_set}
 use Rattle.mb_tree.specs.declared.operations.FsOp.TheVariants.{SetMode}
 use Rattle.mb_core.specs.Events.{replays}
 use Rattle.mb_core.specs.Pages.{PageList, under, with_page}

@@ -3,7 +3,7 @@ use Rattle.std.specs.Prelude.{List, [], ◌∷◌, ◌≡◌, Option, option_map
 use Rattle.mb_kinds.specs.Image.{Image, put}
 use Rattle.mb_edge.specs.Damage.{OpenCounts}
 use Rattle.mb_word.specs.Fields.{inode_block}
-use Rattle.mb_fsops.specs.Modes.{mode_set}
+use Rattle.mb_attrs.specs.Modes.{mode_set}
 use Rattle.mb_tree.specs.Sessions.{counts}
 use Rattle.mb_tree.specs.declared.operations.FsOp.{FsOp}
 use Rattle.mb_tree.specs.declared.operations.FsOp.TheVariants.{SetMode}

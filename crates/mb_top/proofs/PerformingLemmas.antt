@@ -26,8 +26,8 @@ use Rattle.mb_tree.specs.declared.seats.PlainFile.{PlainFile}
 use Rattle.mb_tree.specs.declared.seats.Seat.{Seat}
 use Rattle.mb_tree.specs.declared.seats.SessionChange.TheVariants.{Same, Fresh, Free, Move, Clear}
 use Rattle.mb_tree.specs.declared.trees.Tree.{Tree}
-use Rattle.mb_fsops.specs.Modes.{mode_set}
-use Rattle.mb_fsops.proofs.ModeLemmas.{set_mode_keeps}
+use Rattle.mb_attrs.specs.Modes.{mode_set}
+use Rattle.mb_attrs.proofs.ModeLemmas.{set_mode_keeps}
 use Rattle.mb_core.specs.Pages.{PageList}
 use Rattle.mb_core.specs.declared.answers.ReadFault.{ReadFault}
 use Rattle.mb_core.specs.declared.ready.Ready.{Ready}

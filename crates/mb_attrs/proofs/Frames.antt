@@ -23,7 +23,7 @@ use Rattle.mb_tree.specs.declared.nodes.Body.TheVariants.{Regular, Directory, Sp
 use Rattle.mb_tree.specs.declared.nodes.Node.{Node}
 use Rattle.mb_tree.specs.declared.trees.Tree.{Tree}
 use Rattle.mb_tree.proofs.Chains.{chain_once}
-use Rattle.mb_fsops.proofs.Chains.{chain_alike}
+use Rattle.mb_attrs.proofs.Chains.{chain_alike}
 
 -- block 0, the super-block and the blocks past the i-list stay, and so do the sizes and the areas of the inodes
 pub record Framed (old new : ℕ → List ℕ) : Type 0 where

@@ -8,8 +8,8 @@ use Rattle.mb_word.proofs.Values.{word_at-same, long_at-same}
 use Rattle.mb_layout.specs.Inode.{dinode_at}
 use Rattle.mb_layout.proofs.InodeBytes.{dinode_alike}
 use Rattle.mb_layout.proofs.Steps.{alike_same}
-use Rattle.mb_fsops.specs.Modes.{new_mode, mode_set}
-use Rattle.mb_fsops.proofs.ModeLemmas.{length-mode_set, mode_set_same, mode_set_mode, mode_set_ctime}
+use Rattle.mb_attrs.specs.Modes.{new_mode, mode_set}
+use Rattle.mb_attrs.proofs.ModeLemmas.{length-mode_set, mode_set_same, mode_set_mode, mode_set_ctime}
 
 -- the two writes are that of the mode and the moment
 pub mode_written : (b one two : List ℕ) (ino place kind mode moment : ℕ) → place ≡ inode_place ino → kind ≡ word_at b (64 * place)

@@ -17,7 +17,7 @@ use Rattle.mb_tree.specs.Volume.{last_inode, HasBody, HasInode, body_has_address
 use Rattle.mb_tree.specs.declared.nodes.Body.{Body}
 use Rattle.mb_tree.specs.declared.nodes.Node.{Node}
 use Rattle.mb_tree.specs.declared.trees.Tree.{Tree}
-use Rattle.mb_fsops.proofs.Frames.{Framed, at_kept, body_kept, chain_kept, chain_was, chain_is}
+use Rattle.mb_attrs.proofs.Frames.{Framed, at_kept, body_kept, chain_kept, chain_was, chain_is}
 
 -- the fields of an inode other than its body
 pub record HasFields (blocks : ℕ → List ℕ) (ino : ℕ) (node : Node) : Type 0 where

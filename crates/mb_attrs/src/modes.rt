@@ -1,7 +1,7 @@
 ghost use Rattle.std.specs.Prelude.{◌≡◌, ◌≢◌, ◌<◌, ℕ};
 ghost use Rattle.mb_word.specs.Fields as fields;
 ghost use Rattle.mb_layout.specs.Inode.{dinode_at};
-ghost use Rattle.mb_fsops.specs.Modes.{mode_set, new_mode};
+ghost use Rattle.mb_attrs.specs.Modes.{mode_set, new_mode};
 
 use crate::places::inode_place;
 use mb_word::{put_long, put_word, word_at};

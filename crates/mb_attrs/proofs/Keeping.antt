@@ -5,7 +5,7 @@ use Rattle.mb_word.specs.Fields.{isize_of, fsize_of}
 use Rattle.mb_word.proofs.Values.{word_at-same, long_at-same}
 use Rattle.mb_tree.specs.declared.trees.Tree.{Tree}
 use Rattle.mb_tree.specs.Views.{Kept}
-use Rattle.mb_fsops.specs.Keeping.{KeptComposes, KeptSame}
+use Rattle.mb_attrs.specs.Keeping.{KeptComposes, KeptSame}
 
 isize_kept : (first next : Tree) (old new : Image) → Kept first old next new → isize_of (new.at 1) ≡ isize_of (old.at 1)
 isize_kept first next old new kept = word_at-same (new.at 1) (old.at 1) 0 (λ k low high. kept.sizes k low (omega arith))

@@ -22,10 +22,10 @@ use Rattle.mb_tree.specs.declared.trees.Tree.{Tree}
 use Rattle.mb_tree.specs.declared.operations.FsOp.TheVariants.{SetMode}
 use Rattle.mb_tree.proofs.FiniteMaps.{get_here, get_there, one_or_not}
 use Rattle.mb_tree.proofs.BytesOrAttributes.{bytes_or_attributes_kept}
-use Rattle.mb_fsops.specs.Modes.{new_mode, mode_set, replaced, IsModeSet, SetModeKeeps}
-use Rattle.mb_fsops.proofs.Fields.{length-both, both_same, both_first, both_last}
-use Rattle.mb_fsops.proofs.Frames.{Framed}
-use Rattle.mb_fsops.proofs.Volumes.{HasFields, HasFieldsOf, body_in, volume_framed, kept_framed}
+use Rattle.mb_attrs.specs.Modes.{new_mode, mode_set, replaced, IsModeSet, SetModeKeeps}
+use Rattle.mb_attrs.proofs.Fields.{length-both, both_same, both_first, both_last}
+use Rattle.mb_attrs.proofs.Frames.{Framed}
+use Rattle.mb_attrs.proofs.Volumes.{HasFields, HasFieldsOf, body_in, volume_framed, kept_framed}
 
 -- a set mode is a word, and never that of a free inode
 pub new_mode-lt : (old mode : ℕ) → mode < 4096 → new_mode old mode < 65536

@@ -1,8 +1,8 @@
 use Rattle.std.proofs.Common.{◌∙◌, ap, arith}
 use Rattle.mb_word.specs.Fields.{inode_place}
 use Rattle.mb_layout.specs.Inode.{dinode_at}
-use Rattle.mb_fsops.proofs.InodeModes.{mode_written, inode_set, inodes_beside}
-use Rattle.mb_fsops.proofs.modes.set_mode.Goals as goal
+use Rattle.mb_attrs.proofs.InodeModes.{mode_written, inode_set, inodes_beside}
+use Rattle.mb_attrs.proofs.modes.set_mode.Goals as goal
 
 pub returns : goal.returns
 returns c =

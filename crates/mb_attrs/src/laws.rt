@@ -1,5 +1,5 @@
-ghost use Rattle.mb_fsops.specs.Modes.{SetModeKeeps};
-ghost use Rattle.mb_fsops.specs.Keeping.{KeptComposes, KeptSame};
+ghost use Rattle.mb_attrs.specs.Modes.{SetModeKeeps};
+ghost use Rattle.mb_attrs.specs.Keeping.{KeptComposes, KeptSame};
 
 /// A changed mode leaves a volume, that of the tree with the changed mode, and keeps all that holds
 /// nothing of the tree.
