@@ -1,0 +1,11 @@
+pub mod Files
+pub mod FilesLaws
+pub mod FreeChain
+pub mod FreeChainLaws
+pub mod Items
+pub mod Parents
+pub mod ReachedLaws
+pub mod Scan
+pub mod Slots
+pub mod SuperBlock
+pub mod TreeOf
