@@ -2,6 +2,7 @@ pub mod Always
 pub mod Arms
 pub mod BytesOrAttributes
 pub mod BytesOrAttributesValid
+pub mod CarryingOut
 pub mod CellMaps
 pub mod Chains
 pub mod Changed
@@ -15,6 +16,7 @@ pub mod Fitting
 pub mod FreePlaces
 pub mod Groups
 pub mod Histories
+pub mod HistoryOperations
 pub mod InodeKinds
 pub mod KeptVolumes
 pub mod Leaving

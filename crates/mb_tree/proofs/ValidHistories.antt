@@ -15,7 +15,7 @@ step_valid : (machine : Machine) (entry : Entry) → IsValid machine → IsCall 
 unfolding stepped
 step_valid machine entry valid good run = valid_kept machine entry.caller entry.call entry.moment entry.pick valid good run.lawful
 
-past_valid : (machine : Machine) (entry : Entry) (reply : Reply) → IsValid machine → IsCall entry.call → Runs machine entry reply → IsValid (past_reply machine (stepped machine entry).1 reply)
+pub past_valid : (machine : Machine) (entry : Entry) (reply : Reply) → IsValid machine → IsCall entry.call → Runs machine entry reply → IsValid (past_reply machine (stepped machine entry).1 reply)
 past_valid machine entry (Num number) valid good run = step_valid machine entry valid good run
 past_valid machine entry (Got bytes) valid good run = step_valid machine entry valid good run
 past_valid machine entry (Info stat) valid good run = step_valid machine entry valid good run

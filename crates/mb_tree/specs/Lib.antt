@@ -1,5 +1,6 @@
 pub mod Answers
 pub mod Blocks
+pub mod CarriedOut
 pub mod Cells
 pub mod Chain
 pub mod Cost
@@ -8,6 +9,7 @@ pub mod Effect
 pub mod Filled
 pub mod Fits
 pub mod History
+pub mod HistoryLaws
 pub mod Inodes
 pub mod Laws
 pub mod Lookup

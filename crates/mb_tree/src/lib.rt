@@ -18,6 +18,7 @@ mod contents;
 mod costs;
 mod effects;
 mod file_rows;
+mod history_laws;
 mod inodes;
 mod laws;
 mod lookups;
@@ -38,6 +39,10 @@ mod trees;
 mod valid_laws;
 mod volume_laws;
 
+pub use history_laws::{
+    callers_stay, carried_out_appends, carried_out_goes_on, carried_out_once, carried_out_splits,
+    few_opens, history_carries_out, history_finds_few_opens, operations_append,
+};
 pub use inodes::{is_directory, is_regular};
 pub use laws::{
     after_appends, bytes_or_attributes_kept, cost_kept, drop_kept, legal_appends, legal_grows,
