@@ -12,16 +12,16 @@ use Rattle.mb_tree.specs.Lookup.{is_used}
 use Rattle.mb_tree.specs.Sessions.{Counts}
 use Rattle.mb_tree.specs.Cost.{cost}
 use Rattle.mb_tree.specs.Effect.{is_lost, release, less_open, dot}
-use Rattle.mb_tree.specs.Trees.{IsThere, AreSlots, IsUsedAt, links_from, late_links_from, links_at, late_links_at, links, late_links, leads_to, Leads, Reached, IsSound}
+use Rattle.mb_tree.specs.Trees.{IsThere, AreSlots, IsUsedAt, links_from, links_at, links_past, links, leads_to, Leads, Reached, IsSound}
 use Rattle.mb_tree.specs.Trees.Reached.{root, down}
 use Rattle.mb_tree.specs.Laws.{IsUnled, DropKept, ReleaseKept}
 use Rattle.mb_tree.specs.declared.nodes.PlainSlot.{PlainSlot}
 use Rattle.mb_tree.specs.declared.nodes.Node.{Node}
-use Rattle.mb_tree.specs.declared.nodes.Body.{Body}
-use Rattle.mb_tree.specs.declared.nodes.Body.TheVariants.{Regular, Directory, Special}
+use Rattle.mb_tree.specs.declared.nodes.Body.TheVariants.{Directory}
 use Rattle.mb_tree.specs.declared.trees.Tree.{Tree}
 use Rattle.mb_tree.specs.declared.operations.FsOp.TheVariants as op
 use Rattle.mb_tree.proofs.Cheaper.{after_op}
+use Rattle.mb_tree.proofs.Shapes.{no_links_leaf}
 
 -- ---- counts of nothing
 
@@ -51,45 +51,22 @@ module _ (tree : Tree) (sound : IsSound tree) where
       let s = sound.slots ino node slots has body in
       unled ino 0 node slots (record { ino = ino; name = dot }) has body (record { has = s.first; used = used_self ino (sound.numbers ino node has).0 }) refl
 
-  body_links : (target ino : ℕ) (node : Node) (body : Body) → IsUnled tree ino → fin.get tree.nodes ino ≡ Some node → node.body ≡ body → links_from target body ≡ 0
-  body_links target ino node (Regular size parts) unled e b = refl
-  body_links target ino node (Directory slots) unled e b = absurd (no_directory ino node slots unled e b)
-  body_links target ino node (Special size area) unled e b = refl
-
-  body_late : (target ino : ℕ) (node : Node) (body : Body) → IsUnled tree ino → fin.get tree.nodes ino ≡ Some node → node.body ≡ body → late_links_from target body ≡ 0
-  body_late target ino node (Regular size parts) unled e b = refl
-  body_late target ino node (Directory slots) unled e b = absurd (no_directory ino node slots unled e b)
-  body_late target ino node (Special size area) unled e b = refl
-
-  no_links : (target ino : ℕ) → IsUnled tree ino → (o : Option Node) → fin.get tree.nodes ino ≡ o → links_at target o ≡ 0
-  no_links target ino unled None e = refl
-  no_links target ino unled (Some node) e = body_links target ino node node.body unled e refl
-
-  no_late : (target ino : ℕ) → IsUnled tree ino → (o : Option Node) → fin.get tree.nodes ino ≡ o → late_links_at target o ≡ 0
-  no_late target ino unled None e = refl
-  no_late target ino unled (Some node) e = body_late target ino node node.body unled e refl
+  no_links : (skip target ino : ℕ) → IsUnled tree ino → (o : Option Node) → fin.get tree.nodes ino ≡ o → links_at skip target o ≡ 0
+  no_links skip target ino unled None e = refl
+  no_links skip target ino unled (Some node) e = no_links_leaf skip target node.body (λ slots body. no_directory ino node slots unled e body)
 
   module _ (nodes : Numbered Node) (drops : (ino : ℕ) → (fin.get nodes ino ≡ fin.get tree.nodes ino) ⊎ ((fin.get nodes ino ≡ None) × IsUnled tree ino)) where
     abbrev next : Tree
     next = record tree { nodes = nodes }
 
-    links_same : (target dir : ℕ) → links_at target (fin.get nodes dir) ≡ links_at target (fin.get tree.nodes dir)
-    links_same target dir = elim (drops dir) [
-      | inl is ↦ ap (links_at target) is
-      | inr gone ↦ ap (links_at target) gone.0 ∙ sym (no_links target dir gone.1 (fin.get tree.nodes dir) refl)
+    links_same : (skip target dir : ℕ) → links_at skip target (fin.get nodes dir) ≡ links_at skip target (fin.get tree.nodes dir)
+    links_same skip target dir = elim (drops dir) [
+      | inl is ↦ ap (links_at skip target) is
+      | inr gone ↦ ap (links_at skip target) gone.0 ∙ sym (no_links skip target dir gone.1 (fin.get tree.nodes dir) refl)
     ]
 
-    late_same : (target dir : ℕ) → late_links_at target (fin.get nodes dir) ≡ late_links_at target (fin.get tree.nodes dir)
-    late_same target dir = elim (drops dir) [
-      | inl is ↦ ap (late_links_at target) is
-      | inr gone ↦ ap (late_links_at target) gone.0 ∙ sym (no_late target dir gone.1 (fin.get tree.nodes dir) refl)
-    ]
-
-    same_links : (target : ℕ) → links next target ≡ links tree target
-    same_links target = ap (λ (g : ℕ → ℕ). sum_below g (tree.last + 1)) (λ i dir. links_same target dir i)
-
-    same_late : (target : ℕ) → late_links next target ≡ late_links tree target
-    same_late target = ap (λ (g : ℕ → ℕ). sum_below g (tree.last + 1)) (λ i dir. late_same target dir i)
+    same_links : (skip target : ℕ) → links_past skip next target ≡ links_past skip tree target
+    same_links skip target = ap (λ (g : ℕ → ℕ). sum_below g (tree.last + 1)) (λ i dir. links_same skip target dir i)
 
     before : (ino : ℕ) (y : Node) → fin.get nodes ino ≡ Some y → fin.get tree.nodes ino ≡ Some y
     before ino y has = elim (drops ino) [
@@ -133,12 +110,12 @@ module _ (tree : Tree) (sound : IsSound tree) where
       numbers = λ ino y has. sound.numbers ino y (before ino y has);
       kinds = λ ino y has. sound.kinds ino y (before ino y has);
       sizes = λ ino y has. sound.sizes ino y (before ino y has);
-      root = record { node = sound.root.node; slots = sound.root.slots; has = directory_stays 2 sound.root.node sound.root.slots sound.root.has sound.root.body; body = sound.root.body; upward = sound.root.upward; top = same_late 2 ∙ sound.root.top };
+      root = record { node = sound.root.node; slots = sound.root.slots; has = directory_stays 2 sound.root.node sound.root.slots sound.root.has sound.root.body; body = sound.root.body; upward = sound.root.upward; top = same_links 2 2 ∙ sound.root.top };
       slots = λ ino y slots has body. slots_kept ino y slots (before ino y has) body (sound.slots ino y slots (before ino y has) body);
       parents = λ ino y slots has body other.
           let old = sound.parents ino y slots (before ino y has) body other in
-          record { one = same_late ino ∙ old.one; parent = old.parent; at = old.at; upward = old.upward; entry = leads old.parent old.at ino old.entry; reached = reached ino old.reached };
-      counted = λ ino y has other. sound.counted ino y (before ino y has) other ∙ sym (same_links ino);
+          record { one = same_links 2 ino ∙ old.one; parent = old.parent; at = old.at; upward = old.upward; entry = leads old.parent old.at ino old.entry; reached = reached ino old.reached };
+      counted = λ ino y has other. sound.counted ino y (before ino y has) other ∙ sym (same_links 0 ino);
       few = λ ino y has other. sound.few ino y (before ino y has) other;
       room = room;
     }
@@ -152,8 +129,8 @@ module _ (tree : Tree) (sound : IsSound tree) where
             let apart : ino ≢ 1 = grind (arith, nat_tests) in
             let total : links tree ino ≡ 0 = sym (sound.counted ino node has apart) ∙ none in
             let low : dir < tree.last + 1 = omega (arith, (sound.numbers dir other in_tree).1) in
-            let here : links_at ino (fin.get tree.nodes dir) ≡ 0 = sum_zero (λ d. links_at ino (fin.get tree.nodes d)) (tree.last + 1) dir total low in
-            let few : count_by (leads_to ino) slots ≡ 0 = sym (ap (links_at ino) in_tree ∙ ap (links_from ino) body) ∙ here in
+            let here : links_at 0 ino (fin.get tree.nodes dir) ≡ 0 = sum_zero (λ d. links_at 0 ino (fin.get tree.nodes d)) (tree.last + 1) dir total low in
+            let few : count_by (leads_to ino) slots ≡ 0 = sym (ap (links_at 0 ino) in_tree ∙ ap (links_from 0 ino) body) ∙ here in
             let leads : leads_to ino slot ≡ true = grind (arith, nat_tests) in
             count_zero (leads_to ino) slots at slot few used.has leads
       ] refl

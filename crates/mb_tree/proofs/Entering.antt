@@ -10,17 +10,17 @@ use Rattle.mb_tree.specs.Cost.{cost}
 use Rattle.mb_tree.specs.Lookup.{is_used, number_of}
 use Rattle.mb_tree.specs.Rows.{is_dots}
 use Rattle.mb_tree.specs.Effect.{entered, dot, dot_dot}
-use Rattle.mb_tree.specs.Trees.{IsName, AreSlots, leads_to, links_from, late_links_from, links, late_links, Leads, Reached, HasParent, Each, IsSound}
+use Rattle.mb_tree.specs.Trees.{IsName, AreSlots, leads_to, links_from, links_past, links, Leads, Reached, HasParent, Each, IsSound}
 use Rattle.mb_tree.specs.Trees.Reached.{root, down}
 use Rattle.mb_tree.specs.declared.nodes.PlainSlot.{PlainSlot}
 use Rattle.mb_tree.specs.declared.nodes.Node.{Node}
 use Rattle.mb_tree.specs.declared.nodes.Body.TheVariants.{Directory}
 use Rattle.mb_tree.specs.declared.trees.Tree.{Tree}
 use Rattle.mb_tree.proofs.FiniteMaps.{get_here, get_there, one_or_not}
-use Rattle.mb_tree.proofs.SlotLists.{weight, late_some, weight_none, weight_one}
+use Rattle.mb_tree.proofs.SlotLists.{weight, count_some, weight_none, weight_one}
 use Rattle.mb_tree.proofs.Rewritten.{IsEntered, is_entered, is_missing}
-use Rattle.mb_tree.proofs.Shapes.{IsShaped, IsBarren, CanBePut, shape_of, sound_of, shape_put, links_put, late_put, directory_apart, same_node}
-use Rattle.mb_tree.proofs.Slotted.{CanBeSlotted, MayStand, shape_slotted, links_slotted, late_slotted, links_others}
+use Rattle.mb_tree.proofs.Shapes.{IsShaped, IsBarren, CanBePut, shape_of, sound_of, shape_put, links_put, directory_apart, same_node}
+use Rattle.mb_tree.proofs.Slotted.{CanBeSlotted, MayStand, shape_slotted, links_slotted, links_others}
 
 -- z is put under the number ino, and the name of the directory x, which becomes y, leads to it
 pub record CanBeEntered (tree : Tree) (dir ino : ℕ) (name : List ℕ) (x y z : Node) (old : List PlainSlot) : Type 0 where
@@ -32,13 +32,13 @@ pub record CanBeEntered (tree : Tree) (dir ino : ℕ) (name : List ℕ) (x y z :
   pub ordinary : ino ≢ 1
   pub named : IsName name
   pub missing : number_of old name ≡ None
-  pub upward : (slots : List PlainSlot) → z.body ≡ Directory slots → (slice_get slots 1 ≡ Some (record { ino = dir; name = dot_dot })) × (late_links tree ino ≡ 0)
+  pub upward : (slots : List PlainSlot) → z.body ≡ Directory slots → (slice_get slots 1 ≡ Some (record { ino = dir; name = dot_dot })) × (links_past 2 tree ino ≡ 0)
   -- the name counts, and so does what the inode's own slots lead to
-  pub counted : z.nlink ≡ links tree ino + links_from ino z.body + 1
+  pub counted : z.nlink ≡ links tree ino + links_from 0 ino z.body + 1
   pub few : z.nlink ≤ 32767
-  pub counted_above : y.nlink ≡ x.nlink + links_from dir z.body
+  pub counted_above : y.nlink ≡ x.nlink + links_from 0 dir z.body
   pub few_above : dir ≢ 1 → y.nlink ≤ 32767
-  pub others : (q : ℕ) → q ≢ 0 → q ≢ ino → q ≢ dir → links_from q z.body ≡ 0
+  pub others : (q : ℕ) → q ≢ 0 → q ≢ ino → q ≢ dir → links_from 0 q z.body ≡ 0
 
 pub used_number : (q : ℕ) (name : List ℕ) → q ≢ 0 → is_used (record { ino = q; name = name }) ≡ true
 used_number q name some = grind (arith, nat_tests)
@@ -60,12 +60,12 @@ apart_dots name one two = elim (bytes_eq name dot) as (λ b. bytes_eq name dot �
 ] refl
 
 -- no late slot of an inode from which none leads is used
-pub barren_late : (nodes : Numbered Node) (ino : ℕ) (z : Node) → fin.get nodes ino ≡ Some z → ((q : ℕ) → late_links_from q z.body ≡ 0) → IsBarren nodes ino
+pub barren_late : (nodes : Numbered Node) (ino : ℕ) (z : Node) → fin.get nodes ino ≡ Some z → ((q : ℕ) → links_from 2 q z.body ≡ 0) → IsBarren nodes ino
 barren_late nodes ino z has late at other l =
     let same : l.node ≡ z = let e : ◌≡◌ {A = Option Node} (Some l.node) (Some z) = sym l.has ∙ has in cc in
-    let none : count_by (leads_to l.slot.ino) (drop 2 l.slots) ≡ 0 = sym (ap (λ (n : Node). late_links_from l.slot.ino n.body) (sym same) ∙ ap (late_links_from l.slot.ino) l.body) ∙ late l.slot.ino in
+    let none : count_by (leads_to l.slot.ino) (drop 2 l.slots) ≡ 0 = sym (ap (λ (n : Node). links_from 2 l.slot.ino n.body) (sym same) ∙ ap (links_from 2 l.slot.ino) l.body) ∙ late l.slot.ino in
     let one = weight_one (leads_to l.slot.ino) (slice_get l.slots at) l.slot l.entry.has (leads_itself l.slot) in
-    let some = late_some (leads_to l.slot.ino) l.slots at l.late in
+    let some = count_some (leads_to l.slot.ino) 2 l.slots at l.late in
     omega (arith, none, one, some)
 
 module _ (tree : Tree) (sound : IsSound tree) (dir ino : ℕ) (name : List ℕ) (x y z : Node) (old : List PlainSlot) (h : CanBeEntered tree dir ino name x y z old) where
@@ -132,20 +132,14 @@ module _ (tree : Tree) (sound : IsSound tree) (dir ino : ℕ) (name : List ℕ) 
   weight_new : weight (leads_to ino) (Some slot) ≡ 1
   weight_new = weight_one (leads_to ino) (Some slot) slot refl (leads_itself slot)
 
-  links_target : links next ino ≡ links tree ino + links_from ino z.body + 1
-  links_target =
-      let one = links_slotted first dir ino x y old (entered name ino old) place.at slot shape_first fits ino in
-      let two = links_put tree ino z (shape_of tree ino sound) h.put ino in
+  links_target : (skip : ℕ) → skip ≤ 2 → links_past skip next ino ≡ links_past skip tree ino + links_from skip ino z.body + 1
+  links_target skip few =
+      let one = links_slotted first dir ino x y old (entered name ino old) place.at slot shape_first fits skip ino few in
+      let two = links_put tree ino z (shape_of tree ino sound) h.put skip ino in
       omega (arith, one, two, weight_old, weight_new)
 
-  links_rest : (q : ℕ) → q ≢ 0 → q ≢ ino → links next q ≡ links tree q + links_from q z.body
-  links_rest q some other = links_others first dir ino x y old (entered name ino old) place.at slot shape_first fits q some other ∙ links_put tree ino z (shape_of tree ino sound) h.put q
-
-  late_target : late_links next ino ≡ late_links tree ino + 1
-  late_target =
-      let one = late_slotted first dir ino x y old (entered name ino old) place.at slot shape_first fits ino in
-      let two = late_put tree ino z (shape_of tree ino sound) h.put ino in
-      omega (arith, one, two, weight_old, weight_new)
+  links_rest : (q : ℕ) → q ≢ 0 → q ≢ ino → links next q ≡ links tree q + links_from 0 q z.body
+  links_rest q some other = links_others first dir ino x y old (entered name ino old) place.at slot shape_first fits 0 q (omega arith) some other ∙ links_put tree ino z (shape_of tree ino sound) h.put 0 q
 
   has_dir : fin.get next.nodes dir ≡ Some y
   has_dir = get_here first.nodes dir y
@@ -165,7 +159,7 @@ module _ (tree : Tree) (sound : IsSound tree) (dir ino : ℕ) (name : List ℕ) 
   led : (node : Node) (slots : List PlainSlot) → fin.get next.nodes ino ≡ Some node → node.body ≡ Directory slots → ino ≢ 2 → HasParent next ino slots
   led node slots has body below =
       let up = h.upward slots (ap (λ (n : Node). n.body) (same_node z node (fin.get next.nodes ino) has_ino has) ∙ body) in
-      record { one = omega (arith, late_target, up.1); parent = dir; at = place.at; upward = up.0; entry = entry; reached = down dir place.at reached_dir entry }
+      record { one = omega (arith, links_target 2 (omega arith), h.put.late ino, up.1); parent = dir; at = place.at; upward = up.0; entry = entry; reached = down dir place.at reached_dir entry }
 
   -- its link count is right and small
   abbrev IsCounted : ℕ → Node → Type 0
@@ -183,7 +177,7 @@ module _ (tree : Tree) (sound : IsSound tree) (dir ino : ℕ) (name : List ℕ) 
   counted q node has ordinary = elim (one_or_not q dir) [
     | inl is ↦ subst (λ i. IsCounted i node) (sym is) (subst (IsCounted dir) (same_node y node (fin.get next.nodes dir) has_dir (sym (ap (fin.get next.nodes) is) ∙ has)) (counted_dir (λ e. ordinary (is ∙ e))))
     | inr beside ↦ elim (one_or_not q ino) [
-      | inl is ↦ subst (λ i. IsCounted i node) (sym is) (subst (IsCounted ino) (same_node z node (fin.get next.nodes ino) has_ino (sym (ap (fin.get next.nodes) is) ∙ has)) (h.counted ∙ sym links_target, h.few))
+      | inl is ↦ subst (λ i. IsCounted i node) (sym is) (subst (IsCounted ino) (same_node z node (fin.get next.nodes ino) has_ino (sym (ap (fin.get next.nodes) is) ∙ has)) (h.counted ∙ sym (links_target 0 (omega arith)), h.few))
       | inr other ↦ counted_rest q node (sym (get_there tree.nodes ino z q other) ∙ sym (get_there first.nodes dir y q beside) ∙ has) beside other ordinary
     ]
   ]

@@ -11,7 +11,7 @@ use Rattle.mb_tree.specs.Sessions.{Counts}
 use Rattle.mb_tree.specs.Lookup.{is_used}
 use Rattle.mb_tree.specs.Effect.{unlinked, on_slots, emptied, without_name, is_lost, less_name, delink, dot, dot_dot}
 use Rattle.mb_tree.specs.Fits.{IsLeafAt}
-use Rattle.mb_tree.specs.Trees.{AreSlots, leads_to, links_from, links, late_links, Each, IsSound}
+use Rattle.mb_tree.specs.Trees.{AreSlots, leads_to, links_from, links_past, links, Each, IsSound}
 use Rattle.mb_tree.specs.Laws.{IsUnled}
 use Rattle.mb_tree.specs.NameLaws.{DelinkKept}
 use Rattle.mb_tree.specs.declared.nodes.PlainSlot.{PlainSlot}
@@ -26,8 +26,8 @@ use Rattle.mb_tree.proofs.Cheaper.{after_op, cheaper_cost, cheaper_trans, cheape
 use Rattle.mb_tree.proofs.Dropped.{drop_kept, nameless, lost_nlink}
 use Rattle.mb_tree.proofs.SlotLists.{weight, weight_one}
 use Rattle.mb_tree.proofs.Rewritten.{IsFound, is_found, number_by, set_rewritten}
-use Rattle.mb_tree.proofs.Shapes.{IsShaped, IsBarren, IsNoDirectory, CanBePut, barren_leaf, shape_of, sound_of, shape_put, links_put, no_links_leaf, no_late_leaf, same_node}
-use Rattle.mb_tree.proofs.Slotted.{CanBeSlotted, shape_slotted, links_slotted, late_slotted, links_others}
+use Rattle.mb_tree.proofs.Shapes.{IsShaped, IsBarren, IsNoDirectory, CanBePut, barren_leaf, shape_of, sound_of, shape_put, links_put, no_links_leaf, same_node}
+use Rattle.mb_tree.proofs.Slotted.{CanBeSlotted, shape_slotted, links_slotted, links_others}
 use Rattle.mb_tree.proofs.NewNames.{changed_is, sound_at, leaf_of, no_slots, not_root}
 
 -- an emptied slot keeps its name
@@ -93,14 +93,11 @@ module _ (tree : Tree) (dir ino : ℕ) (name : List ℕ) (x y : Node) (old : Lis
       let fails : nat_eq 0 ino ≡ false = grind (arith, nat_tests) in
       ap (λ b. cond {A = ℕ} b 1 0) fails
 
-  pub links_emptied : links less ino + 1 ≡ links tree ino
-  links_emptied = omega (arith, links_slotted tree dir ino x y old rest at (vacant name) shape fits ino, weight_old, weight_new)
-
-  pub late_emptied : late_links less ino + 1 ≡ late_links tree ino
-  late_emptied = omega (arith, late_slotted tree dir ino x y old rest at (vacant name) shape fits ino, weight_old, weight_new)
+  pub links_emptied : (skip : ℕ) → skip ≤ 2 → links_past skip less ino + 1 ≡ links_past skip tree ino
+  links_emptied skip few = omega (arith, links_slotted tree dir ino x y old rest at (vacant name) shape fits skip ino few, weight_old, weight_new)
 
   pub links_kept : (q : ℕ) → q ≢ 0 → q ≢ ino → links less q ≡ links tree q
-  links_kept q some other = links_others tree dir ino x y old rest at (vacant name) shape fits q some other
+  links_kept q some other = links_others tree dir ino x y old rest at (vacant name) shape fits 0 q (omega arith) some other
 
 -- ---- a leaf that loses a name
 
@@ -183,20 +180,20 @@ module _ (tree : Tree) (sound : IsSound tree) (dir ino : ℕ) (name : List ℕ) 
     kind = sound.kinds ino leaf.node leaf.has;
     size = sound.sizes ino leaf.node leaf.has;
     slots = λ slots is. absurd (no_slots leaf.node.body slots leaf.body is);
-    late = λ q. no_late_leaf q leaf.node.body (λ slots is. no_slots leaf.node.body slots leaf.body is);
+    late = λ q. no_links_leaf 2 q leaf.node.body (λ slots is. no_slots leaf.node.body slots leaf.body is);
   }
 
   shape_next : IsShaped next ino
   shape_next = shape_put first ino z shape_first puts
 
-  none_from : (q : ℕ) → links_from q leaf.node.body ≡ 0
-  none_from q = no_links_leaf q leaf.node.body (λ slots is. no_slots leaf.node.body slots leaf.body is)
+  none_from : (q : ℕ) → links_from 0 q leaf.node.body ≡ 0
+  none_from q = no_links_leaf 0 q leaf.node.body (λ slots is. no_slots leaf.node.body slots leaf.body is)
 
   links_target : links next ino + 1 ≡ links tree ino
-  links_target = omega (arith, links_put first ino z shape_first puts ino, none_from ino, links_emptied tree dir ino name x y old found.at found.slot (shape_of tree ino sound) empties)
+  links_target = omega (arith, links_put first ino z shape_first puts 0 ino, none_from ino, links_emptied tree dir ino name x y old found.at found.slot (shape_of tree ino sound) empties 0 (omega arith))
 
   links_rest : (q : ℕ) → q ≢ 0 → q ≢ ino → links next q ≡ links tree q
-  links_rest q some other = omega (arith, links_put first ino z shape_first puts q, none_from q, links_kept tree dir ino name x y old found.at found.slot (shape_of tree ino sound) empties q some other)
+  links_rest q some other = omega (arith, links_put first ino z shape_first puts 0 q, none_from q, links_kept tree dir ino name x y old found.at found.slot (shape_of tree ino sound) empties q some other)
 
   -- its link count is right and small
   abbrev IsCounted : ℕ → Node → Type 0

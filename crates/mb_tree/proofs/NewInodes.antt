@@ -11,7 +11,7 @@ use Rattle.mb_tree.specs.Rows.{is_dots}
 use Rattle.mb_tree.specs.Effect.{made, nlink_in, with_name, with_link, dot, dot_dot, first_slots}
 use Rattle.mb_tree.specs.Fits.{IsMissing}
 use Rattle.mb_tree.specs.Step.{IsFreeNumber}
-use Rattle.mb_tree.specs.Trees.{IsThere, IsName, AreSlots, leads_to, links_from, late_links_from, links_at, late_links_at, links, late_links, IsSound}
+use Rattle.mb_tree.specs.Trees.{IsThere, IsName, AreSlots, leads_to, links_from, links_at, links_past, IsSound}
 use Rattle.mb_tree.specs.NameLaws.{CreateKept, MakeDirKept}
 use Rattle.mb_tree.specs.declared.nodes.PlainSlot.{PlainSlot}
 use Rattle.mb_tree.specs.declared.nodes.Node.{Node}
@@ -23,7 +23,7 @@ use Rattle.mb_tree.proofs.FiniteMaps.{get_here, get_there}
 use Rattle.mb_tree.proofs.Always.{then_ok, bind_ok}
 use Rattle.mb_tree.proofs.Cheaper.{after_op}
 use Rattle.mb_tree.proofs.Sums.{sum_nothing}
-use Rattle.mb_tree.proofs.SlotLists.{weight, count_none, late_none, count_late, weight_one}
+use Rattle.mb_tree.proofs.SlotLists.{weight, count_none, count_late, weight_one}
 use Rattle.mb_tree.proofs.Rewritten.{number_by}
 use Rattle.mb_tree.proofs.Shapes.{CanBePut}
 use Rattle.mb_tree.proofs.Entering.{CanBeEntered, entered_sound, used_number}
@@ -48,29 +48,17 @@ module _ (tree : Tree) (sound : IsSound tree) (ino : ℕ) (free : IsFreeNumber t
     | false ↦ λ e. refl
   ] refl
 
-  from_body : (dir : ℕ) (node : Node) (body : Body) → fin.get tree.nodes dir ≡ Some node → node.body ≡ body → links_from ino body ≡ 0
-  from_body dir node (Regular size parts) has is = refl
-  from_body dir node (Directory slots) has is = count_none (leads_to ino) slots (λ at slot stands. unled dir node slots at slot has is stands)
-  from_body dir node (Special size area) has is = refl
+  from_body : (skip dir : ℕ) (node : Node) (body : Body) → fin.get tree.nodes dir ≡ Some node → node.body ≡ body → links_from skip ino body ≡ 0
+  from_body skip dir node (Regular size parts) has is = refl
+  from_body skip dir node (Directory slots) has is = count_none (leads_to ino) skip slots (λ at slot past stands. unled dir node slots at slot has is stands)
+  from_body skip dir node (Special size area) has is = refl
 
-  late_from_body : (dir : ℕ) (node : Node) (body : Body) → fin.get tree.nodes dir ≡ Some node → node.body ≡ body → late_links_from ino body ≡ 0
-  late_from_body dir node (Regular size parts) has is = refl
-  late_from_body dir node (Directory slots) has is = late_none (leads_to ino) slots (λ at slot late stands. unled dir node slots at slot has is stands)
-  late_from_body dir node (Special size area) has is = refl
+  from_one : (skip dir : ℕ) (o : Option Node) → fin.get tree.nodes dir ≡ o → links_at skip ino o ≡ 0
+  from_one skip dir None e = refl
+  from_one skip dir (Some node) e = from_body skip dir node node.body e refl
 
-  from_one : (dir : ℕ) (o : Option Node) → fin.get tree.nodes dir ≡ o → links_at ino o ≡ 0
-  from_one dir None e = refl
-  from_one dir (Some node) e = from_body dir node node.body e refl
-
-  late_from_one : (dir : ℕ) (o : Option Node) → fin.get tree.nodes dir ≡ o → late_links_at ino o ≡ 0
-  late_from_one dir None e = refl
-  late_from_one dir (Some node) e = late_from_body dir node node.body e refl
-
-  free_links : links tree ino ≡ 0
-  free_links = sum_nothing (λ dir. links_at ino (fin.get tree.nodes dir)) (tree.last + 1) (λ dir low. from_one dir (fin.get tree.nodes dir) refl)
-
-  free_late : late_links tree ino ≡ 0
-  free_late = sum_nothing (λ dir. late_links_at ino (fin.get tree.nodes dir)) (tree.last + 1) (λ dir low. late_from_one dir (fin.get tree.nodes dir) refl)
+  free_links : (skip : ℕ) → links_past skip tree ino ≡ 0
+  free_links skip = sum_nothing (λ dir. links_at skip ino (fin.get tree.nodes dir)) (tree.last + 1) (λ dir low. from_one skip dir (fin.get tree.nodes dir) refl)
 
   free_apart : (q : ℕ) (node : Node) → fin.get tree.nodes q ≡ Some node → q ≢ ino
   free_apart q node has e = let no : ◌≡◌ {A = Option Node} None (Some node) = sym free.unused ∙ sym (ap (fin.get tree.nodes) e) ∙ has in cc
@@ -104,7 +92,7 @@ module _ (tree : Tree) (sound : IsSound tree) (ino : ℕ) (free : IsFreeNumber t
     named = missing.named;
     missing = sym (number_by tree.nodes dir name missing.directory.node missing.directory.slots missing.directory.has missing.directory.body) ∙ missing.missing;
     upward = λ slots body. absurd (let no : ◌≡◌ {A = Body} (Regular 0 fin.empty) (Directory slots) = body in cc);
-    counted = omega (arith, free_links);
+    counted = omega (arith, free_links 0);
     few = omega arith;
     counted_above = omega arith;
     few_above = λ ordinary. sound.few dir missing.directory.node missing.directory.has ordinary;
@@ -202,8 +190,8 @@ module _ (tree : Tree) (sound : IsSound tree) (ino : ℕ) (free : IsFreeNumber t
       ordinary = λ e. absurd (omega (arith, e, free.above));
       named = named;
       missing = missing;
-      upward = λ slots is. let same : first_slots ino dir ≡ slots = let e : ◌≡◌ {A = Body} (Directory (first_slots ino dir)) (Directory slots) = is in cc in (ap (λ s. slice_get s 1) (sym same), free_late);
-      counted = omega (arith, free_links, both ino, weight_is ino own refl, weight_not ino above apart);
+      upward = λ slots is. let same : first_slots ino dir ≡ slots = let e : ◌≡◌ {A = Body} (Directory (first_slots ino dir)) (Directory slots) = is in cc in (ap (λ s. slice_get s 1) (sym same), free_links 2);
+      counted = omega (arith, free_links 0, both ino, weight_is ino own refl, weight_not ino above apart);
       few = omega arith;
       counted_above = omega (arith, both dir, weight_is dir above refl, weight_not dir own (λ e. apart (sym e)));
       few_above = λ ordinary. omega (arith, room);

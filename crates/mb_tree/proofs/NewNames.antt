@@ -22,7 +22,7 @@ use Rattle.mb_tree.proofs.FiniteMaps.{same, get_here, get_there, one_or_not}
 use Rattle.mb_tree.proofs.Always.{then_ok, same_ok}
 use Rattle.mb_tree.proofs.Cheaper.{after_op}
 use Rattle.mb_tree.proofs.Rewritten.{number_by}
-use Rattle.mb_tree.proofs.Shapes.{IsNoDirectory, CanBePut, no_links_leaf, no_late_leaf}
+use Rattle.mb_tree.proofs.Shapes.{IsNoDirectory, CanBePut, no_links_leaf}
 use Rattle.mb_tree.proofs.Entering.{CanBeEntered, entered_sound}
 
 -- ---- answers and maps
@@ -92,13 +92,13 @@ module _ (tree : Tree) (sound : IsSound tree) where
     kind = sound.kinds ino leaf.node leaf.has;
     size = sound.sizes ino leaf.node leaf.has;
     slots = λ slots body. absurd (no_slots leaf.node.body slots leaf.body body);
-    late = λ q. no_late_leaf q leaf.node.body (λ slots body. no_slots leaf.node.body slots leaf.body body);
+    late = λ q. no_links_leaf 2 q leaf.node.body (λ slots body. no_slots leaf.node.body slots leaf.body body);
   }
 
   enters_leaf : (dir ino : ℕ) (name : List ℕ) (moment : ℕ) (missing : IsMissing tree.nodes dir name) (leaf : IsLeafAt tree.nodes ino) → ino ≢ 1 → leaf.node.nlink < 32767
       → CanBeEntered tree dir ino name missing.directory.node (with_name moment name ino missing.directory.node) (linked moment leaf.node) missing.directory.slots
   enters_leaf dir ino name moment missing leaf ordinary few =
-      let none : (q : ℕ) → links_from q leaf.node.body ≡ 0 = (λ q. no_links_leaf q leaf.node.body (λ slots body. no_slots leaf.node.body slots leaf.body body)) in
+      let none : (q : ℕ) → links_from 0 q leaf.node.body ≡ 0 = (λ q. no_links_leaf 0 q leaf.node.body (λ slots body. no_slots leaf.node.body slots leaf.body body)) in
       record {
         put = put_leaf ino moment leaf;
         has = missing.directory.has;

@@ -11,7 +11,7 @@ use Rattle.mb_tree.specs.Inodes.{slots_of}
 use Rattle.mb_tree.specs.Lookup.{is_used, used_in}
 use Rattle.mb_tree.specs.Rows.{is_dots}
 use Rattle.mb_tree.specs.Effect.{without_link, remove_dir, dot, dot_dot}
-use Rattle.mb_tree.specs.Trees.{IsThere, IsUsedAt, AreSlots, HasSize, leads_to, links_from, late_links_from, links_at, late_links_at, links, late_links, Leads, HasParent, IsRoot, Each, IsSound}
+use Rattle.mb_tree.specs.Trees.{IsThere, IsUsedAt, AreSlots, HasSize, leads_to, links_from, links_at, links_past, links, Leads, HasParent, IsRoot, Each, IsSound}
 use Rattle.mb_tree.specs.NameLaws.{RemoveDirKept}
 use Rattle.mb_tree.specs.declared.nodes.PlainSlot.{PlainSlot}
 use Rattle.mb_tree.specs.declared.nodes.Node.{Node}
@@ -23,12 +23,12 @@ use Rattle.mb_tree.proofs.FiniteMaps.{same, get_here, get_there, gone_here, gone
 use Rattle.mb_tree.proofs.Always.{same_ok}
 use Rattle.mb_tree.proofs.Cheaper.{after_op}
 use Rattle.mb_tree.proofs.Sums.{sum_gone, sum_term, sum_terms}
-use Rattle.mb_tree.proofs.SlotLists.{weight, count_late, late_some, late_none, weight_one}
+use Rattle.mb_tree.proofs.SlotLists.{weight, count_late, count_some, count_none, weight_one}
 use Rattle.mb_tree.proofs.Rewritten.{IsFound, is_found, number_by}
 use Rattle.mb_tree.proofs.Shapes.{IsShaped, IsBarren, shape_of, sound_of, reached_stays, same_node}
 use Rattle.mb_tree.proofs.Entering.{used_number, leads_itself}
 use Rattle.mb_tree.proofs.NewNames.{changed_is, sound_at, not_one}
-use Rattle.mb_tree.proofs.Leaving.{CanBeEmptied, emptied_body, shape_emptied, late_emptied, links_kept}
+use Rattle.mb_tree.proofs.Leaving.{CanBeEmptied, emptied_body, shape_emptied, links_emptied, links_kept}
 
 same_slots : (a b : List PlainSlot) (x y : Node) → x ≡ y → x.body ≡ Directory a → y.body ≡ Directory b → a ≡ b
 same_slots a b x y e f g = let both : ◌≡◌ {A = Body} (Directory a) (Directory b) = sym f ∙ ap (λ (n : Node). n.body) e ∙ g in cc
@@ -37,16 +37,16 @@ same_entry : (a b : PlainSlot) (slots : List PlainSlot) (at : ℕ) → slice_get
 same_entry a b slots at e f = cc
 
 -- what a late slot leads to has a link
-led_once : (nodes : Numbered Node) (dir at q : ℕ) → Leads nodes dir at q → 1 ≤ late_links_at q (fin.get nodes dir)
+led_once : (nodes : Numbered Node) (dir at q : ℕ) → Leads nodes dir at q → 1 ≤ links_at 2 q (fin.get nodes dir)
 led_once nodes dir at q l =
-    let is : late_links_at q (fin.get nodes dir) ≡ count_by (leads_to q) (drop 2 l.slots) = ap (late_links_at q) l.has ∙ ap (late_links_from q) l.body in
+    let is : links_at 2 q (fin.get nodes dir) ≡ count_by (leads_to q) (drop 2 l.slots) = ap (links_at 2 q) l.has ∙ ap (links_from 2 q) l.body in
     let passes : leads_to q l.slot ≡ true = ap (λ n. nat_eq l.slot.ino n) (sym l.leads) ∙ leads_itself l.slot in
     let one = weight_one (leads_to q) (slice_get l.slots at) l.slot l.entry.has passes in
-    omega (arith, is, one, late_some (leads_to q) l.slots at l.late)
+    omega (arith, is, one, count_some (leads_to q) 2 l.slots at l.late)
 
 -- ---- the drop
 
-module _ (tree : Tree) (ino : ℕ) (w : Node) (own : List PlainSlot) (shape : IsShaped tree ino) (has : fin.get tree.nodes ino ≡ Some w) (body : w.body ≡ Directory own) (under : ino ≢ 2) (barren : IsBarren tree.nodes ino) (alone : late_links tree ino ≡ 0) where
+module _ (tree : Tree) (ino : ℕ) (w : Node) (own : List PlainSlot) (shape : IsShaped tree ino) (has : fin.get tree.nodes ino ≡ Some w) (body : w.body ≡ Directory own) (under : ino ≢ 2) (barren : IsBarren tree.nodes ino) (alone : links_past 2 tree ino ≡ 0) where
   abbrev less : Tree
   less = record tree { nodes = fin.remove tree.nodes ino }
 
@@ -54,7 +54,7 @@ module _ (tree : Tree) (ino : ℕ) (w : Node) (own : List PlainSlot) (shape : Is
   not_late dir at l =
       let one = led_once tree.nodes dir at ino l in
       let low : dir < tree.last + 1 = omega (arith, (shape.numbers dir l.node l.has).1) in
-      let most = sum_term (λ q. late_links_at ino (fin.get tree.nodes q)) dir (tree.last + 1) low in
+      let most = sum_term (λ q. links_at 2 ino (fin.get tree.nodes q)) dir (tree.last + 1) low in
       omega (arith, one, most, alone)
 
   not_upward : (dir : ℕ) (node : Node) (slots : List PlainSlot) (slot : PlainSlot) → dir ≢ ino → fin.get tree.nodes dir ≡ Some node → node.body ≡ Directory slots → slice_get slots 1 ≡ Some slot → slot.ino ≢ ino
@@ -96,7 +96,7 @@ module _ (tree : Tree) (ino : ℕ) (w : Node) (own : List PlainSlot) (shape : Is
       record { node = l.node; slots = l.slots; slot = l.slot; has = gone_there tree.nodes ino dir apart ∙ l.has; body = l.body; late = l.late; entry = l.entry; leads = l.leads }
 
   own_late : (q : ℕ) → q ≢ 0 → count_by (leads_to q) (drop 2 own) ≡ 0
-  own_late q some = late_none (leads_to q) own (λ at slot late stands. elim (leads_to q slot) as (λ b. leads_to q slot ≡ b → b ≡ false) [
+  own_late q some = count_none (leads_to q) 2 own (λ at slot late stands. elim (leads_to q slot) as (λ b. leads_to q slot ≡ b → b ≡ false) [
     | true ↦ λ e.
         let is : slot.ino ≡ q = grind (arith, nat_tests) in
         let used : is_used slot ≡ true = grind (arith, nat_tests) in
@@ -104,18 +104,19 @@ module _ (tree : Tree) (ino : ℕ) (w : Node) (own : List PlainSlot) (shape : Is
     | false ↦ λ e. refl
   ] refl)
 
-  pub late_gone : (q : ℕ) → q ≢ 0 → late_links less q ≡ late_links tree q
-  late_gone q some =
-      let is : late_links_at q (fin.get tree.nodes ino) ≡ count_by (leads_to q) (drop 2 own) = ap (late_links_at q) has ∙ ap (late_links_from q) body in
+  links_less : (skip q : ℕ) → links_past skip less q + count_by (leads_to q) (drop skip own) ≡ links_past skip tree q
+  links_less skip q =
+      let is : links_at skip q (fin.get tree.nodes ino) ≡ count_by (leads_to q) (drop skip own) = ap (links_at skip q) has ∙ ap (links_from skip q) body in
       let low : ino < tree.last + 1 = omega (arith, (shape.numbers ino w has).1) in
-      omega (arith, is, own_late q some, sum_gone (late_links_at q) tree.nodes ino (tree.last + 1) low)
+      omega (arith, is, sum_gone (links_at skip q) tree.nodes ino (tree.last + 1) low)
+
+  late_gone : (q : ℕ) → q ≢ 0 → links_past 2 less q ≡ links_past 2 tree q
+  late_gone q some = omega (arith, own_late q some, links_less 2 q)
 
   pub links_gone : (q : ℕ) → q ≢ 0 → links less q + (weight (leads_to q) (slice_get own 0) + weight (leads_to q) (slice_get own 1)) ≡ links tree q
   links_gone q some =
-      let is : links_at q (fin.get tree.nodes ino) ≡ count_by (leads_to q) own = ap (links_at q) has ∙ ap (links_from q) body in
-      let low : ino < tree.last + 1 = omega (arith, (shape.numbers ino w has).1) in
       let long : 2 ≤ length own = subst HasSize body (shape.sizes ino w has) in
-      omega (arith, is, count_late (leads_to q) own long, own_late q some, sum_gone (links_at q) tree.nodes ino (tree.last + 1) low)
+      omega (arith, count_late (leads_to q) own long, own_late q some, links_less 0 q)
 
   slots_gone : (dir : ℕ) (node : Node) (slots : List PlainSlot) → dir ≢ ino → fin.get tree.nodes dir ≡ Some node → node.body ≡ Directory slots → AreSlots less.nodes dir slots
   slots_gone dir node slots apart there is =
@@ -208,8 +209,8 @@ module _ (tree : Tree) (sound : IsSound tree) (dir ino : ℕ) (name : List ℕ) 
   under : ino ≢ 2
   under e =
       let one = led_once tree.nodes dir found.at ino entry in
-      let most = sum_term (λ q. late_links_at ino (fin.get tree.nodes q)) dir (tree.last + 1) low_dir in
-      let none : late_links tree ino ≡ 0 = ap (late_links tree) e ∙ sound.root.top in
+      let most = sum_term (λ q. links_at 2 ino (fin.get tree.nodes q)) dir (tree.last + 1) low_dir in
+      let none : links_past 2 tree ino ≡ 0 = ap (links_past 2 tree) e ∙ sound.root.top in
       omega (arith, one, most, none)
 
   -- no late slot of it is used
@@ -224,7 +225,7 @@ module _ (tree : Tree) (sound : IsSound tree) (dir ino : ℕ) (name : List ℕ) 
   barren_at nodes is at other l =
       let slots_are = same_slots l.slots own l.node w (same_node l.node w (fin.get nodes ino) l.has is) l.body folder in
       let one = weight_one is_used (slice_get own at) l.slot (ap (λ s. slice_get s at) (sym slots_are) ∙ l.entry.has) l.entry.used in
-      omega (arith, one, late_some is_used own at l.late, unused)
+      omega (arith, one, count_some is_used 2 own at l.late, unused)
 
   barren : IsBarren tree.nodes ino
   barren = barren_at tree.nodes there
@@ -243,7 +244,7 @@ module _ (tree : Tree) (sound : IsSound tree) (dir ino : ℕ) (name : List ℕ) 
         let one = led_once tree.nodes dir found.at ino entry in
         let two = led_once tree.nodes parent.parent parent.at ino parent.entry in
         let low : parent.parent < tree.last + 1 = omega (arith, (sound.numbers parent.parent parent.entry.node parent.entry.has).1) in
-        let most = sum_terms (λ q. late_links_at ino (fin.get tree.nodes q)) parent.parent dir (tree.last + 1) low low_dir beside in
+        let most = sum_terms (λ q. links_at 2 ino (fin.get tree.nodes q)) parent.parent dir (tree.last + 1) low low_dir beside in
         absurd (omega (arith, one, two, most, parent.one))
   ]
 
@@ -270,8 +271,8 @@ module _ (tree : Tree) (sound : IsSound tree) (dir ino : ℕ) (name : List ℕ) 
   there_first : fin.get first.nodes ino ≡ Some w
   there_first = get_there tree.nodes dir y ino (λ e. apart (sym e)) ∙ there
 
-  alone : late_links first ino ≡ 0
-  alone = omega (arith, late_emptied tree dir ino name x y old found.at found.slot shape_tree empties, parent.one)
+  alone : links_past 2 first ino ≡ 0
+  alone = omega (arith, links_emptied tree dir ino name x y old found.at found.slot shape_tree empties 2 (omega arith), parent.one)
 
   shape_next : IsShaped next ino
   shape_next = shape_gone first ino w own shape_first there_first folder under (barren_at first.nodes there_first) alone

@@ -1,5 +1,5 @@
 -- A name entered in a list of slots, or a slot emptied, is one late slot put at a place.
-use Rattle.std.proofs.Common.{◌≡◌, ◌≢◌, ℕ, ◌+◌, ◌<◌, ◌≤◌, Bool, true, false, not, ◌&&◌, List, [], ◌∷◌, ◌++◌, length, drop, Option, Some, None, option_map, unwrap_or, refl, sym, ap, subst, ◌∙◌, arith, length-append}
+use Rattle.std.proofs.Common.{◌≡◌, ◌≢◌, ℕ, zero, suc, ◌+◌, ◌<◌, ◌≤◌, Bool, true, false, not, ◌&&◌, List, [], ◌∷◌, ◌++◌, length, drop, Option, Some, None, option_map, unwrap_or, refl, sym, ap, subst, ◌∙◌, arith, length-append}
 use Rattle.std.specs.Prelude.{count_by, slice_get, slice_set, position, find, option_and_then}
 use Rattle.std.specs.Str.{bytes_eq}
 use Rattle.std.proofs.lemmas.List.{length-set}
@@ -14,7 +14,7 @@ use Rattle.mb_tree.specs.Effect.{entered, emptied}
 use Rattle.mb_tree.specs.declared.nodes.Node.{Node}
 use Rattle.mb_tree.specs.declared.nodes.Body.TheVariants.{Directory}
 use Rattle.mb_tree.specs.declared.nodes.PlainSlot.{PlainSlot}
-use Rattle.mb_tree.proofs.SlotLists.{weight, set_here, set_there, push_here, push_there, count_set, count_push, count_late, found, missed}
+use Rattle.mb_tree.proofs.SlotLists.{weight, set_here, set_there, push_here, push_there, count_set, count_push, count_drop, found, missed}
 
 -- one slot put at a place after the second, over the slot there or after the last
 pub record IsRewritten (old new : List PlainSlot) (at : ℕ) (slot : PlainSlot) : Type 0 where
@@ -47,14 +47,14 @@ push_rewritten old slot long = record {
       omega (arith, none, count_push p old slot);
 }
 
--- the same among the late slots
-pub late_counts : (old new : List PlainSlot) (at : ℕ) (slot : PlainSlot) → IsRewritten old new at slot → (p : PlainSlot → Bool)
-    → count_by p (drop 2 new) + weight p (slice_get old at) ≡ count_by p (drop 2 old) + weight p (Some slot)
-late_counts old new at slot h p =
+-- the same where the first two slots or one of them do not count
+pub counts_past : (skip : ℕ) (old new : List PlainSlot) (at : ℕ) (slot : PlainSlot) → skip ≤ 2 → IsRewritten old new at slot → (p : PlainSlot → Bool)
+    → count_by p (drop skip new) + weight p (slice_get old at) ≡ count_by p (drop skip old) + weight p (Some slot)
+counts_past zero old new at slot few h p = h.counts p
+counts_past (suc skip) old new at slot few h p =
     let late = h.late in
-    let zero_there : weight p (slice_get new 0) ≡ weight p (slice_get old 0) = ap (weight p) (h.there 0 (λ e. absurd (omega (arith, e, late)))) in
-    let one_there : weight p (slice_get new 1) ≡ weight p (slice_get old 1) = ap (weight p) (h.there 1 (λ e. absurd (omega (arith, e, late)))) in
-    omega (arith, zero_there, one_there, h.counts p, count_late p old h.long, count_late p new (omega (arith, h.long, h.grown)))
+    let there : weight p (slice_get new skip) ≡ weight p (slice_get old skip) = ap (weight p) (h.there skip (λ e. absurd (omega (arith, e, few, late)))) in
+    omega (arith, there, count_drop p skip old, count_drop p skip new, counts_past skip old new at slot (omega arith) h p)
 
 -- a slot that is used
 abbrev IsTaken : List PlainSlot → ℕ → Type 0

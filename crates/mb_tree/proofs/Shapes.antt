@@ -3,7 +3,7 @@ use Rattle.std.proofs.Common.{◌≡◌, ◌≢◌, inl, inr, ℕ, ◌+◌, ◌�
 use Rattle.std.specs.FinMap as fin
 use Rattle.mb_tree.specs.Maps.{Numbered}
 use Rattle.mb_tree.specs.Cost.{cost}
-use Rattle.mb_tree.specs.Trees.{IsThere, HasKind, HasSize, AreSlots, links_from, late_links_from, links_at, late_links_at, links, late_links, Leads, Reached, HasParent, IsRoot, Each, EachDirectory, IsSound}
+use Rattle.mb_tree.specs.Trees.{IsThere, HasKind, HasSize, AreSlots, links_from, links_at, links_past, links, Leads, Reached, HasParent, IsRoot, Each, EachDirectory, IsSound}
 use Rattle.mb_tree.specs.Trees.Reached.{root, down}
 use Rattle.mb_tree.specs.declared.nodes.PlainSlot.{PlainSlot}
 use Rattle.mb_tree.specs.declared.nodes.Node.{Node}
@@ -80,15 +80,10 @@ reached_stays old new leads q root = root
 reached_stays old new leads q (down dir at r l) = down dir at (reached_stays old new leads dir r) (leads dir at _ l)
 
 -- what is no directory leads nowhere
-pub no_links_leaf : (q : ℕ) (body : Body) → ((slots : List PlainSlot) → body ≡ Directory slots → ⊥) → links_from q body ≡ 0
-no_links_leaf q (Regular size parts) leaf = refl
-no_links_leaf q (Directory slots) leaf = absurd (leaf slots refl)
-no_links_leaf q (Special size area) leaf = refl
-
-pub no_late_leaf : (q : ℕ) (body : Body) → ((slots : List PlainSlot) → body ≡ Directory slots → ⊥) → late_links_from q body ≡ 0
-no_late_leaf q (Regular size parts) leaf = refl
-no_late_leaf q (Directory slots) leaf = absurd (leaf slots refl)
-no_late_leaf q (Special size area) leaf = refl
+pub no_links_leaf : (skip q : ℕ) (body : Body) → ((slots : List PlainSlot) → body ≡ Directory slots → ⊥) → links_from skip q body ≡ 0
+no_links_leaf skip q (Regular size parts) leaf = refl
+no_links_leaf skip q (Directory slots) leaf = absurd (leaf slots refl)
+no_links_leaf skip q (Special size area) leaf = refl
 
 -- a number has one inode
 pub same_node : (a b : Node) (o : Option Node) → o ≡ Some a → o ≡ Some b → a ≡ b
@@ -105,32 +100,24 @@ pub record CanBePut (tree : Tree) (ino : ℕ) (x : Node) : Type 0 where
   pub kind : HasKind x.mode x.body
   pub size : HasSize x.body
   pub slots : (slots : List PlainSlot) → x.body ≡ Directory slots → AreSlots (fin.insert tree.nodes ino x) ino slots
-  pub late : (q : ℕ) → late_links_from q x.body ≡ 0
+  pub late : (q : ℕ) → links_from 2 q x.body ≡ 0
 
 module _ (tree : Tree) (ino : ℕ) (x : Node) (shape : IsShaped tree ino) (h : CanBePut tree ino x) where
   abbrev next : Tree
   next = record tree { nodes = fin.insert tree.nodes ino x }
 
-  links_before : (q : ℕ) (o : Option Node) → fin.get tree.nodes ino ≡ o → links_at q o ≡ 0
-  links_before q None e = refl
-  links_before q (Some old) e = no_links_leaf q old.body (λ slots body. h.leaf old slots e body)
+  links_before : (skip q : ℕ) (o : Option Node) → fin.get tree.nodes ino ≡ o → links_at skip q o ≡ 0
+  links_before skip q None e = refl
+  links_before skip q (Some old) e = no_links_leaf skip q old.body (λ slots body. h.leaf old slots e body)
 
-  late_before : (q : ℕ) (o : Option Node) → fin.get tree.nodes ino ≡ o → late_links_at q o ≡ 0
-  late_before q None e = refl
-  late_before q (Some old) e = no_late_leaf q old.body (λ slots body. h.leaf old slots e body)
-
-  pub links_put : (q : ℕ) → links next q ≡ links tree q + links_from q x.body
-  links_put q =
-      let all = sum_put (links_at q) tree.nodes ino (tree.last + 1) (omega (arith, h.high)) x in
-      let none = links_before q (fin.get tree.nodes ino) refl in
+  pub links_put : (skip q : ℕ) → links_past skip next q ≡ links_past skip tree q + links_from skip q x.body
+  links_put skip q =
+      let all = sum_put (links_at skip q) tree.nodes ino (tree.last + 1) (omega (arith, h.high)) x in
+      let none = links_before skip q (fin.get tree.nodes ino) refl in
       omega (arith, all, none)
 
-  pub late_put : (q : ℕ) → late_links next q ≡ late_links tree q
-  late_put q =
-      let all = sum_put (late_links_at q) tree.nodes ino (tree.last + 1) (omega (arith, h.high)) x in
-      let none = late_before q (fin.get tree.nodes ino) refl in
-      let more = h.late q in
-      omega (arith, all, none, more)
+  late_put : (q : ℕ) → links_past 2 next q ≡ links_past 2 tree q
+  late_put q = omega (arith, links_put 2 q, h.late q)
 
   there_put : (q : ℕ) → IsThere tree.nodes q → IsThere next.nodes q
   there_put q t = elim (one_or_not q ino) [

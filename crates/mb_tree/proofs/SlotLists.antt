@@ -47,39 +47,36 @@ module _ {X : Type 0} where
   count_push p [] y = omega (arith, count_cons p y [])
   count_push p (x ∷ xs) y = omega (arith, count_cons p x xs, count_cons p x (xs ++ y ∷ []), count_push p xs y)
 
+  -- one element more skipped
+  pub count_drop : (p : X → Bool) (skip : ℕ) (xs : List X) → count_by p (drop skip xs) ≡ weight p (slice_get xs skip) + count_by p (drop (suc skip) xs)
+  count_drop p zero [] = refl
+  count_drop p (suc skip) [] = refl
+  count_drop p zero (x ∷ xs) = omega (arith, count_cons p x xs)
+  count_drop p (suc skip) (x ∷ xs) = count_drop p skip xs
+
   -- the first two, and the later ones
   pub count_late : (p : X → Bool) (xs : List X) → 2 ≤ length xs → count_by p xs ≡ weight p (slice_get xs 0) + weight p (slice_get xs 1) + count_by p (drop 2 xs)
   count_late p [] long = absurd (omega arith)
   count_late p (x ∷ []) long = absurd (omega arith)
   count_late p (x ∷ y ∷ xs) long = omega (arith, count_cons p x (y ∷ xs), count_cons p y xs)
 
-  -- an element that passes is counted
-  pub count_some : (p : X → Bool) (xs : List X) (at : ℕ) → weight p (slice_get xs at) ≤ count_by p xs
-  count_some p [] at = omega arith
-  count_some p (x ∷ xs) zero = omega (arith, count_cons p x xs)
-  count_some p (x ∷ xs) (suc at) = omega (arith, count_cons p x xs, count_some p xs at)
+  -- an element that passes is counted among those after the first skip, where it is one
+  pub count_some : (p : X → Bool) (skip : ℕ) (xs : List X) (at : ℕ) → skip ≤ at → weight p (slice_get xs at) ≤ count_by p (drop skip xs)
+  count_some p zero [] at past = omega arith
+  count_some p (suc skip) [] at past = omega arith
+  count_some p zero (x ∷ xs) zero past = omega (arith, count_cons p x xs)
+  count_some p zero (x ∷ xs) (suc at) past = omega (arith, count_cons p x xs, count_some p zero xs at (omega arith))
+  count_some p (suc skip) (x ∷ xs) zero past = absurd (omega arith)
+  count_some p (suc skip) (x ∷ xs) (suc at) past = count_some p skip xs at (omega arith)
 
-  -- a late element that passes is counted among the late ones
-  pub late_some : (p : X → Bool) (xs : List X) (at : ℕ) → 2 ≤ at → weight p (slice_get xs at) ≤ count_by p (drop 2 xs)
-  late_some p [] at late = omega arith
-  late_some p (x ∷ []) zero late = absurd (omega arith)
-  late_some p (x ∷ []) (suc at) late = omega arith
-  late_some p (x ∷ y ∷ xs) zero late = absurd (omega arith)
-  late_some p (x ∷ y ∷ xs) (suc zero) late = absurd (omega arith)
-  late_some p (x ∷ y ∷ xs) (suc (suc at)) late = count_some p xs at
-
-  -- what fails everywhere is not counted
-  pub count_none : (p : X → Bool) (xs : List X) → ((at : ℕ) (x : X) → slice_get xs at ≡ Some x → p x ≡ false) → count_by p xs ≡ 0
-  count_none p [] fails = refl
-  count_none p (x ∷ xs) fails =
-      let one : weight p (Some x) ≡ 0 = ap (λ b. cond {A = ℕ} b 1 0) (fails 0 x refl) in
-      omega (arith, count_cons p x xs, one, count_none p xs (λ at y has. fails (suc at) y has))
-
-  -- what fails everywhere after the second is not counted there
-  pub late_none : (p : X → Bool) (xs : List X) → ((at : ℕ) (x : X) → 2 ≤ at → slice_get xs at ≡ Some x → p x ≡ false) → count_by p (drop 2 xs) ≡ 0
-  late_none p [] fails = refl
-  late_none p (x ∷ []) fails = refl
-  late_none p (x ∷ y ∷ xs) fails = count_none p xs (λ at z has. fails (suc (suc at)) z (omega arith) has)
+  -- what fails everywhere after the first skip is not counted there
+  pub count_none : (p : X → Bool) (skip : ℕ) (xs : List X) → ((at : ℕ) (x : X) → skip ≤ at → slice_get xs at ≡ Some x → p x ≡ false) → count_by p (drop skip xs) ≡ 0
+  count_none p zero [] fails = refl
+  count_none p (suc skip) [] fails = refl
+  count_none p zero (x ∷ xs) fails =
+      let one : weight p (Some x) ≡ 0 = ap (λ b. cond {A = ℕ} b 1 0) (fails 0 x (omega arith) refl) in
+      omega (arith, count_cons p x xs, one, count_none p zero xs (λ at y past has. fails (suc at) y (omega arith) has))
+  count_none p (suc skip) (x ∷ xs) fails = count_none p skip xs (λ at y past has. fails (suc at) y (omega arith) has)
 
   -- what fails
   pub weight_none : (p : X → Bool) (o : Option X) → ((x : X) → o ≡ Some x → p x ≡ false) → weight p o ≡ 0

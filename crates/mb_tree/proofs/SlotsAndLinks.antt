@@ -6,7 +6,7 @@ use Rattle.mb_tree.specs.Maps.{Numbered}
 use Rattle.mb_tree.specs.Counting.{sum_below}
 use Rattle.mb_tree.specs.Inodes.{slots_of}
 use Rattle.mb_tree.specs.Cost.{cost}
-use Rattle.mb_tree.specs.Trees.{IsThere, AreSlots, links_from, late_links_from, links_at, late_links_at, links, late_links, leads_to, Leads, Reached, IsRoot, IsSound}
+use Rattle.mb_tree.specs.Trees.{IsThere, AreSlots, links_from, links_at, links_past, leads_to, Leads, Reached, IsRoot, IsSound}
 use Rattle.mb_tree.specs.Trees.Reached.{root, down}
 use Rattle.mb_tree.specs.Laws.{KeepsSlotsAndLinks, StaysWithSlotsAndLinks, SlotsAndLinksKept}
 use Rattle.mb_tree.specs.declared.nodes.PlainSlot.{PlainSlot}
@@ -20,27 +20,17 @@ directory_of (Regular size parts) slots h = cc
 directory_of (Directory others) slots h = let e : others ≡ slots = cc in ap Directory e
 directory_of (Special size area) slots h = cc
 
-links_by : (ino : ℕ) (body : Body) → links_from ino body ≡ unwrap_or (option_map (count_by (leads_to ino)) (slots_of body)) 0
-links_by ino (Regular size parts) = refl
-links_by ino (Directory slots) = refl
-links_by ino (Special size area) = refl
+links_by : (skip ino : ℕ) (body : Body) → links_from skip ino body ≡ unwrap_or (option_map (λ slots. count_by (leads_to ino) (drop skip slots)) (slots_of body)) 0
+links_by skip ino (Regular size parts) = refl
+links_by skip ino (Directory slots) = refl
+links_by skip ino (Special size area) = refl
 
-late_links_by : (ino : ℕ) (body : Body) → late_links_from ino body ≡ unwrap_or (option_map (λ slots. count_by (leads_to ino) (drop 2 slots)) (slots_of body)) 0
-late_links_by ino (Regular size parts) = refl
-late_links_by ino (Directory slots) = refl
-late_links_by ino (Special size area) = refl
-
-links_stay : (ino : ℕ) (old new : Option Node) → StaysWithSlotsAndLinks old new → links_at ino new ≡ links_at ino old
-links_stay ino None None h = refl
-links_stay ino None (Some y) h = absurd h
-links_stay ino (Some x) None h = absurd h
-links_stay ino (Some x) (Some y) h = links_by ino y.body ∙ ap (λ s. unwrap_or (option_map (count_by (leads_to ino)) s) 0) h.slots ∙ sym (links_by ino x.body)
-
-late_stay : (ino : ℕ) (old new : Option Node) → StaysWithSlotsAndLinks old new → late_links_at ino new ≡ late_links_at ino old
-late_stay ino None None h = refl
-late_stay ino None (Some y) h = absurd h
-late_stay ino (Some x) None h = absurd h
-late_stay ino (Some x) (Some y) h = late_links_by ino y.body ∙ ap (λ s. unwrap_or (option_map (λ slots. count_by (leads_to ino) (drop 2 slots)) s) 0) h.slots ∙ sym (late_links_by ino x.body)
+links_stay : (skip ino : ℕ) (old new : Option Node) → StaysWithSlotsAndLinks old new → links_at skip ino new ≡ links_at skip ino old
+links_stay skip ino None None h = refl
+links_stay skip ino None (Some y) h = absurd h
+links_stay skip ino (Some x) None h = absurd h
+links_stay skip ino (Some x) (Some y) h =
+    links_by skip ino y.body ∙ ap (λ s. unwrap_or (option_map (λ slots. count_by (leads_to ino) (drop skip slots)) s) 0) h.slots ∙ sym (links_by skip ino x.body)
 
 -- the inode before, and the one after
 before : (old new : Option Node) (y : Node) → StaysWithSlotsAndLinks old new → new ≡ Some y → (x : Node) × (old ≡ Some x) × KeepsSlotsAndLinks x y
@@ -57,11 +47,8 @@ module _ (tree : Tree) (nodes : Numbered Node) (sound : IsSound tree) (stay : (i
   abbrev next : Tree
   next = record tree { nodes = nodes }
 
-  same_links : (ino : ℕ) → links next ino ≡ links tree ino
-  same_links ino = ap (λ (g : ℕ → ℕ). sum_below g (tree.last + 1)) (λ i dir. links_stay ino (fin.get tree.nodes dir) (fin.get nodes dir) (stay dir) i)
-
-  same_late : (ino : ℕ) → late_links next ino ≡ late_links tree ino
-  same_late ino = ap (λ (g : ℕ → ℕ). sum_below g (tree.last + 1)) (λ i dir. late_stay ino (fin.get tree.nodes dir) (fin.get nodes dir) (stay dir) i)
+  same_links : (skip ino : ℕ) → links_past skip next ino ≡ links_past skip tree ino
+  same_links skip ino = ap (λ (g : ℕ → ℕ). sum_below g (tree.last + 1)) (λ i dir. links_stay skip ino (fin.get tree.nodes dir) (fin.get nodes dir) (stay dir) i)
 
   there : (ino : ℕ) → IsThere tree.nodes ino → IsThere nodes ino
   there ino h = let y = later (fin.get tree.nodes ino) (fin.get nodes ino) h.node (stay ino) h.has in record { node = y.0; has = y.1 }
@@ -93,7 +80,7 @@ module _ (tree : Tree) (nodes : Numbered Node) (sound : IsSound tree) (stay : (i
   root_kept : IsRoot next
   root_kept =
       let y = later (fin.get tree.nodes 2) (fin.get nodes 2) sound.root.node (stay 2) sound.root.has in
-      record { node = y.0; slots = sound.root.slots; has = y.1; body = directory_of y.0.body sound.root.slots (y.2.slots ∙ ap slots_of sound.root.body); upward = sound.root.upward; top = same_late 2 ∙ sound.root.top }
+      record { node = y.0; slots = sound.root.slots; has = y.1; body = directory_of y.0.body sound.root.slots (y.2.slots ∙ ap slots_of sound.root.body); upward = sound.root.upward; top = same_links 2 2 ∙ sound.root.top }
 
   kept : cost next ≤ tree.cap → IsSound next
   kept room = record {
@@ -105,8 +92,8 @@ module _ (tree : Tree) (nodes : Numbered Node) (sound : IsSound tree) (stay : (i
     parents = λ ino y slots has body other.
         let x = before _ _ y (stay ino) has in
         let old = sound.parents ino x.0 slots x.1 (was_directory ino y slots x.0 x.2 body) other in
-        record { one = same_late ino ∙ old.one; parent = old.parent; at = old.at; upward = old.upward; entry = leads old.parent old.at ino old.entry; reached = reached ino old.reached };
-    counted = λ ino y has other. let x = before _ _ y (stay ino) has in x.2.nlink ∙ sound.counted ino x.0 x.1 other ∙ sym (same_links ino);
+        record { one = same_links 2 ino ∙ old.one; parent = old.parent; at = old.at; upward = old.upward; entry = leads old.parent old.at ino old.entry; reached = reached ino old.reached };
+    counted = λ ino y has other. let x = before _ _ y (stay ino) has in x.2.nlink ∙ sound.counted ino x.0 x.1 other ∙ sym (same_links 0 ino);
     few = λ ino y has other. let x = before _ _ y (stay ino) has in subst (λ n. n ≤ 32767) (sym x.2.nlink) (sound.few ino x.0 x.1 other);
     room = room;
   }

@@ -7,7 +7,7 @@ use Rattle.mb_tree.specs.Maps.{Numbered}
 use Rattle.mb_tree.specs.Inodes.{is_directory}
 use Rattle.mb_tree.specs.Lookup.{is_used}
 use Rattle.mb_tree.specs.Rows.{is_dots}
-use Rattle.mb_tree.specs.Trees.{IsThere, HasKind, HasSize, IsName, IsUsedAt, AreSlots, leads_to, links_from, late_links_from, links_at, late_links_at, links, late_links, Leads, Reached, HasParent, IsRoot, Each}
+use Rattle.mb_tree.specs.Trees.{IsThere, HasKind, HasSize, IsName, IsUsedAt, AreSlots, leads_to, links_from, links_at, links_past, Leads, Reached, HasParent, IsRoot, Each}
 use Rattle.mb_tree.specs.Trees.Reached.{root, down}
 use Rattle.mb_tree.specs.declared.nodes.PlainSlot.{PlainSlot}
 use Rattle.mb_tree.specs.declared.nodes.Node.{Node}
@@ -17,7 +17,7 @@ use Rattle.mb_tree.specs.declared.trees.Tree.{Tree}
 use Rattle.mb_tree.proofs.FiniteMaps.{get_here, get_there, one_or_not}
 use Rattle.mb_tree.proofs.Sums.{sum_put}
 use Rattle.mb_tree.proofs.SlotLists.{weight}
-use Rattle.mb_tree.proofs.Rewritten.{IsRewritten, late_counts}
+use Rattle.mb_tree.proofs.Rewritten.{IsRewritten, counts_past}
 use Rattle.mb_tree.proofs.Shapes.{IsShaped, IsBarren, slots_stay}
 
 -- what a used slot asks of the slots beside it
@@ -62,33 +62,19 @@ module _ (tree : Tree) (dir target : ℕ) (x y : Node) (old new : List PlainSlot
   low : dir < tree.last + 1
   low = omega (arith, (shape.numbers dir x h.has).1)
 
-  pub links_slotted : (q : ℕ) → links next q + weight (leads_to q) (slice_get old at) ≡ links tree q + weight (leads_to q) (Some slot)
-  links_slotted q =
-      let all = sum_put (links_at q) tree.nodes dir (tree.last + 1) low y in
-      let one : links_at q (fin.get tree.nodes dir) ≡ count_by (leads_to q) old = ap (links_at q) h.has ∙ ap (links_from q) h.before in
-      let two : links_from q y.body ≡ count_by (leads_to q) new = ap (links_from q) h.after in
-      let counts = h.rewritten.counts (leads_to q) in
+  pub links_slotted : (skip q : ℕ) → skip ≤ 2 → links_past skip next q + weight (leads_to q) (slice_get old at) ≡ links_past skip tree q + weight (leads_to q) (Some slot)
+  links_slotted skip q few =
+      let all = sum_put (links_at skip q) tree.nodes dir (tree.last + 1) low y in
+      let one : links_at skip q (fin.get tree.nodes dir) ≡ count_by (leads_to q) (drop skip old) = ap (links_at skip q) h.has ∙ ap (links_from skip q) h.before in
+      let two : links_from skip q y.body ≡ count_by (leads_to q) (drop skip new) = ap (links_from skip q) h.after in
+      let counts = counts_past skip old new at slot few h.rewritten (leads_to q) in
       omega (arith, all, one, two, counts)
 
-  pub late_slotted : (q : ℕ) → late_links next q + weight (leads_to q) (slice_get old at) ≡ late_links tree q + weight (leads_to q) (Some slot)
-  late_slotted q =
-      let all = sum_put (late_links_at q) tree.nodes dir (tree.last + 1) low y in
-      let one : late_links_at q (fin.get tree.nodes dir) ≡ count_by (leads_to q) (drop 2 old) = ap (late_links_at q) h.has ∙ ap (late_links_from q) h.before in
-      let two : late_links_from q y.body ≡ count_by (leads_to q) (drop 2 new) = ap (late_links_from q) h.after in
-      let counts = late_counts old new at slot h.rewritten (leads_to q) in
-      omega (arith, all, one, two, counts)
-
-  pub links_others : (q : ℕ) → q ≢ 0 → q ≢ target → links next q ≡ links tree q
-  links_others q some apart =
+  pub links_others : (skip q : ℕ) → skip ≤ 2 → q ≢ 0 → q ≢ target → links_past skip next q ≡ links_past skip tree q
+  links_others skip q few some apart =
       let one = weight_none q target (slice_get old at) some apart h.was in
       let two = weight_apart q target slot some apart h.is in
-      omega (arith, one, two, links_slotted q)
-
-  pub late_others : (q : ℕ) → q ≢ 0 → q ≢ target → late_links next q ≡ late_links tree q
-  late_others q some apart =
-      let one = weight_none q target (slice_get old at) some apart h.was in
-      let two = weight_apart q target slot some apart h.is in
-      omega (arith, one, two, late_slotted q)
+      omega (arith, one, two, links_slotted skip q few)
 
   there_slotted : (q : ℕ) → IsThere tree.nodes q → IsThere next.nodes q
   there_slotted q t = elim (one_or_not q dir) [
@@ -178,7 +164,7 @@ module _ (tree : Tree) (dir target : ℕ) (x y : Node) (old new : List PlainSlot
   root_slotted : IsRoot next
   root_slotted =
       let r = shape.root in
-      let top : late_links next 2 ≡ 0 = late_others 2 (omega arith) (λ e. h.under (sym e)) ∙ r.top in
+      let top : links_past 2 next 2 ≡ 0 = links_others 2 2 (omega arith) (omega arith) (λ e. h.under (sym e)) ∙ r.top in
       elim (one_or_not 2 dir) [
         | inl is ↦
             let node_is : x ≡ r.node = let e : ◌≡◌ {A = Option Node} (Some x) (Some r.node) = sym h.has ∙ sym (ap (fin.get tree.nodes) is) ∙ r.has in cc in
@@ -190,7 +176,7 @@ module _ (tree : Tree) (dir target : ℕ) (x y : Node) (old new : List PlainSlot
   -- a directory's `..` is as it was
   parent_slotted : (q : ℕ) (slots now : List PlainSlot) → slice_get now 1 ≡ slice_get slots 1 → q ≢ 0 → q ≢ target → HasParent tree q slots → HasParent next q now
   parent_slotted q slots now e some apart old = record {
-    one = late_others q some apart ∙ old.one;
+    one = links_others 2 q (omega arith) some apart ∙ old.one;
     parent = old.parent;
     at = old.at;
     upward = e ∙ old.upward;

@@ -74,31 +74,23 @@ pub record AreSlots (nodes : Numbered Node) (ino : ℕ) (slots : List PlainSlot)
 abbrev pub leads_to : ℕ → PlainSlot → Bool
 leads_to ino slot = slot.ino == ino
 
--- how many slots of an inode lead to ino, in all and after the second
-abbrev pub links_from : ℕ → Body → ℕ
-links_from ino (Regular size parts) = 0
-links_from ino (Directory slots) = count_by (leads_to ino) slots
-links_from ino (Special size area) = 0
+-- how many slots of an inode after its first skip lead to ino
+abbrev pub links_from : ℕ → ℕ → Body → ℕ
+links_from skip ino (Regular size parts) = 0
+links_from skip ino (Directory slots) = count_by (leads_to ino) (drop skip slots)
+links_from skip ino (Special size area) = 0
 
-abbrev pub late_links_from : ℕ → Body → ℕ
-late_links_from ino (Regular size parts) = 0
-late_links_from ino (Directory slots) = count_by (leads_to ino) (drop 2 slots)
-late_links_from ino (Special size area) = 0
+abbrev pub links_at : ℕ → ℕ → Option Node → ℕ
+links_at skip ino None = 0
+links_at skip ino (Some node) = links_from skip ino node.body
 
-abbrev pub links_at : ℕ → Option Node → ℕ
-links_at ino None = 0
-links_at ino (Some node) = links_from ino node.body
+-- the slots of the whole tree that lead to ino, but for the first skip of each directory
+abbrev pub links_past : ℕ → Tree → ℕ → ℕ
+links_past skip tree ino = sum_below (λ dir. links_at skip ino (fin.get tree.nodes dir)) (tree.last + 1)
 
-abbrev pub late_links_at : ℕ → Option Node → ℕ
-late_links_at ino None = 0
-late_links_at ino (Some node) = late_links_from ino node.body
-
--- the used slots of the whole tree that lead to ino, in all and after the second of their directories
+-- all of them, as a link count counts them
 abbrev pub links : Tree → ℕ → ℕ
-links tree ino = sum_below (λ dir. links_at ino (fin.get tree.nodes dir)) (tree.last + 1)
-
-abbrev pub late_links : Tree → ℕ → ℕ
-late_links tree ino = sum_below (λ dir. late_links_at ino (fin.get tree.nodes dir)) (tree.last + 1)
+links tree ino = links_past 0 tree ino
 
 -- a used slot after the second of a directory leads to ino
 pub record Leads (nodes : Numbered Node) (dir at ino : ℕ) : Type 0 where
@@ -119,7 +111,7 @@ pub data Reached (nodes : Numbered Node) : ℕ → Type 0 where
 -- a directory below the root: one slot leads to it, its `..` is the directory with that slot, and the root
 -- leads to it
 pub record HasParent (tree : Tree) (ino : ℕ) (slots : List PlainSlot) : Type 0 where
-  pub one : late_links tree ino ≡ 1
+  pub one : links_past 2 tree ino ≡ 1
   pub parent : ℕ
   pub at : ℕ
   pub upward : slice_get slots 1 ≡ Some (record { ino = parent; name = dot_dot })
@@ -133,7 +125,7 @@ pub record IsRoot (tree : Tree) : Type 0 where
   pub has : fin.get tree.nodes 2 ≡ Some node
   pub body : node.body ≡ Directory slots
   pub upward : slice_get slots 1 ≡ Some (record { ino = 2; name = dot_dot })
-  pub top : late_links tree 2 ≡ 0
+  pub top : links_past 2 tree 2 ≡ 0
 
 abbrev pub Each : Tree → (ℕ → Node → Type 0) → Type 0
 Each tree P = (ino : ℕ) (node : Node) → fin.get tree.nodes ino ≡ Some node → P ino node
