@@ -8,10 +8,8 @@
 
 mod laws;
 mod modes;
-mod places;
 #[cfg(test)]
 mod tests;
 
 pub use laws::{kept_composes, kept_same, set_mode_keeps};
 pub use modes::set_mode;
-pub use places::inode_block;

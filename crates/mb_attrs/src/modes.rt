@@ -3,7 +3,7 @@ ghost use Rattle.mb_word.specs.Fields as fields;
 ghost use Rattle.mb_layout.specs.Inode.{dinode_at};
 ghost use Rattle.mb_attrs.specs.Modes.{mode_set, new_mode};
 
-use crate::places::inode_place;
+use mb_layout::inode_place;
 use mb_word::{put_long, put_word, word_at};
 
 /// The bits of a mode that name the kind of an inode, 0170000 in octal.

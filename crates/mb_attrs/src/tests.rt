@@ -12,11 +12,3 @@ fn changed_mode_keeps_the_kind_and_sets_the_ctime(rt: HostRuntime) {
     expected[188..192].copy_from_slice(&[0x01, 0x00, 0x45, 0x23]);
     assert_eq!(rt; block, expected);
 }
-
-#[test]
-fn inodes_stand_eight_in_a_block_from_block_2_on(rt: HostRuntime) {
-    assert_eq!(rt;
-        [1, 8, 9, 65_528].map(|ino| inode_block(ino)),
-        [2, 2, 3, 8_192]
-    );
-}

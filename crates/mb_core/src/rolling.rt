@@ -20,8 +20,9 @@ use crate::fields::Fields;
 use crate::open_table::OpenTable;
 use crate::roomy::Roomy;
 use crate::steps::Step;
-use mb_attrs::{inode_block, set_mode};
+use mb_attrs::set_mode;
 use mb_edge::{Disk, NoMemory};
+use mb_layout::inode_block;
 use mb_tree::FsOp;
 use std::alloc::Global;
 

@@ -1,5 +1,8 @@
+ghost use Rattle.std.specs.Prelude.{◌≡◌, IfOk};
+
 use crate::bytes::Octets;
 use crate::errors::Errno;
+use std::alloc::{AllocError, Global};
 
 /// What `stat` tells of an inode (V7 stat(2)). `size` is in bytes, the times in seconds.
 #[derive(Clone, Copy, Debug, PartialEq, Eq, Drop)]
@@ -32,4 +35,25 @@ pub enum Reply {
     Device,
     /// The volume has failed for good, with the number of fault records.
     Failed { faults: u32 },
+}
+
+impl Reply {
+    /// A copy. The only error is want of memory.
+    pub fn copied(&self, alloc: Global) -> Result<Reply, AllocError>
+        ensures { IfOk result (λ copy. copy ≡ self.now) }
+    {
+        let copy = match self {
+            Reply::Num(number) => Reply::Num(*number),
+            Reply::Got(bytes) => Reply::Got(bytes.copied(alloc)?),
+            Reply::Info(stat) => Reply::Info(*stat),
+            Reply::Refused(error) => Reply::Refused(*error),
+            Reply::Restart { first, second } => Reply::Restart {
+                first: *first,
+                second: *second,
+            },
+            Reply::Device => Reply::Device,
+            Reply::Failed { faults } => Reply::Failed { faults: *faults },
+        };
+        Ok(copy)
+    }
 }

@@ -26,6 +26,25 @@ fn a_copy_of_a_call_is_the_call(rt: HostRuntime) -> Result<(), Fail> {
 }
 
 #[test]
+fn a_copy_of_a_reply_is_the_reply(rt: HostRuntime) -> Result<(), Fail> {
+    let got = Reply::Got(Octets::from_vec([7, 0, 9].to_vec(rt.alloc())?));
+    assert!(rt; got.copied(rt.alloc())? == got);
+    let restart = Reply::Restart {
+        first: 2,
+        second: 5,
+    };
+    assert!(rt; restart.copied(rt.alloc())? == restart);
+    assert!(rt;
+        restart
+            != Reply::Restart {
+                first: 5,
+                second: 2
+            }
+    );
+    Ok(())
+}
+
+#[test]
 fn a_list_keeps_its_elements_in_order(rt: HostRuntime) -> Result<(), Fail> {
     let mut replies: Seq<Reply> = Seq::new(rt.alloc());
     replies.push(Reply::Num(4))?;

@@ -2,6 +2,7 @@ pub mod ChainBytes
 pub mod IndexEntries
 pub mod InodeBytes
 pub mod InodeOrder
+pub mod InodeWriting
 pub mod NumberLists
 pub mod SlotBytes
 pub mod Steps

@@ -5,6 +5,7 @@ use Rattle.mb_word.specs.Numbers.{put_at, long_bytes, AreBytes}
 use Rattle.mb_word.specs.Fields.{index_entry}
 use Rattle.mb_layout.specs.ChainBlock.{chain_at, chain_bytes, FitsChain}
 use Rattle.mb_layout.specs.Inode.{dinode_at, dinode_bytes, FitsDinode}
+use Rattle.mb_layout.specs.InodeWrites.{IsDinodeWritten}
 use Rattle.mb_layout.specs.SlotEntry.{slot_at, slot_bytes, FitsSlot}
 use Rattle.mb_layout.specs.SuperBlock.{super_at, super_bytes, FitsSuper}
 use Rattle.mb_layout.specs.declared.chains.Chain.{Chain}
@@ -53,3 +54,7 @@ SlotKeepsOthers = (b : List ℕ) (place other : ℕ) (slot : Slot) → 16 * plac
 
 abbrev pub IndexKeepsOthers : Type 0
 IndexKeepsOthers = (b : List ℕ) (place other address : ℕ) → 4 * place + 4 ≤ length b → other ≢ place → index_entry (put_at b (4 * place) (long_bytes address)) other ≡ index_entry b other
+
+-- an inode's bytes, written at its place, are its fields and addresses there, and nothing else changed
+abbrev pub DinodeWritten : Type 0
+DinodeWritten = (b : List ℕ) (place : ℕ) (d : Dinode) → length b ≡ 512 → place < 8 → FitsDinode d → IsDinodeWritten b (put_at b (64 * place) (dinode_bytes d)) place d

@@ -2,6 +2,7 @@ pub mod Addresses
 pub mod ChainBlock
 pub mod Inode
 pub mod InodePlaces
+pub mod InodeWrites
 pub mod LayoutLaws
 pub mod Listed
 pub mod SlotEntry

@@ -1,6 +1,6 @@
 ghost use Rattle.mb_layout.specs.Addresses.{AddressesInArea};
 ghost use Rattle.mb_layout.specs.InodePlaces.{PlacesBelow, InodesInList, InodesApart};
-ghost use Rattle.mb_layout.specs.LayoutLaws.{SuperReadsBack, ChainReadsBack, DinodeReadsBack, SlotReadsBack, IndexReadsBack, SuperWritesBack, ChainWritesBack, DinodeWritesBack, SlotWritesBack, IndexWritesBack, DinodeKeepsOthers, SlotKeepsOthers, IndexKeepsOthers};
+ghost use Rattle.mb_layout.specs.LayoutLaws.{SuperReadsBack, ChainReadsBack, DinodeReadsBack, SlotReadsBack, IndexReadsBack, SuperWritesBack, ChainWritesBack, DinodeWritesBack, SlotWritesBack, IndexWritesBack, DinodeKeepsOthers, SlotKeepsOthers, IndexKeepsOthers, DinodeWritten};
 
 /// What was written reads back.
 pub fn reads_back()
@@ -25,6 +25,12 @@ pub fn keeps_others()
     ensures dinode { DinodeKeepsOthers }
     ensures slot { SlotKeepsOthers }
     ensures index { IndexKeepsOthers }
+{}
+
+/// Where an inode was written, it has the written fields and addresses, and the seven others of its
+/// block have those that they had.
+pub fn inode_written()
+    ensures { DinodeWritten }
 {}
 
 /// An inode's addresses are read from its area alone.

@@ -7,7 +7,8 @@
 //! A reader gives the value that the block's bytes stand for, field by field as `mb_word` has them
 //! (`super_at`, `chain_at`, `dinode_at`, `slot_at` of `specs/`); a writer leaves the value's bytes
 //! there (`super_bytes` and the like). The law functions say that the two undo each other and leave
-//! every other place of the block as it reads.
+//! every other place of the block as it reads; for an inode `inode_written` says it field by field
+//! (`IsDinodeWritten` of `specs/InodeWrites.antt`).
 #![tactic(auto)]
 
 mod arrays;
@@ -15,6 +16,7 @@ mod chains;
 mod dinodes;
 mod indexes;
 mod laws;
+mod places;
 mod slots;
 mod super_blocks;
 #[cfg(test)]
@@ -23,6 +25,9 @@ mod tests;
 pub use chains::Chain;
 pub use dinodes::Dinode;
 pub use indexes::{index_at, put_index};
-pub use laws::{addresses_in_area, inode_places, keeps_others, reads_back, writes_back};
+pub use laws::{
+    addresses_in_area, inode_places, inode_written, keeps_others, reads_back, writes_back,
+};
+pub use places::{inode_block, inode_place};
 pub use slots::Slot;
 pub use super_blocks::Super;

@@ -89,3 +89,12 @@ fn chain_and_index_blocks_hold_longs(rt: HostRuntime) {
     assert_eq!(rt; &block[508..], [0x01, 0x00, 0x45, 0x23].as_slice());
     assert_eq!(rt; index_at(&block, 127), 0x0001_2345);
 }
+
+#[test]
+fn inodes_stand_eight_in_a_block_from_block_2_on(rt: HostRuntime) {
+    assert_eq!(rt;
+        [1, 8, 9, 65_528].map(|ino| inode_block(ino)),
+        [2, 2, 3, 8_192]
+    );
+    assert_eq!(rt; [1, 8, 9, 65_528].map(|ino| inode_place(ino)), [0, 7, 0, 7]);
+}

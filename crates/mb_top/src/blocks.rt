@@ -4,10 +4,9 @@ ghost use Rattle.mb_core.specs.State.{seen};
 ghost use Rattle.mb_top.specs.Contents.{inode_at, direct_part};
 ghost use Rattle.mb_top.specs.Reads.{ReadsOn};
 
-use mb_attrs::inode_block;
 use mb_core::{Core, ReadFault};
 use mb_edge::Disk;
-use mb_layout::Dinode;
+use mb_layout::{Dinode, inode_block};
 
 /// A block as it is seen; one past the end has zeros.
 pub fn read_block<D: Disk>(core: &mut Core<D>, block: u32) -> Result<[u8; 512], ReadFault>

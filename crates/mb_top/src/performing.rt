@@ -15,11 +15,12 @@ ghost use Rattle.mb_top.specs.Serving.{IsPerformedAt, LeadsFromRoot, MayLog, unc
 use crate::blocks::{read_block, read_inode};
 use crate::files::read_bytes;
 use crate::roots::read_root;
-use mb_attrs::{inode_block, set_mode};
+use mb_attrs::set_mode;
 use mb_core::{Core, ReadFault, Ready};
 use mb_edge::Disk;
 use mb_iface::Changes;
 use mb_kinds::{Call, Errno, How, Path, Reply, Seq, Ticket};
+use mb_layout::inode_block;
 use mb_tree::{FsOp, Seat, SessionChange, components, number_of, reads};
 use std::alloc::{AllocError, Global};
 
