@@ -134,7 +134,10 @@ impl<D: Disk> Core<D> {
         ensures strikes { Strikes self.old self.new ticket.now kind nth (H.strokes hook.now) result }
         ensures right { Right D.told D.faults self.new }
     {
-        self.fields.fault(ticket, kind, nth, hook.damage())
+        let Some(damage) = hook.damage() else {
+            unreachable!()
+        };
+        self.fields.fault(ticket, kind, nth, damage)
     }
 
     /// Recovers: the call inside is unwound, the dirty pages are dropped, the open files become those of the last checkpoint,

@@ -1,7 +1,7 @@
-ghost use Rattle.std.specs.Prelude.{◌≡◌, ℕ, Bool, List, Option, IsSome};
+ghost use Rattle.std.specs.Prelude.{◌≡◌, ℕ, Bool, List, Option, option_map};
 ghost use Rattle.mb_edge.specs.declared.crossings.Crossing.{Crossing};
 ghost use Rattle.mb_edge.specs.declared.strokes.Stroke.{Stroke};
-ghost use Rattle.mb_edge.specs.Hooks.{AnswersTest, HasFaultCause, struck_by};
+ghost use Rattle.mb_edge.specs.Hooks.{AnswersTest, HasFaultCause, strokes_at, struck_by};
 
 use crate::crossings::Crossing;
 use crate::strokes::Damage;
@@ -15,9 +15,9 @@ pub enum Word {
     Fault,
 }
 
-/// A fault injector. `struck` is the crossing of its last `cross` where that answered a fault, `strokes` the
-/// damage of that crossing, `test` the crossings at which it faults, where it tells them, and `faults` counts
-/// its faults.
+/// A fault injector. `struck` is the crossing of its last `cross` where that answered a fault and nothing
+/// otherwise, `strokes` the damage of that crossing, `test` the crossings at which it faults, where it tells
+/// them, and `faults` counts its faults.
 pub trait Hook {
     ghost struck: { Self → Option Crossing };
 
@@ -34,8 +34,8 @@ pub trait Hook {
         ensures answer { AnswersTest (test self.old) at.now result }
         ensures cause { HasFaultCause (faults self.old) (faults self.new) result };
 
-    /// The damage of the crossing that was struck last.
-    fn damage(&self) -> &Damage
-        requires { IsSome (struck self.now) }
-        ensures { result.now ≡ strokes self.now };
+    /// The damage of the fault that the last `cross` answered, and `None` exactly where it answered `Go` or
+    /// none was made.
+    fn damage(&self) -> Option<&Damage>
+        ensures lent { option_map (λ damage. damage.now) result ≡ strokes_at (struck self.now) (strokes self.now) };
 }

@@ -4,7 +4,7 @@
 //! error is a claim about the count.
 //!
 //! A fault injector (`Hook`) is asked at each fault point and may strike the call there, with damage to the
-//! memory of the file system.
+//! memory of the file system. `Calm` is the one that never does.
 //!
 //! `specs/Causes.antt` says when a count rose, `specs/Transfers.antt` what a read and a write move, and
 //! `specs/Blocks.antt` what a block read gives and a block written changes in an image. An object may tell
@@ -12,6 +12,7 @@
 //! `specs/Damage.antt` what the strokes of a fault leave.
 #![tactic(auto)]
 
+mod calm;
 mod crossings;
 mod disks;
 mod faults;
@@ -29,6 +30,7 @@ mod strokes;
 mod tests;
 mod transfers;
 
+pub use calm::Calm;
 pub use crossings::{Crossing, Crossings};
 pub use disks::Disk;
 pub use faults::{Failed, NoMemory};

@@ -95,3 +95,20 @@ fn a_crossing_is_counted_by_its_kind(rt: HostRuntime) -> Result<(), Fail> {
     assert_eq!(rt; crossings.next(Kind::Leave).nth, 1);
     Ok(())
 }
+
+#[test]
+fn a_calm_hook_lets_every_call_go_on(rt: HostRuntime) -> Result<(), Fail> {
+    let mut hook = Calm;
+    assert!(rt; hook.damage().is_none());
+    for nth in [1, 2, u32::MAX] {
+        let at = Crossing {
+            caller: 0,
+            ordinal: 1,
+            kind: Kind::Finish,
+            nth,
+        };
+        assert_eq!(rt; hook.cross(&at), Word::Go);
+        assert!(rt; hook.damage().is_none());
+    }
+    Ok(())
+}

@@ -1,5 +1,5 @@
-ghost use Rattle.std.specs.Prelude.{◌≡◌, Some, None, [], IsSome, find, option_map};
-ghost use Rattle.mb_edge.specs.Hooks.{AnswersTest, HasFaultCause, struck_by};
+ghost use Rattle.std.specs.Prelude.{◌≡◌, Some, None, [], find, option_map};
+ghost use Rattle.mb_edge.specs.Hooks.{AnswersTest, HasFaultCause, strokes_at, struck_by};
 ghost use Rattle.mb_edge.specs.declared.hooks.Word.TheVariants.{Fault};
 ghost use Rattle.mb_plan.specs.Fires.{damage_at, fires, rule_fires};
 ghost use Rattle.mb_plan.specs.declared.rules.Rule.{Rule};
@@ -86,10 +86,9 @@ impl<'a> Hook for PlanHook<'a> {
         }
     }
 
-    fn damage(&self) -> &Damage
-        requires { IsSome self.now.struck }
-        ensures { result.now ≡ self.now.strokes }
+    fn damage(&self) -> Option<&Damage>
+        ensures lent { option_map (λ damage. damage.now) result ≡ strokes_at self.now.struck self.now.strokes }
     {
-        self.blow.as_ref().unwrap().damage
+        self.blow.as_ref().map(|blow| blow.damage)
     }
 }

@@ -1,5 +1,3 @@
-ghost use Rattle.std.specs.Prelude.{IsSome};
-
 use crate::{Plan, Rule};
 use mb_edge::{Crossing, Damage, Hook, Stroke, Word};
 use mb_kinds::Kind;
@@ -34,12 +32,11 @@ fn two_rules(alloc: Global) -> Result<Plan, AllocError> {
     Ok(Plan::from_vec(rules))
 }
 
-fn wipes<H: Hook>(hook: &H, byte: u8) -> bool
-    requires { IsSome (H.struck hook.now) }
-{
-    match hook.damage().as_slice() {
-        [Stroke::Wipe(with)] => *with == byte,
-        _ => false,
+/// The byte of the one wipe that is lent.
+fn wiped_with<H: Hook>(hook: &H) -> Option<u8> {
+    match hook.damage()?.as_slice() {
+        [Stroke::Wipe(byte)] => Some(*byte),
+        _ => None,
     }
 }
 
@@ -70,9 +67,20 @@ fn a_rule_fires_at_its_call_its_kind_and_its_numbers(rt: HostRuntime) -> Result<
 fn the_first_rule_that_fires_does_its_damage(rt: HostRuntime) -> Result<(), AllocError> {
     let plan = two_rules(rt.alloc())?;
     let mut hook = plan.hook();
-    if hook.cross(&at(5, Kind::Gather, 4)) == Word::Fault {
-        assert!(rt; wipes(&hook, 7));
-    }
+    assert_eq!(rt; hook.cross(&at(5, Kind::Gather, 4)), Word::Fault);
+    assert_eq!(rt; wiped_with(&hook), Some(7));
+    Ok(())
+}
+
+#[test]
+fn damage_is_lent_after_a_fault_alone(rt: HostRuntime) -> Result<(), AllocError> {
+    let plan = two_rules(rt.alloc())?;
+    let mut hook = plan.hook();
+    assert!(rt; hook.damage().is_none(), "before the first crossing");
+    assert_eq!(rt; hook.cross(&at(5, Kind::Gather, 3)), Word::Fault);
+    assert!(rt; hook.damage().is_some());
+    assert_eq!(rt; hook.cross(&at(5, Kind::Gather, 5)), Word::Go);
+    assert!(rt; hook.damage().is_none(), "after a word to go on");
     Ok(())
 }
 
