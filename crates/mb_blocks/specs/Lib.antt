@@ -1,0 +1,12 @@
+pub mod Conserved
+pub mod FreeLists
+pub mod Growing
+pub mod Inodes
+pub mod Laid
+pub mod Laws
+pub mod Owners
+pub mod Pointing
+pub mod Reached
+pub mod Rules
+pub mod Walk
+pub mod Worked
