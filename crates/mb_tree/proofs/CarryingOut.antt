@@ -1,9 +1,8 @@
 -- Lists of operations carried out: they split, append and lead to one end.
-use Rattle.std.proofs.Common.{List, [], ◌∷◌, ◌++◌, ℕ, zero, suc, ◌+◌, ◌≤◌, ◌≡◌, Option, Some, None, Ok, length, take, drop, refl, ap, sym, ◌∙◌, subst, arith}
-use Rattle.std.specs.Prelude.{slice_get}
+use Rattle.std.proofs.Common.{List, [], ◌∷◌, ◌++◌, ℕ, zero, suc, ◌+◌, ◌≤◌, ◌≡◌, Option, Some, None, take, refl, sym, ◌∙◌, subst, arith}
 use Rattle.mb_tree.specs.Effect.{TreeAndOpens}
 use Rattle.mb_tree.specs.CarriedOut.{PickedOp, IsCarriedOut, AreCarriedOut, FindFewOpens, picked_op}
-use Rattle.mb_tree.specs.HistoryLaws.{CarriedOutSplits, CarriedOutAppends, CarriedOutOnce, GoesOn, CarriedOutGoesOn}
+use Rattle.mb_tree.specs.HistoryLaws.{CarriedOutSplits, CarriedOutAppends, CarriedOutOnce, CarriedOutGoesOn}
 use Rattle.mb_tree.specs.declared.operations.FsOp.{FsOp}
 use Rattle.mb_tree.proofs.Always.{same_ok}
 

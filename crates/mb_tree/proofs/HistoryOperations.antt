@@ -1,5 +1,5 @@
 -- The operations of a legal history of calls are carried out.
-use Rattle.std.proofs.Common.{List, [], ◌∷◌, ◌++◌, ℕ, ◌+◌, ◌*◌, ◌≤◌, ◌≡◌, Bool, true, false, if◌then◌else◌, nat_eq, Option, Some, None, IfSome, Ok, Err, length, option_map, unwrap_or, refl, ap, sym, ◌∙◌, subst, arith, length-set}
+use Rattle.std.proofs.Common.{List, [], ◌∷◌, ◌++◌, ℕ, ◌*◌, ◌≤◌, ◌≡◌, Bool, true, false, if◌then◌else◌, nat_eq, Option, Some, None, IfSome, Ok, Err, length, option_map, unwrap_or, refl, ap, sym, ◌∙◌, subst, arith, length-set}
 use Rattle.std.specs.Prelude.{slice_get, slice_set}
 use Rattle.std.specs.FinMap as fin
 use Rattle.std.specs.List.{AllByRecursion}
@@ -11,14 +11,13 @@ use Rattle.mb_kinds.specs.declared.replies.Reply.{Reply}
 use Rattle.mb_kinds.specs.declared.replies.Reply.TheVariants.{Num, Got, Info, Refused, Restart, Device, Failed}
 use Rattle.mb_tree.specs.Answers.{Answer}
 use Rattle.mb_tree.specs.Sessions.{counts, changed, held_by, held_in, with_change}
-use Rattle.mb_tree.specs.Counting.{sum_below}
 use Rattle.mb_tree.specs.Effect.{TreeAndOpens}
 use Rattle.mb_tree.specs.Rows.{plan}
 use Rattle.mb_tree.specs.Step.{IsFreeNumber, IsLawful, effect_of, or_refused, serve}
 use Rattle.mb_tree.specs.Machines.{IsValid}
 use Rattle.mb_tree.specs.History.{stepped, past_reply, past, after, IsStep, Runs, AreRuns}
 use Rattle.mb_tree.specs.SessionLaws.{IsCall}
-use Rattle.mb_tree.specs.CarriedOut.{PickedOp, AreCarriedOut, FindFewOpens, tree_and_opens, picked_op, planned_op, op_replied, operations}
+use Rattle.mb_tree.specs.CarriedOut.{AreCarriedOut, FindFewOpens, tree_and_opens, picked_op, planned_op, op_replied, operations}
 use Rattle.mb_tree.specs.HistoryLaws.{CallersStay, HistoryCarriesOut, HistoryFindsFewOpens, OperationsAppend, FewOpens}
 use Rattle.mb_tree.specs.declared.machines.Machine.{Machine}
 use Rattle.mb_tree.specs.declared.operations.FsOp.{FsOp}

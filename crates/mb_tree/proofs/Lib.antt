@@ -46,6 +46,7 @@ pub mod SlotsAndLinks
 pub mod Slotted
 pub mod Sums
 pub mod Swaps
+pub mod Sweeping
 pub mod ValidHistories
 pub mod ValidKept
 pub mod ValidStays

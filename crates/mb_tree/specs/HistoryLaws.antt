@@ -1,9 +1,9 @@
 -- Laws of histories and of the operations in them.
-use Rattle.std.specs.Prelude.{List, [], ◌∷◌, ◌++◌, ℕ, ◌+◌, ◌*◌, ◌≤◌, ◌≡◌, ◌⊎◌, Some, length, take, drop, slice_get}
+use Rattle.std.specs.Prelude.{List, ◌++◌, ℕ, ◌+◌, ◌*◌, ◌≤◌, ◌≡◌, Some, length, take, drop, slice_get}
 use Rattle.std.specs.List.{AllByRecursion}
 use Rattle.mb_kinds.specs.declared.entries.Entry.{Entry}
 use Rattle.mb_tree.specs.Sessions.{counts}
-use Rattle.mb_tree.specs.Effect.{TreeAndOpens, less_open, release}
+use Rattle.mb_tree.specs.Effect.{TreeAndOpens}
 use Rattle.mb_tree.specs.Machines.{IsValid}
 use Rattle.mb_tree.specs.History.{after, Legal}
 use Rattle.mb_tree.specs.SessionLaws.{IsCall}
@@ -14,6 +14,10 @@ use Rattle.mb_tree.specs.declared.seats.Seat.{Seat}
 -- the callers stay the same through a history
 abbrev pub CallersStay : Type 0
 CallersStay = (machine : Machine) (history : List Entry) → length (after machine history).seats ≡ length machine.seats
+
+-- n sessions have at most 17 n open files on an inode
+abbrev pub FewOpens : Type 0
+FewOpens = (seats : List Seat) (ino : ℕ) → counts seats ino ≤ 17 * length seats
 
 -- the operations of a legal history of a valid machine lead from its tree and counts to those of the machine after it
 abbrev pub HistoryCarriesOut : Type 0
@@ -52,8 +56,3 @@ pub record GoesOn (held : TreeAndOpens) (made : List PickedOp) (last : TreeAndOp
 abbrev pub CarriedOutGoesOn : Type 0
 CarriedOutGoesOn = (held last now : TreeAndOpens) (made : List PickedOp) (done : ℕ) (op : PickedOp) → AreCarriedOut held made last → AreCarriedOut held (take done made) now
     → slice_get made done ≡ Some op → GoesOn held made last done now op
-
--- n sessions have at most 17 n open files on an inode
-abbrev pub FewOpens : Type 0
-FewOpens = (seats : List Seat) (ino : ℕ) → counts seats ino ≤ 17 * length seats
-

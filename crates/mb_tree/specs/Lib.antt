@@ -24,6 +24,7 @@ pub mod Rows
 pub mod SessionLaws
 pub mod Sessions
 pub mod Step
+pub mod Sweep
 pub mod Trees
 pub mod ValidLaws
 pub mod Views

@@ -1,4 +1,5 @@
 ghost use Rattle.mb_tree.specs.HistoryLaws.{CallersStay, FewOpens, HistoryCarriesOut, HistoryFindsFewOpens, OperationsAppend, CarriedOutSplits, CarriedOutAppends, CarriedOutOnce, CarriedOutGoesOn};
+ghost use Rattle.mb_tree.specs.Sweep.{SweepIsRelease, NothingToSweep};
 
 /// A machine has the same callers after a history.
 pub fn callers_stay()
@@ -44,4 +45,15 @@ pub fn carried_out_once()
 /// Where a list of operations is carried out, the next one can be once those before it were.
 pub fn carried_out_goes_on()
     ensures { CarriedOutGoesOn }
+{}
+
+/// One release of all nameless files, with a table that counts just them, fits and makes the tree that
+/// opening finds.
+pub fn sweep_is_release()
+    ensures { SweepIsRelease }
+{}
+
+/// Where no file is nameless, opening finds the tree as it is.
+pub fn nothing_to_sweep()
+    ensures { NothingToSweep }
 {}

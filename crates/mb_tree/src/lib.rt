@@ -41,7 +41,8 @@ mod volume_laws;
 
 pub use history_laws::{
     callers_stay, carried_out_appends, carried_out_goes_on, carried_out_once, carried_out_splits,
-    few_opens, history_carries_out, history_finds_few_opens, operations_append,
+    few_opens, history_carries_out, history_finds_few_opens, nothing_to_sweep, operations_append,
+    sweep_is_release,
 };
 pub use inodes::{is_directory, is_regular};
 pub use laws::{
