@@ -5,7 +5,7 @@ use Rattle.std.proofs.lemmas.Bool.Decides.{nat_tests}
 use Rattle.std.proofs.lemmas.List.Sums.{sum_by-cons}
 use Rattle.mb_tree.specs.Counting.{sum_below}
 use Rattle.mb_tree.specs.Lookup.{is_used}
-use Rattle.mb_tree.specs.Trees.{Reached, root, down, Leads, leads_to, links_from, late_links_from, links_at, late_links_at}
+use Rattle.mb_tree.specs.Trees.{Reached, root, down, Leads, leads_to, links_from, links_at}
 use Rattle.mb_tree.specs.Volume.{last_inode}
 use Rattle.mb_tree.specs.declared.nodes.PlainSlot.{PlainSlot}
 use Rattle.mb_tree.specs.declared.nodes.Node.{Node}
@@ -21,33 +21,25 @@ use Rattle.mb_rules.proofs.Files.{found_from}
 use Rattle.mb_rules.proofs.FilesAccepted.{found_yes}
 use Rattle.mb_rules.proofs.Reaching.{within_most}
 
-body_links : (ino : ℕ) (body : Body) → links_from ino body ≡ count_by (leads_to ino) (body_slots body)
-body_links ino (Regular size parts) = refl
-body_links ino (Directory slots) = refl
-body_links ino (Special size area) = refl
+body_links : (skip ino : ℕ) (body : Body) → links_from skip ino body ≡ count_by (leads_to ino) (drop skip (body_slots body))
+body_links skip ino (Regular size parts) = ap (count_by (leads_to ino)) (sym (drop-nil skip))
+body_links skip ino (Directory slots) = refl
+body_links skip ino (Special size area) = ap (count_by (leads_to ino)) (sym (drop-nil skip))
 
-body_late : (ino : ℕ) (body : Body) → late_links_from ino body ≡ count_by (leads_to ino) (drop 2 (body_slots body))
-body_late ino (Regular size parts) = refl
-body_late ino (Directory slots) = refl
-body_late ino (Special size area) = refl
+node_links : (skip ino : ℕ) (o : Option Node) → links_at skip ino o ≡ count_by (leads_to ino) (drop skip (node_slots o))
+node_links skip ino None = ap (count_by (leads_to ino)) (sym (drop-nil skip))
+node_links skip ino (Some node) = body_links skip ino node.body
 
-node_links : (ino : ℕ) (o : Option Node) → links_at ino o ≡ count_by (leads_to ino) (node_slots o)
-node_links ino None = refl
-node_links ino (Some node) = body_links ino node.body
-
-node_late : (ino : ℕ) (o : Option Node) → late_links_at ino o ≡ count_by (leads_to ino) (drop 2 (node_slots o))
-node_late ino None = refl
-node_late ino (Some node) = body_late ino node.body
+-- the links of the tree are those of the slots that the bytes show, with as many slots skipped
+links_shown : (skip : ℕ) (blocks : ℕ → List ℕ) (tree : Tree) → ShowsSlots blocks tree → (ino : ℕ)
+    → links_past skip tree ino ≡ sum_below (λ dir. count_by (leads_to ino) (drop skip (slots_at blocks dir))) (last_inode blocks + 1)
+links_shown skip blocks tree shows ino =
+    ap (sum_below (λ dir. links_at skip ino (fin.get tree.nodes dir))) (ap (λ n. n + 1) shows.last)
+      ∙ sum_same (λ dir. count_by (leads_to ino) (drop skip (slots_at blocks dir))) (λ dir. links_at skip ino (fin.get tree.nodes dir)) (last_inode blocks + 1)
+      (λ dir small. node_links skip ino (fin.get tree.nodes dir) ∙ ap (λ slots. count_by (leads_to ino) (drop skip slots)) (shows.slots dir))
 
 pub counts_links : CountsLinks
-counts_links blocks tree shows ino = (
-  ap (sum_below (λ dir. links_at ino (fin.get tree.nodes dir))) (ap (λ n. n + 1) shows.last)
-      ∙ sum_same (λ dir. count_by (leads_to ino) (slots_at blocks dir)) (λ dir. links_at ino (fin.get tree.nodes dir)) (last_inode blocks + 1)
-      (λ dir small. node_links ino (fin.get tree.nodes dir) ∙ ap (count_by (leads_to ino)) (shows.slots dir)),
-  ap (sum_below (λ dir. late_links_at ino (fin.get tree.nodes dir))) (ap (λ n. n + 1) shows.last)
-      ∙ sum_same (late_from blocks ino) (λ dir. late_links_at ino (fin.get tree.nodes dir)) (last_inode blocks + 1)
-      (λ dir small. node_late ino (fin.get tree.nodes dir) ∙ ap (λ slots. count_by (leads_to ino) (drop 2 slots)) (shows.slots dir)),
-)
+counts_links blocks tree shows ino = (links_shown 0 blocks tree shows ino, links_shown 2 blocks tree shows ino)
 
 -- a place among those that are counted
 pub record Counted (p : PlainSlot → Bool) (xs : List PlainSlot) : Type 0 where

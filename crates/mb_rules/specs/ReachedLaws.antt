@@ -1,7 +1,7 @@
 -- What a walk of so many steps reaches is what the root leads to.
 use Rattle.std.specs.Prelude.{List, [], ℕ, ◌≤◌, ◌<◌, ◌≡◌, ◌↔◌, true, Option, Some, None}
 use Rattle.std.specs.FinMap as fin
-use Rattle.mb_tree.specs.Trees.{Reached, links, late_links}
+use Rattle.mb_tree.specs.Trees.{Reached, links, links_past}
 use Rattle.mb_tree.specs.Volume.{last_inode}
 use Rattle.mb_tree.specs.declared.nodes.PlainSlot.{PlainSlot}
 use Rattle.mb_tree.specs.declared.nodes.Node.{Node}
@@ -26,7 +26,7 @@ pub record ShowsSlots (blocks : ℕ → List ℕ) (tree : Tree) : Type 0 where
   pub slots : (ino : ℕ) → node_slots (fin.get tree.nodes ino) ≡ slots_at blocks ino
 
 abbrev pub CountsLinks : Type 0
-CountsLinks = (blocks : ℕ → List ℕ) (tree : Tree) → ShowsSlots blocks tree → (ino : ℕ) → (links tree ino ≡ all_to blocks ino) × (late_links tree ino ≡ late_to blocks ino)
+CountsLinks = (blocks : ℕ → List ℕ) (tree : Tree) → ShowsSlots blocks tree → (ino : ℕ) → (links tree ino ≡ all_to blocks ino) × (links_past 2 tree ino ≡ late_to blocks ino)
 
 -- so many steps as there are inodes are enough
 abbrev pub ReachesAll : Type 0
