@@ -25,7 +25,7 @@ use Rattle.mb_tree.specs.declared.trees.Tree.{Tree}
 use Rattle.mb_tree.specs.declared.operations.FsOp.TheVariants.{Empty, Put, SetMode, SetOwner, SetTimes, Hold}
 use Rattle.mb_tree.proofs.FiniteMaps.{get_here, get_there, one_or_not}
 use Rattle.mb_tree.proofs.Always.{then_ok, same_ok}
-use Rattle.mb_tree.proofs.SlotsAndLinks.{slots_and_links_kept}
+use Rattle.mb_tree.proofs.SlotsAndLinks.{itself, slots_and_links_kept}
 use Rattle.mb_tree.proofs.Cheaper.{after_op}
 
 -- ---- bodies
@@ -91,18 +91,14 @@ kind_same old new (Special size area) e h = ap (λ k. k == 0x2000 || k == 0x6000
 -- ---- trees
 
 module _ (tree : Tree) (sound : IsSound tree) where
-  itself : (ino : ℕ) (o : Option Node) → fin.get tree.nodes ino ≡ o → StaysWithSlotsAndLinks o o
-  itself ino None e = tt
-  itself ino (Some x) e = record { nlink = refl; slots = refl; kind = sound.kinds ino x e; size = sound.sizes ino x e }
-
   changed : (ino : ℕ) (f : Node → Node) → ((x : Node) → fin.get tree.nodes ino ≡ Some x → KeepsSlotsAndLinks x (f x)) → (q : ℕ) → StaysWithSlotsAndLinks (fin.get tree.nodes q) (fin.get (changed_at tree.nodes ino f) q)
   changed ino f each q =
       elim (fin.get tree.nodes ino) as (λ (o : Option Node). fin.get tree.nodes ino ≡ o → StaysWithSlotsAndLinks (fin.get tree.nodes q) (fin.get (unwrap_or (option_map (λ x. fin.insert tree.nodes ino (f x)) o) tree.nodes) q)) [
-        | None ↦ λ e. itself q (fin.get tree.nodes q) refl
+        | None ↦ λ e. itself tree sound q (fin.get tree.nodes q) refl
         | Some x ↦ λ e. elim (one_or_not q ino) [
           | inl is ↦ subst (λ (o : Option Node). StaysWithSlotsAndLinks (fin.get tree.nodes q) o) (sym (ap (fin.get (fin.insert tree.nodes ino (f x))) is ∙ get_here tree.nodes ino (f x)))
               (subst (λ (o : Option Node). StaysWithSlotsAndLinks o (Some (f x))) (sym (ap (fin.get tree.nodes) is ∙ e)) (each x e))
-          | inr apart ↦ subst (λ (o : Option Node). StaysWithSlotsAndLinks (fin.get tree.nodes q) o) (sym (get_there tree.nodes ino (f x) q apart)) (itself q (fin.get tree.nodes q) refl)
+          | inr apart ↦ subst (λ (o : Option Node). StaysWithSlotsAndLinks (fin.get tree.nodes q) o) (sym (get_there tree.nodes ino (f x) q apart)) (itself tree sound q (fin.get tree.nodes q) refl)
         ]
       ] refl
 

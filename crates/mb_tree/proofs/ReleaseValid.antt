@@ -21,7 +21,8 @@ use Rattle.mb_tree.specs.declared.seats.PlainFile.{PlainFile}
 use Rattle.mb_tree.specs.declared.seats.Seat.{Seat}
 use Rattle.mb_tree.specs.declared.trees.Tree.{Tree}
 use Rattle.mb_tree.proofs.Always.{same_ok}
-use Rattle.mb_tree.proofs.Dropped.{release_kept, released, no_directory}
+use Rattle.mb_tree.proofs.Dropped.{release_kept, released}
+use Rattle.mb_tree.proofs.SlotsAndLinks.{no_directory}
 use Rattle.mb_tree.proofs.Served.{served}
 use Rattle.mb_tree.proofs.Sums.{sum_term}
 use Rattle.mb_tree.proofs.InodeKinds.{kind_by_get}

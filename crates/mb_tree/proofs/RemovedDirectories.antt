@@ -11,7 +11,7 @@ use Rattle.mb_tree.specs.Inodes.{slots_of}
 use Rattle.mb_tree.specs.Lookup.{is_used, used_in}
 use Rattle.mb_tree.specs.Rows.{is_dots}
 use Rattle.mb_tree.specs.Effect.{without_link, remove_dir, dot, dot_dot}
-use Rattle.mb_tree.specs.Trees.{IsThere, IsUsedAt, AreSlots, HasSize, leads_to, links_from, links_at, links_past, links, Leads, HasParent, IsRoot, Each, IsSound}
+use Rattle.mb_tree.specs.Trees.{IsThere, IsUsedAt, AreSlots, HasSize, leads_to, links_from, links_at, links_past, links, Leads, HasParent, Each, IsSound}
 use Rattle.mb_tree.specs.NameLaws.{RemoveDirKept}
 use Rattle.mb_tree.specs.declared.nodes.PlainSlot.{PlainSlot}
 use Rattle.mb_tree.specs.declared.nodes.Node.{Node}
@@ -25,7 +25,7 @@ use Rattle.mb_tree.proofs.Cheaper.{after_op}
 use Rattle.mb_tree.proofs.Sums.{sum_gone, sum_term, sum_terms}
 use Rattle.mb_tree.proofs.SlotLists.{weight, count_late, count_some, count_none, weight_one}
 use Rattle.mb_tree.proofs.Rewritten.{IsFound, is_found, number_by}
-use Rattle.mb_tree.proofs.Shapes.{IsShaped, IsBarren, shape_of, sound_of, reached_stays, same_node}
+use Rattle.mb_tree.proofs.Shapes.{IsShaped, IsBarren, shape_of, sound_of, slots_stay, carried, same_node}
 use Rattle.mb_tree.proofs.Entering.{used_number, leads_itself}
 use Rattle.mb_tree.proofs.NewNames.{changed_is, sound_at, not_one}
 use Rattle.mb_tree.proofs.Leaving.{CanBeEmptied, emptied_body, shape_emptied, links_emptied, links_kept}
@@ -118,38 +118,21 @@ module _ (tree : Tree) (ino : ℕ) (w : Node) (own : List PlainSlot) (shape : Is
       let long : 2 ≤ length own = subst HasSize body (shape.sizes ino w has) in
       omega (arith, count_late (leads_to q) own long, own_late q some, links_less 0 q)
 
-  slots_gone : (dir : ℕ) (node : Node) (slots : List PlainSlot) → dir ≢ ino → fin.get tree.nodes dir ≡ Some node → node.body ≡ Directory slots → AreSlots less.nodes dir slots
-  slots_gone dir node slots apart there is =
-      let a = shape.slots dir node slots there is in
-      record {
-        first = a.first;
-        parent = a.parent;
-        second = a.second;
-        upward = a.upward;
-        no_dots = a.no_dots;
-        leads = λ at slot u. let l = a.leads at slot u in (l.0, there_gone slot.ino (apart_led dir at node slots slot apart there is u) l.1);
-        names = a.names;
-        distinct = a.distinct;
-      }
-
-  root_gone : IsRoot less
-  root_gone =
-      let r = shape.root in
-      record { node = r.node; slots = r.slots; has = gone_there tree.nodes ino 2 (λ e. under (sym e)) ∙ r.has; body = r.body; upward = r.upward; top = late_gone 2 (omega arith) ∙ r.top }
-
   pub shape_gone : IsShaped less ino
-  shape_gone = record {
+  shape_gone = carried tree less.nodes ino shape (record {
     numbers = λ q node there. shape.numbers q node (was q node there).1;
     kinds = λ q node there. shape.kinds q node (was q node there).1;
     sizes = λ q node there. shape.sizes q node (was q node there).1;
-    root = root_gone;
-    slots = λ q node slots there is. let old = was q node there in slots_gone q node slots old.0 old.1 is;
-    parents = λ q node slots there is below apart.
+    slots = λ q node slots there is.
         let old = was q node there in
-        let some : q ≢ 0 = (λ e. absurd (omega (arith, e, (shape.numbers q node old.1).0))) in
-        let p = shape.parents q node slots old.1 is below apart in
-        record { one = late_gone q some ∙ p.one; parent = p.parent; at = p.at; upward = p.upward; entry = leads_gone p.parent p.at q p.entry; reached = reached_stays tree.nodes less.nodes leads_gone q p.reached };
-  }
+        slots_stay tree.nodes less.nodes q slots (λ at slot u. there_gone slot.ino (apart_led q at node slots slot old.0 old.1 is u)) (shape.slots q node slots old.1 is);
+    top = λ node slots there is. record { node = node; slots = slots; has = gone_there tree.nodes ino 2 (λ e. under (sym e)) ∙ there; body = is; is = refl };
+    was = λ q node slots there is apart. record { node = node; slots = slots; has = (was q node there).1; body = is; is = refl };
+    leads = λ dir at q apart. leads_gone dir at q;
+    late = λ q some apart. late_gone q some;
+    under = under;
+    barren = barren;
+  })
 
 -- ---- the operation
 

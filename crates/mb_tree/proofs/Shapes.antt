@@ -3,7 +3,8 @@ use Rattle.std.proofs.Common.{◌≡◌, ◌≢◌, inl, inr, ℕ, ◌+◌, ◌�
 use Rattle.std.specs.FinMap as fin
 use Rattle.mb_tree.specs.Maps.{Numbered}
 use Rattle.mb_tree.specs.Cost.{cost}
-use Rattle.mb_tree.specs.Trees.{IsThere, HasKind, HasSize, AreSlots, links_from, links_at, links_past, links, Leads, Reached, HasParent, IsRoot, Each, EachDirectory, IsSound}
+use Rattle.std.specs.Prelude.{slice_get}
+use Rattle.mb_tree.specs.Trees.{IsThere, IsUsedAt, HasKind, HasSize, AreSlots, links_from, links_at, links_past, links, Leads, Reached, HasParent, IsRoot, Each, EachDirectory, IsSound}
 use Rattle.mb_tree.specs.Trees.Reached.{root, down}
 use Rattle.mb_tree.specs.declared.nodes.PlainSlot.{PlainSlot}
 use Rattle.mb_tree.specs.declared.nodes.Node.{Node}
@@ -62,22 +63,65 @@ sound_of tree free shape led counted room = record {
 }
 
 -- the slots of a directory whose targets stay
-pub slots_stay : (old new : Numbered Node) (ino : ℕ) (slots : List PlainSlot) → ((q : ℕ) → IsThere old q → IsThere new q) → AreSlots old ino slots → AreSlots new ino slots
+pub slots_stay : (old new : Numbered Node) (ino : ℕ) (slots : List PlainSlot) → ((at : ℕ) (slot : PlainSlot) → IsUsedAt slots at slot → IsThere old slot.ino → IsThere new slot.ino)
+    → AreSlots old ino slots → AreSlots new ino slots
 slots_stay old new ino slots there h = record {
   first = h.first;
   parent = h.parent;
   second = h.second;
   upward = h.upward;
   no_dots = h.no_dots;
-  leads = λ at slot u. let l = h.leads at slot u in (l.0, there slot.ino l.1);
+  leads = λ at slot u. let l = h.leads at slot u in (l.0, there at slot u l.1);
   names = h.names;
   distinct = h.distinct;
 }
 
--- what the root leads to, where all that leads stays
-pub reached_stays : (old new : Numbered Node) → ((dir at q : ℕ) → Leads old dir at q → Leads new dir at q) → (q : ℕ) → Reached old q → Reached new q
-reached_stays old new leads q root = root
-reached_stays old new leads q (down dir at r l) = down dir at (reached_stays old new leads dir r) (leads dir at _ l)
+-- ---- a shape carried over to other nodes
+
+-- a directory whose second slot is that one
+pub record HasSecond (nodes : Numbered Node) (ino : ℕ) (second : Option PlainSlot) : Type 0 where
+  pub node : Node
+  pub slots : List PlainSlot
+  pub has : fin.get nodes ino ≡ Some node
+  pub body : node.body ≡ Directory slots
+  pub is : slice_get slots 1 ≡ second
+
+-- nodes that are well made, each by itself, and that lead to the directories other than free as the tree's do
+pub record CanBeCarried (tree : Tree) (nodes : Numbered Node) (free : ℕ) : Type 0 where
+  pub numbers : Each (record tree { nodes = nodes }) (λ ino node. (1 ≤ ino) × (ino ≤ tree.last))
+  pub kinds : Each (record tree { nodes = nodes }) (λ ino node. HasKind node.mode node.body)
+  pub sizes : Each (record tree { nodes = nodes }) (λ ino node. HasSize node.body)
+  pub slots : EachDirectory (record tree { nodes = nodes }) (AreSlots nodes)
+  -- the root is a directory yet, and each directory was one, with the same `..`
+  pub top : (node : Node) (slots : List PlainSlot) → fin.get tree.nodes 2 ≡ Some node → node.body ≡ Directory slots → HasSecond nodes 2 (slice_get slots 1)
+  pub was : EachDirectory (record tree { nodes = nodes }) (λ ino slots. ino ≢ free → HasSecond tree.nodes ino (slice_get slots 1))
+  -- the same late slots lead to what is not free
+  pub leads : (dir at q : ℕ) → q ≢ free → Leads tree.nodes dir at q → Leads nodes dir at q
+  pub late : (q : ℕ) → q ≢ 0 → q ≢ free → links_past 2 (record tree { nodes = nodes }) q ≡ links_past 2 tree q
+  pub under : free ≢ 2
+  pub barren : IsBarren tree.nodes free
+
+module _ (tree : Tree) (nodes : Numbered Node) (free : ℕ) (shape : IsShaped tree free) (h : CanBeCarried tree nodes free) where
+  reached_carried : (q : ℕ) → q ≢ free → Reached tree.nodes q → Reached nodes q
+  reached_carried q other root = root
+  reached_carried q other (down dir at r l) = down dir at (reached_carried dir (λ e. h.barren at q (subst (λ d. Leads tree.nodes d at q) e l)) r) (h.leads dir at q other l)
+
+  pub carried : IsShaped (record tree { nodes = nodes }) free
+  carried = record {
+    numbers = h.numbers;
+    kinds = h.kinds;
+    sizes = h.sizes;
+    root =
+        let r = shape.root in
+        let top = h.top r.node r.slots r.has r.body in
+        record { node = top.node; slots = top.slots; has = top.has; body = top.body; upward = top.is ∙ r.upward; top = h.late 2 (omega arith) (λ e. h.under (sym e)) ∙ r.top };
+    slots = h.slots;
+    parents = λ ino node slots has body below apart.
+        let some : ino ≢ 0 = (λ e. absurd (omega (arith, e, (h.numbers ino node has).0))) in
+        let was = h.was ino node slots has body apart in
+        let old = shape.parents ino was.node was.slots was.has was.body below apart in
+        record { one = h.late ino some apart ∙ old.one; parent = old.parent; at = old.at; upward = sym was.is ∙ old.upward; entry = h.leads old.parent old.at ino apart old.entry; reached = reached_carried ino apart old.reached };
+  }
 
 -- what is no directory leads nowhere
 pub no_links_leaf : (skip q : ℕ) (body : Body) → ((slots : List PlainSlot) → body ≡ Directory slots → ⊥) → links_from skip q body ≡ 0
@@ -141,20 +185,17 @@ module _ (tree : Tree) (ino : ℕ) (x : Node) (shape : IsShaped tree ino) (h : C
     | inr apart ↦ all q node (sym (get_there tree.nodes ino x q apart) ∙ has)
   ]
 
-  root_put : IsRoot next
-  root_put =
-      let r = shape.root in
-      record { node = r.node; slots = r.slots; has = get_there tree.nodes ino x 2 (λ e. h.under (sym e)) ∙ r.has; body = r.body; upward = r.upward; top = late_put 2 ∙ r.top }
-
   pub shape_put : IsShaped next ino
-  shape_put = record {
+  shape_put = carried tree next.nodes ino shape (record {
     numbers = each_put (λ q node. (1 ≤ q) × (q ≤ tree.last)) (h.low, h.high) shape.numbers;
     kinds = each_put (λ q node. HasKind node.mode node.body) h.kind shape.kinds;
     sizes = each_put (λ q node. HasSize node.body) h.size shape.sizes;
-    root = root_put;
     slots = λ q node slots has. each_put (λ q node. node.body ≡ Directory slots → AreSlots next.nodes q slots) (h.slots slots)
-        (λ q node has body. slots_stay tree.nodes next.nodes q slots there_put (shape.slots q node slots has body)) q node has;
-    parents = λ q node slots has body under apart.
-        let old = shape.parents q node slots (sym (get_there tree.nodes ino x q apart) ∙ has) body under apart in
-        record { one = late_put q ∙ old.one; parent = old.parent; at = old.at; upward = old.upward; entry = leads_put old.parent old.at q old.entry; reached = reached_stays tree.nodes next.nodes leads_put q old.reached };
-  }
+        (λ q node has body. slots_stay tree.nodes next.nodes q slots (λ at slot u. there_put slot.ino) (shape.slots q node slots has body)) q node has;
+    top = λ node slots has body. record { node = node; slots = slots; has = get_there tree.nodes ino x 2 (λ e. h.under (sym e)) ∙ has; body = body; is = refl };
+    was = λ q node slots has body apart. record { node = node; slots = slots; has = sym (get_there tree.nodes ino x q apart) ∙ has; body = body; is = refl };
+    leads = λ dir at q other. leads_put dir at q;
+    late = λ q some other. late_put q;
+    under = h.under;
+    barren = barren_leaf tree.nodes ino h.leaf;
+  })

@@ -7,8 +7,7 @@ use Rattle.mb_tree.specs.Maps.{Numbered}
 use Rattle.mb_tree.specs.Inodes.{is_directory}
 use Rattle.mb_tree.specs.Lookup.{is_used}
 use Rattle.mb_tree.specs.Rows.{is_dots}
-use Rattle.mb_tree.specs.Trees.{IsThere, HasKind, HasSize, IsName, IsUsedAt, AreSlots, leads_to, links_from, links_at, links_past, Leads, Reached, HasParent, IsRoot, Each}
-use Rattle.mb_tree.specs.Trees.Reached.{root, down}
+use Rattle.mb_tree.specs.Trees.{IsThere, HasKind, HasSize, IsName, IsUsedAt, AreSlots, leads_to, links_from, links_at, links_past, Leads, Each}
 use Rattle.mb_tree.specs.declared.nodes.PlainSlot.{PlainSlot}
 use Rattle.mb_tree.specs.declared.nodes.Node.{Node}
 use Rattle.mb_tree.specs.declared.nodes.Body.{Body}
@@ -18,7 +17,7 @@ use Rattle.mb_tree.proofs.FiniteMaps.{get_here, get_there, one_or_not}
 use Rattle.mb_tree.proofs.Sums.{sum_put}
 use Rattle.mb_tree.proofs.SlotLists.{weight}
 use Rattle.mb_tree.proofs.Rewritten.{IsRewritten, counts_past}
-use Rattle.mb_tree.proofs.Shapes.{IsShaped, IsBarren, slots_stay}
+use Rattle.mb_tree.proofs.Shapes.{IsShaped, IsBarren, HasSecond, slots_stay, carried}
 
 -- what a used slot asks of the slots beside it
 pub record MayStand (nodes : Numbered Node) (old : List PlainSlot) (at : ℕ) (slot : PlainSlot) : Type 0 where
@@ -106,13 +105,6 @@ module _ (tree : Tree) (dir target : ℕ) (x y : Node) (old new : List PlainSlot
     | inr apart ↦ record { node = l.node; slots = l.slots; slot = l.slot; has = get_there tree.nodes dir y d apart ∙ l.has; body = l.body; late = l.late; entry = l.entry; leads = l.leads }
   ]
 
-  not_target : (d k q : ℕ) → Leads tree.nodes d k q → d ≢ target
-  not_target d k q l e = h.barren k q (subst (λ d. Leads tree.nodes d k q) e l)
-
-  pub reached_slotted : (q : ℕ) → q ≢ target → Reached tree.nodes q → Reached next.nodes q
-  reached_slotted q other root = root
-  reached_slotted q other (down d k r l) = down d k (reached_slotted d (not_target d k _ l) r) (leads_slotted d k _ other l)
-
   -- a used slot of the changed directory is the new one, or stood before
   stood : (k : ℕ) (s : PlainSlot) → IsUsedAt new k s → ((k ≡ at) × (s ≡ slot) × (is_used slot ≡ true)) ⊎ ((k ≢ at) × IsUsedAt old k s)
   stood k s u = elim (one_or_not k at) [
@@ -158,43 +150,34 @@ module _ (tree : Tree) (dir target : ℕ) (x y : Node) (old new : List PlainSlot
         distinct = λ k j s twin u v e. one_name k j s twin a u v e;
       }
 
-  some_number : (q : ℕ) (node : Node) → fin.get next.nodes q ≡ Some node → q ≢ 0
-  some_number q node has e = absurd (omega (arith, e, (each_slotted (λ q node. (1 ≤ q) × (q ≤ tree.last)) (shape.numbers dir x h.has) shape.numbers q node has).0))
+  -- the root's `..` is as it was, and so is each directory's
+  top_slotted : (node : Node) (slots : List PlainSlot) → fin.get tree.nodes 2 ≡ Some node → node.body ≡ Directory slots → HasSecond next.nodes 2 (slice_get slots 1)
+  top_slotted node slots has body = elim (one_or_not 2 dir) [
+    | inl is ↦
+        let node_is : x ≡ node = let e : ◌≡◌ {A = Option Node} (Some x) (Some node) = sym h.has ∙ sym (ap (fin.get tree.nodes) is) ∙ has in cc in
+        let slots_are : slots ≡ old = same_slots slots old (sym body ∙ ap (λ (n : Node). n.body) (sym node_is) ∙ h.before) in
+        record { node = y; slots = new; has = ap (fin.get next.nodes) is ∙ get_here tree.nodes dir y; body = h.after; is = front 1 (omega arith) ∙ ap (λ s. slice_get s 1) (sym slots_are) }
+    | inr apart ↦ record { node = node; slots = slots; has = get_there tree.nodes dir y 2 apart ∙ has; body = body; is = refl }
+  ]
 
-  root_slotted : IsRoot next
-  root_slotted =
-      let r = shape.root in
-      let top : links_past 2 next 2 ≡ 0 = links_others 2 2 (omega arith) (omega arith) (λ e. h.under (sym e)) ∙ r.top in
-      elim (one_or_not 2 dir) [
-        | inl is ↦
-            let node_is : x ≡ r.node = let e : ◌≡◌ {A = Option Node} (Some x) (Some r.node) = sym h.has ∙ sym (ap (fin.get tree.nodes) is) ∙ r.has in cc in
-            let slots_are : r.slots ≡ old = same_slots r.slots old (sym r.body ∙ ap (λ (n : Node). n.body) (sym node_is) ∙ h.before) in
-            record { node = y; slots = new; has = ap (fin.get next.nodes) is ∙ get_here tree.nodes dir y; body = h.after; upward = front 1 (omega arith) ∙ ap (λ s. slice_get s 1) (sym slots_are) ∙ r.upward; top = top }
-        | inr apart ↦ record { node = r.node; slots = r.slots; has = get_there tree.nodes dir y 2 apart ∙ r.has; body = r.body; upward = r.upward; top = top }
-      ]
-
-  -- a directory's `..` is as it was
-  parent_slotted : (q : ℕ) (slots now : List PlainSlot) → slice_get now 1 ≡ slice_get slots 1 → q ≢ 0 → q ≢ target → HasParent tree q slots → HasParent next q now
-  parent_slotted q slots now e some apart old = record {
-    one = links_others 2 q (omega arith) some apart ∙ old.one;
-    parent = old.parent;
-    at = old.at;
-    upward = e ∙ old.upward;
-    entry = leads_slotted old.parent old.at q apart old.entry;
-    reached = reached_slotted q apart old.reached;
-  }
+  was_slotted : (q : ℕ) (node : Node) (slots : List PlainSlot) → fin.get next.nodes q ≡ Some node → node.body ≡ Directory slots → HasSecond tree.nodes q (slice_get slots 1)
+  was_slotted q node slots has = each_slotted (λ q node. node.body ≡ Directory slots → HasSecond tree.nodes q (slice_get slots 1))
+      (λ body. record { node = x; slots = old; has = h.has; body = h.before; is = sym (front 1 (omega arith)) ∙ ap (λ s. slice_get s 1) (same_slots new slots (sym h.after ∙ body)) })
+      (λ q node has body. record { node = node; slots = slots; has = has; body = body; is = refl }) q node has
 
   pub shape_slotted : IsShaped next target
-  shape_slotted = record {
+  shape_slotted = carried tree next.nodes target shape (record {
     numbers = each_slotted (λ q node. (1 ≤ q) × (q ≤ tree.last)) (shape.numbers dir x h.has) shape.numbers;
     kinds = each_slotted (λ q node. HasKind node.mode node.body)
         (subst (HasKind y.mode) (sym h.after) (subst (λ mode. is_directory mode ≡ true) (sym h.mode) (subst (HasKind x.mode) h.before (shape.kinds dir x h.has)))) shape.kinds;
     sizes = each_slotted (λ q node. HasSize node.body) (subst HasSize (sym h.after) (omega (arith, h.rewritten.long, h.rewritten.grown))) shape.sizes;
-    root = root_slotted;
     slots = λ q node slots has. each_slotted (λ q node. node.body ≡ Directory slots → AreSlots next.nodes q slots)
         (λ body. subst (AreSlots next.nodes dir) (same_slots new slots (sym h.after ∙ body)) slots_slotted)
-        (λ q node has body. slots_stay tree.nodes next.nodes q slots there_slotted (shape.slots q node slots has body)) q node has;
-    parents = λ q node slots has. each_slotted (λ q node. q ≢ 0 → node.body ≡ Directory slots → q ≢ 2 → q ≢ target → HasParent next q slots)
-        (λ some body under apart. parent_slotted dir old slots (ap (λ s. slice_get s 1) (sym (same_slots new slots (sym h.after ∙ body))) ∙ front 1 (omega arith)) some apart (shape.parents dir x old h.has h.before under apart))
-        (λ q node has some body under apart. parent_slotted q slots slots refl some apart (shape.parents q node slots has body under apart)) q node has (some_number q node has);
-  }
+        (λ q node has body. slots_stay tree.nodes next.nodes q slots (λ at slot u. there_slotted slot.ino) (shape.slots q node slots has body)) q node has;
+    top = top_slotted;
+    was = λ q node slots has body apart. was_slotted q node slots has body;
+    leads = leads_slotted;
+    late = λ q some apart. links_others 2 q (omega arith) some apart;
+    under = h.under;
+    barren = h.barren;
+  })
