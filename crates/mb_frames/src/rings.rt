@@ -5,9 +5,9 @@ ghost use Rattle.mb_frames.specs.Pages.{page, ring_at, with_ring, standing, stan
 
 use crate::boxes::boxes;
 use crate::links::Links;
-use crate::no_memory::NoMemory;
 use crate::node::NodePtr;
 use crate::token::Token;
+use mb_kinds::NoMemory;
 use std::alloc::Global;
 use std::marker::Model;
 
