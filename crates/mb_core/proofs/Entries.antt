@@ -1,6 +1,6 @@
 -- How a call goes inside.
 use Rattle.std.proofs.Common.{[], ◌∷◌, ◌++◌, ◌≡◌, Some, true, Ok, sym, ap, ◌∙◌}
-use Rattle.mb_edge.specs.declared.faults.NoMemory.{NoMemory}
+use Rattle.mb_kinds.specs.declared.no_memory.NoMemory.{NoMemory}
 use Rattle.mb_kinds.specs.declared.calls.Call.{Call}
 use Rattle.mb_kinds.specs.declared.entries.Flight.{Flight}
 use Rattle.mb_kinds.specs.declared.faults.Ticket.{Ticket}

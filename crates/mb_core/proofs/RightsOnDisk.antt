@@ -1,7 +1,7 @@
 -- Each event that touches the disk keeps a core in order: reading, a checkpoint, its write-back, and a recovery.
 use Rattle.std.proofs.Common.{List, [], ◌∷◌, ◌++◌, ℕ, ◌≤◌, ◌<◌, ◌≡◌, Bool, true, false, Option, None, Some, Ok, Err, Result, length, if◌then◌else◌, refl, sym, ap, subst, ◌∙◌, arith, length-append}
 use Rattle.std.specs.Prelude.{IsSome, OnOk, OnErr, IsErrOf}
-use Rattle.mb_edge.specs.declared.faults.NoMemory.{NoMemory}
+use Rattle.mb_kinds.specs.declared.no_memory.NoMemory.{NoMemory}
 use Rattle.mb_core.proofs.Rights.{right_room}
 use Rattle.mb_kinds.specs.Image.{Image}
 use Rattle.mb_kinds.specs.declared.entries.Flight.{Flight}

@@ -1,4 +1,3 @@
-use std::alloc::{AllocError, AllocFailed};
 use std::error::Error;
 use std::fmt;
 
@@ -14,27 +13,3 @@ impl fmt::Display for Failed {
 }
 
 impl Error for Failed {}
-
-/// There was no memory. It may come wherever memory is taken, and nothing was made then.
-#[derive(Clone, Copy, Debug, PartialEq, Eq, Drop)]
-pub struct NoMemory;
-
-impl fmt::Display for NoMemory {
-    fn fmt<W: fmt::Write>(&self, f: &mut fmt::Formatter<W>) -> fmt::Result {
-        f.write_str("no memory")
-    }
-}
-
-impl Error for NoMemory {}
-
-impl From<AllocError> for NoMemory {
-    fn from(_error: AllocError) -> NoMemory {
-        NoMemory
-    }
-}
-
-impl<T: Drop> From<AllocFailed<T>> for NoMemory {
-    fn from(_error: AllocFailed<T>) -> NoMemory {
-        NoMemory
-    }
-}

@@ -5,10 +5,11 @@ ghost use Rattle.mb_edge.specs.Causes.{HasCause};
 ghost use Rattle.mb_edge.specs.Schedule.{after_call, is_due};
 
 use crate::disks::Disk;
-use crate::faults::{Failed, NoMemory};
+use crate::faults::Failed;
 use crate::lists::{Bytes, Fails};
 use crate::schedules::Schedule;
 use crate::stores::Store;
+use mb_kinds::NoMemory;
 use std::alloc::Global;
 use std::marker::Model;
 

@@ -4,10 +4,11 @@ ghost use Rattle.mb_edge.specs.Causes.{HasCause, Rose};
 ghost use Rattle.mb_edge.specs.Schedule.{after_call, is_due};
 ghost use Rattle.mb_edge.specs.Transfers.{Writes};
 
-use crate::faults::{Failed, NoMemory};
+use crate::faults::Failed;
 use crate::lists::Fails;
 use crate::schedules::Schedule;
 use crate::sinks::Sink;
+use mb_kinds::NoMemory;
 use std::alloc::Global;
 use std::marker::Model;
 

@@ -2,8 +2,8 @@ ghost use Rattle.std.specs.Prelude.{◌≡◌, ◌+◌, ◌*◌, ◌/◌, ◌<�
 ghost use Rattle.mb_kinds.specs.Image.{put};
 ghost use Rattle.mb_edge.specs.Blocks.{image_of, written};
 
-use crate::faults::NoMemory;
 use crate::lists::Bytes;
+use mb_kinds::NoMemory;
 use std::alloc::Global;
 use std::marker::Model;
 

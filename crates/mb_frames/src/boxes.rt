@@ -1,8 +1,8 @@
 //! Memory for nodes, before any is linked.
 ghost use Rattle.std.specs.Prelude.{◌≡◌, IfOk, vec_len};
 
-use crate::no_memory::NoMemory;
 use crate::node::Node;
+use mb_kinds::NoMemory;
 use std::alloc::Global;
 
 /// So many blocks, each for a node.

@@ -9,7 +9,6 @@
 
 mod boxes;
 mod links;
-mod no_memory;
 mod node;
 mod nodes;
 mod rings;
@@ -17,6 +16,6 @@ mod rings;
 mod tests;
 mod token;
 
-pub use no_memory::NoMemory;
+pub use mb_kinds::NoMemory;
 pub use rings::Rings;
 pub use token::Token;

@@ -1,13 +1,13 @@
 //! Rings of pages, linked by raw pointers.
-ghost use Rattle.std.specs.Prelude.{◌≡◌, ◌≢◌, ◌+◌, ◌<◌, ◌≤◌, [], ◌∷◌, ◌++◌, map, length, max, min, replicate, IfOk, OnOk, OnErr, MatchOption, Some, slice_get};
+ghost use Rattle.std.specs.Prelude.{◌≡◌, ◌≢◌, ◌+◌, ◌-◌, ◌*◌, ◌<◌, ◌≤◌, [], ◌∷◌, ◌++◌, map, length, max, min, replicate, IfOk, OnOk, OnErr, MatchOption, Some, slice_get};
 ghost use denote.RawPtr.{Ptr};
 ghost use Rattle.mb_frames.specs.Pages.{page, ring_at, with_ring, standing, stands_in, Stands, bytes_of, without, rewritten, SameAt};
 
 use crate::boxes::boxes;
 use crate::links::Links;
-use crate::no_memory::NoMemory;
 use crate::node::NodePtr;
 use crate::token::Token;
+use mb_kinds::NoMemory;
 use std::alloc::Global;
 use std::marker::Model;
 
@@ -85,11 +85,13 @@ impl Rings {
         })
     }
 
-    /// Gives at least so many spare pages. It is refused where memory for them is wanting.
+    /// Gives at least so many spare pages, in at most four link writes for each that it adds. It is refused where memory
+    /// for them is wanting.
     pub fn reserve(&mut self, pages: u32) -> Result<(), NoMemory>
         ensures rings { self.new.rings ≡ self.old.rings }
         ensures spare { OnOk result (self.new.spare ≡ max self.old.spare pages) }
         ensures refused { OnErr result (self.new ≡ self.old) }
+        ensures writes { (self.old.writes ≤ self.new.writes) × (self.new.writes ≤ self.old.writes + 4 * (self.new.spare - self.old.spare)) }
     {
         let have = self.spare(pages);
         let missing = (pages - have) as usize;

@@ -1,6 +1,7 @@
 //! The plain values that every other crate speaks of: errors, calls, replies, the entries of a
-//! history, fault records and the state that is kept of each caller. Nothing here does work; a
-//! contract sees each list type as its list, so values are equal exactly where their contents are.
+//! history, fault records and the state that is kept of each caller, and the one error of want of
+//! memory. Nothing here does work; a contract sees each list type as its list, so values are equal
+//! exactly where their contents are.
 //!
 //! `specs/Own.antt` says which entries of a history are a caller's own, `specs/Image.antt` what an
 //! image of a volume is.
@@ -13,6 +14,7 @@ mod entries;
 mod errors;
 mod faults;
 mod laws;
+mod no_memory;
 mod replies;
 mod sequence;
 #[cfg(test)]
@@ -25,5 +27,6 @@ pub use entries::{Entry, Flight, Stand};
 pub use errors::Errno;
 pub use faults::{FaultRecord, Kind, Records, Ticket};
 pub use laws::own_appends;
+pub use no_memory::NoMemory;
 pub use replies::{Reply, Stat};
 pub use sequence::Seq;

@@ -1,15 +1,15 @@
-//! The one refusal.
 use std::alloc::{AllocError, AllocFailed};
 use std::error::Error;
 use std::fmt;
 
-/// There was not enough memory. The object is as it was before the call.
-#[derive(Clone, Copy, Debug, PartialEq, Eq, Hash)]
+/// There was no memory. It may come wherever memory is taken; the object is then as it was before the call, and
+/// nothing was made.
+#[derive(Clone, Copy, Debug, PartialEq, Eq, Drop)]
 pub struct NoMemory;
 
 impl fmt::Display for NoMemory {
     fn fmt<W: fmt::Write>(&self, f: &mut fmt::Formatter<W>) -> fmt::Result {
-        f.write_str("out of memory")
+        f.write_str("no memory")
     }
 }
 
