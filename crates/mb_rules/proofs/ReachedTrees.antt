@@ -2,10 +2,11 @@
 use Rattle.std.proofs.Common.{◌≡◌, ◌⊎◌, inl, inr, ℕ, zero, suc, ◌+◌, ◌<◌, ◌≤◌, List, [], ◌∷◌, Bool, true, false, not, ◌||◌, ◌&&◌, nat_eq, cond, Option, Some, None, slice_get, count_by, drop, length, refl, sym, ap, subst, ◌∙◌, arith}
 use Rattle.std.specs.FinMap as fin
 use Rattle.std.proofs.lemmas.Bool.Decides.{nat_tests}
+use Rattle.std.proofs.Math.Seq.{drop-nil}
 use Rattle.std.proofs.lemmas.List.Sums.{sum_by-cons}
 use Rattle.mb_tree.specs.Counting.{sum_below}
 use Rattle.mb_tree.specs.Lookup.{is_used}
-use Rattle.mb_tree.specs.Trees.{Reached, root, down, Leads, leads_to, links_from, links_at}
+use Rattle.mb_tree.specs.Trees.{Reached, root, down, Leads, leads_to, links_from, links_at, links_past}
 use Rattle.mb_tree.specs.Volume.{last_inode}
 use Rattle.mb_tree.specs.declared.nodes.PlainSlot.{PlainSlot}
 use Rattle.mb_tree.specs.declared.nodes.Node.{Node}
@@ -13,7 +14,7 @@ use Rattle.mb_tree.specs.declared.nodes.Body.{Body}
 use Rattle.mb_tree.specs.declared.nodes.Body.TheVariants.{Regular, Directory, Special}
 use Rattle.mb_tree.specs.declared.trees.Tree.{Tree}
 use Rattle.mb_tree.proofs.Sums.{sum_same}
-use Rattle.mb_tree.proofs.SlotLists.{weight, late_some, weight_one}
+use Rattle.mb_tree.proofs.SlotLists.{weight, count_some, weight_one}
 use Rattle.mb_rules.specs.Slots.{slots_at}
 use Rattle.mb_rules.specs.Parents.{late_from, is_reached}
 use Rattle.mb_rules.specs.ReachedLaws.{body_slots, node_slots, ShowsSlots, CountsLinks, ReachedIs}
@@ -120,7 +121,7 @@ module _ (blocks : ℕ → List ℕ) (tree : Tree) (shows : ShowsSlots blocks tr
       let same = slots_of_node dir leads.node leads.slots leads.has leads.body in
       let to : leads_to ino leads.slot ≡ true = (let is = leads.leads in grind (arith, nat_tests)) in
       let one = weight_one (leads_to ino) (slice_get leads.slots at) leads.slot leads.entry.has to in
-      let some = late_some (leads_to ino) leads.slots at leads.late in
+      let some = count_some (leads_to ino) 2 leads.slots at leads.late in
       subst (λ slots. 0 < count_by (leads_to ino) (drop 2 slots)) same (omega arith)
 
   reached_walks : (ino : ℕ) → Reached tree.nodes ino → (steps : ℕ) × (is_reached blocks steps ino ≡ true)
