@@ -32,6 +32,7 @@ pub mod Outcomes
 pub mod Padding
 pub mod PathNames
 pub mod PlacedNames
+pub mod PuttingParts
 pub mod ReleaseValid
 pub mod Released
 pub mod RemovedDirectories

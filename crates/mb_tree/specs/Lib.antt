@@ -19,6 +19,7 @@ pub mod NameLaws
 pub mod OneTree
 pub mod Opening
 pub mod Places
+pub mod PutParts
 pub mod Results
 pub mod Rows
 pub mod SessionLaws

@@ -27,6 +27,7 @@ mod maps;
 mod name_laws;
 mod nodes;
 mod operations;
+mod part_laws;
 mod path_rows;
 mod plans;
 mod seats;
@@ -58,6 +59,10 @@ pub use name_laws::{
 };
 pub use nodes::{Body, Node, Nodes, Parts, PlainSlot, PlainSlots};
 pub use operations::{FsOp, Inos};
+pub use part_laws::{
+    parts_after_put, parts_stand_after_put, parts_stay_whole, put_splits, put_within_part,
+    worked_parts,
+};
 pub use plans::CallPlan;
 pub use seats::{PlainFile, Seat, Seats, SessionChange, reads};
 pub use session_laws::{
