@@ -51,3 +51,4 @@ pub mod Sweeping
 pub mod ValidHistories
 pub mod ValidKept
 pub mod ValidStays
+pub mod VolumeBlocks

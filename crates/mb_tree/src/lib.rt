@@ -43,7 +43,7 @@ mod volume_laws;
 pub use history_laws::{
     callers_stay, carried_out_appends, carried_out_goes_on, carried_out_once, carried_out_splits,
     few_opens, history_carries_out, history_finds_few_opens, nothing_to_sweep, operations_append,
-    sweep_is_release,
+    sweep_is_release, worked_operations,
 };
 pub use inodes::{is_directory, is_regular};
 pub use laws::{
@@ -73,4 +73,6 @@ pub use stops::NoMemory;
 pub use tables::{Fds, Files};
 pub use trees::Tree;
 pub use valid_laws::{history_valid, one_tree, opening_valid};
-pub use volume_laws::{kept_composes, kept_resized, kept_same, volume_resized};
+pub use volume_laws::{
+    kept_composes, kept_resized, kept_same, volume_by_its_blocks, volume_resized,
+};
