@@ -1,8 +1,9 @@
 -- Lists of operations carried out: they split, append and lead to one end.
-use Rattle.std.proofs.Common.{List, [], ◌∷◌, ◌++◌, ℕ, zero, suc, ◌+◌, ◌≤◌, ◌≡◌, Option, Some, None, take, refl, sym, ◌∙◌, subst, arith}
-use Rattle.mb_tree.specs.Effect.{TreeAndOpens}
+use Rattle.std.proofs.Common.{Bool, true, false, if◌then◌else◌, nat_eq, inl, List, [], ◌∷◌, ◌++◌, ℕ, zero, suc, ◌+◌, ◌≤◌, ◌≡◌, Option, Some, None, take, refl, sym, ◌∙◌, subst, arith}
+use Rattle.std.proofs.Math.Path.{fun_ext}
+use Rattle.mb_tree.specs.Effect.{TreeAndOpens, hold}
 use Rattle.mb_tree.specs.CarriedOut.{PickedOp, IsCarriedOut, AreCarriedOut, FindFewOpens, picked_op}
-use Rattle.mb_tree.specs.HistoryLaws.{CarriedOutSplits, CarriedOutAppends, CarriedOutOnce, CarriedOutGoesOn}
+use Rattle.mb_tree.specs.HistoryLaws.{CarriedOutSplits, CarriedOutAppends, CarriedOutOnce, CarriedOutGoesOn, WorkedOperations}
 use Rattle.mb_tree.specs.declared.operations.FsOp.{FsOp}
 use Rattle.mb_tree.proofs.Always.{same_ok}
 
@@ -57,3 +58,16 @@ pub find_few_ends : (most : ℕ) (held last : TreeAndOpens) (op : Option FsOp) (
 find_few_ends most held last None pick leads first end = first
 find_few_ends most held last (Some op) pick leads first end =
     (first, λ next one ino. subst (λ (it : TreeAndOpens). it.opens ino ≤ most) (sym leads.2 ∙ one_end held leads.0 next (record { op = op; pick = pick }) leads.1 one) (end ino))
+
+-- ---- a worked example
+
+held_twice : (b : Bool) → (if b then (if b then 0 + 1 else 0) + 1 else (if b then 0 + 1 else 0)) ≡ (if b then 2 else 0)
+held_twice true = refl
+held_twice false = refl
+
+pub worked_operations : WorkedOperations
+worked_operations tree regular =
+    let once : TreeAndOpens = record { tree = tree; opens = hold (λ ino. 0) 3 } in
+    let twice : TreeAndOpens = record { tree = tree; opens = hold (hold (λ ino. 0) 3) 3 } in
+    let end : twice ≡ (record { tree = tree; opens = λ ino. if nat_eq ino 3 then 2 else 0 }) = λ i. record { tree = tree; opens = fun_ext (λ ino. held_twice (nat_eq ino 3)) i } in
+    (once, record { fits = inl regular; leads = refl }, (twice, record { fits = inl regular; leads = refl }, end))

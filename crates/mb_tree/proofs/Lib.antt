@@ -33,6 +33,7 @@ pub mod Outcomes
 pub mod Padding
 pub mod PathNames
 pub mod PlacedNames
+pub mod PuttingParts
 pub mod ReleaseValid
 pub mod Released
 pub mod RemovedDirectories
@@ -51,3 +52,4 @@ pub mod Sweeping
 pub mod ValidHistories
 pub mod ValidKept
 pub mod ValidStays
+pub mod VolumeBlocks

@@ -1,5 +1,5 @@
 -- Laws of histories and of the operations in them.
-use Rattle.std.specs.Prelude.{List, ◌++◌, ℕ, ◌+◌, ◌*◌, ◌≤◌, ◌≡◌, Some, length, take, drop, slice_get}
+use Rattle.std.specs.Prelude.{List, [], ◌∷◌, ◌++◌, ℕ, ◌+◌, ◌*◌, ◌≤◌, ◌≡◌, Some, length, take, drop, slice_get, None, ◌==◌, if◌then◌else◌}
 use Rattle.std.specs.List.{AllByRecursion}
 use Rattle.mb_kinds.specs.declared.entries.Entry.{Entry}
 use Rattle.mb_tree.specs.Sessions.{counts}
@@ -10,6 +10,9 @@ use Rattle.mb_tree.specs.SessionLaws.{IsCall}
 use Rattle.mb_tree.specs.CarriedOut.{PickedOp, IsCarriedOut, AreCarriedOut, FindFewOpens, tree_and_opens, operations}
 use Rattle.mb_tree.specs.declared.machines.Machine.{Machine}
 use Rattle.mb_tree.specs.declared.seats.Seat.{Seat}
+use Rattle.mb_tree.specs.declared.operations.FsOp.TheVariants.{Hold}
+use Rattle.mb_tree.specs.declared.trees.Tree.{Tree}
+use Rattle.mb_tree.specs.Trees.{IsRegularAt}
 
 -- the callers stay the same through a history
 abbrev pub CallersStay : Type 0
@@ -56,3 +59,9 @@ pub record GoesOn (held : TreeAndOpens) (made : List PickedOp) (last : TreeAndOp
 abbrev pub CarriedOutGoesOn : Type 0
 CarriedOutGoesOn = (held last now : TreeAndOpens) (made : List PickedOp) (done : ℕ) (op : PickedOp) → AreCarriedOut held made last → AreCarriedOut held (take done made) now
     → slice_get made done ≡ Some op → GoesOn held made last done now op
+
+-- a worked example: a regular file with the number 3 on which nobody has an open file, held twice
+abbrev pub WorkedOperations : Type 0
+WorkedOperations = (tree : Tree) → IsRegularAt tree.nodes 3
+    → AreCarriedOut (record { tree = tree; opens = λ ino. 0 }) ((record { op = Hold 3; pick = None }) ∷ (record { op = Hold 3; pick = None }) ∷ [])
+    (record { tree = tree; opens = λ ino. if ino == 3 then 2 else 0 })

@@ -20,6 +20,7 @@ pub mod OneTree
 pub mod Opening
 pub mod Places
 pub mod Plans
+pub mod PutParts
 pub mod Results
 pub mod Rows
 pub mod SessionLaws

@@ -1,6 +1,6 @@
--- Laws of volumes: how what is kept on a volume goes on over changes in a row, and that the number of
--- blocks past those of the super-block is no matter.
-use Rattle.std.specs.Prelude.{ℕ, ◌≤◌}
+-- Laws of volumes: how what is kept on a volume goes on over changes in a row, and that a volume is one by its
+-- blocks below s_fsize alone: neither block 0 nor what a device has or reads past them is any matter.
+use Rattle.std.specs.Prelude.{ℕ, ◌<◌, ◌≤◌, ◌≡◌, length}
 use Rattle.mb_kinds.specs.Image.{Image}
 use Rattle.mb_word.specs.Fields.{fsize_of}
 use Rattle.mb_tree.specs.declared.trees.Tree.{Tree}
@@ -22,3 +22,13 @@ VolumeResized = (image : Image) (tree : Tree) (count : ℕ) → fsize_of (image.
 -- what is kept says nothing of the number of blocks, neither before nor after
 abbrev pub KeptResized : Type 0
 KeptResized = (before later : Tree) (old new : Image) (old_count new_count : ℕ) → Kept before old later new → Kept before (record old { count = old_count }) later (record new { count = new_count })
+
+-- another device with the bytes of a volume's blocks, from the super-block to the last one below s_fsize
+pub record HasBlocksOf (image other : Image) : Type 0 where
+  pub enough : fsize_of (image.at 1) ≤ other.count
+  pub bytes : (block : ℕ) → length (other.at block) ≡ 512
+  pub same : (block : ℕ) → 0 < block → block < fsize_of (image.at 1) → other.at block ≡ image.at block
+
+-- a volume is one by these blocks alone
+abbrev pub VolumeByItsBlocks : Type 0
+VolumeByItsBlocks = (image other : Image) (tree : Tree) → HasBlocksOf image other → IsVolume image tree → IsVolume other tree

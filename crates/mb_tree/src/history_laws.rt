@@ -1,4 +1,4 @@
-ghost use Rattle.mb_tree.specs.HistoryLaws.{CallersStay, FewOpens, HistoryCarriesOut, HistoryFindsFewOpens, OperationsAppend, CarriedOutSplits, CarriedOutAppends, CarriedOutOnce, CarriedOutGoesOn};
+ghost use Rattle.mb_tree.specs.HistoryLaws.{CallersStay, FewOpens, HistoryCarriesOut, HistoryFindsFewOpens, OperationsAppend, CarriedOutSplits, CarriedOutAppends, CarriedOutOnce, CarriedOutGoesOn, WorkedOperations};
 ghost use Rattle.mb_tree.specs.Sweep.{SweepIsRelease, NothingToSweep};
 
 /// A machine has the same callers after a history.
@@ -45,6 +45,11 @@ pub fn carried_out_once()
 /// Where a list of operations is carried out, the next one can be once those before it were.
 pub fn carried_out_goes_on()
     ensures { CarriedOutGoesOn }
+{}
+
+/// A worked example: a file held twice.
+pub fn worked_operations()
+    ensures { WorkedOperations }
 {}
 
 /// One release of all nameless files, with a table that counts just them, fits and makes the tree that

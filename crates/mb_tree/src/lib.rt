@@ -29,6 +29,7 @@ mod maps;
 mod name_laws;
 mod nodes;
 mod operations;
+mod part_laws;
 mod path_rows;
 mod plans;
 mod seats;
@@ -52,7 +53,7 @@ pub use file_rows::{close_row, dup_row, exit_row, write_row};
 pub use history_laws::{
     callers_stay, carried_out_appends, carried_out_goes_on, carried_out_once, carried_out_splits,
     few_opens, history_carries_out, history_finds_few_opens, nothing_to_sweep, operations_append,
-    sweep_is_release,
+    sweep_is_release, worked_operations,
 };
 pub use inodes::{is_directory, is_regular, is_special, is_used, may};
 pub use laws::{
@@ -70,6 +71,12 @@ pub use nodes::{Body, Node, Nodes, Parts, PlainSlot, PlainSlots};
 pub use operations::{FsOp, Inos};
 pub use plans::{CallPlan, acting, answered, both, changing};
 pub use seats::{PlainFile, Seat, Seats, SessionChange, change_session, reads, writes};
+pub use part_laws::{
+    parts_after_put, parts_stand_after_put, parts_stay_whole, put_splits, put_within_part,
+    worked_parts,
+};
+pub use plans::CallPlan;
+pub use seats::{PlainFile, Seat, Seats, SessionChange, reads};
 pub use session_laws::{
     bytes_or_attributes_valid, counts_follow, operations_fit, release_valid, valid_kept,
     valid_stays,
@@ -78,4 +85,6 @@ pub use stops::{NoMemory, Stop};
 pub use tables::{Fds, Files};
 pub use trees::Tree;
 pub use valid_laws::{history_valid, one_tree, opening_valid};
-pub use volume_laws::{kept_composes, kept_resized, kept_same, volume_resized};
+pub use volume_laws::{
+    kept_composes, kept_resized, kept_same, volume_by_its_blocks, volume_resized,
+};

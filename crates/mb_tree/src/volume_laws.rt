@@ -1,4 +1,4 @@
-ghost use Rattle.mb_tree.specs.VolumeLaws.{KeptComposes, KeptSame, VolumeResized, KeptResized};
+ghost use Rattle.mb_tree.specs.VolumeLaws.{KeptComposes, KeptSame, VolumeResized, VolumeByItsBlocks, KeptResized};
 
 /// What two changes of a volume in a row keep, both together keep.
 pub fn kept_composes()
@@ -14,6 +14,12 @@ pub fn kept_same()
 /// matter.
 pub fn volume_resized()
     ensures { VolumeResized }
+{}
+
+/// A volume is one by the bytes of its blocks below `s_fsize` alone, without block 0: what a device reads
+/// past its end is no matter.
+pub fn volume_by_its_blocks()
+    ensures { VolumeByItsBlocks }
 {}
 
 /// What is kept says nothing of the number of blocks.
