@@ -1,12 +1,10 @@
 -- Inodes to which no used slot leads can be dropped.
-use Rattle.std.proofs.Common.{◌≡◌, ◌≢◌, ◌⊎◌, inl, inr, ℕ, zero, suc, ◌+◌, ◌<◌, Bool, true, false, cond, not, ◌&&◌, List, [], ◌∷◌, Option, Some, None, refl, sym, ap, subst, ◌∙◌, arith, nat_eq}
+use Rattle.std.proofs.Common.{◌≡◌, ◌≢◌, ◌⊎◌, inl, inr, ℕ, ◌+◌, ◌<◌, Bool, true, false, cond, not, ◌&&◌, List, Option, Some, None, refl, sym, ap, subst, ◌∙◌, arith, nat_eq}
 use Rattle.std.specs.Prelude.{count_by, slice_get}
 use Rattle.std.proofs.lemmas.Bool.Decides.{nat_tests}
-use Rattle.std.proofs.lemmas.List.Sums.{sum_by-cons}
 use Rattle.std.specs.FinMap as fin
 use Rattle.std.specs.FinMap.{get-retain_keys, nat_cmp-IsAntisymmetric}
 use Rattle.std.specs.List.{list_any}
-use Rattle.mb_tree.specs.Counting.{sum_below}
 use Rattle.mb_tree.specs.Sessions.{Counts}
 use Rattle.mb_tree.specs.Effect.{is_lost, release, less_open}
 use Rattle.mb_tree.specs.Trees.{links_from, links_at, links, leads_to, IsSound}
@@ -15,25 +13,9 @@ use Rattle.mb_tree.specs.declared.nodes.Node.{Node}
 use Rattle.mb_tree.specs.declared.trees.Tree.{Tree}
 use Rattle.mb_tree.specs.declared.operations.FsOp.TheVariants as op
 use Rattle.mb_tree.proofs.Cheaper.{after_op}
+use Rattle.mb_tree.proofs.SlotLists.{weight_one, count_some}
+use Rattle.mb_tree.proofs.Sums.{sum_term}
 use Rattle.mb_tree.proofs.SlotsAndLinks.{itself, stays_sound}
-
--- ---- counts of nothing
-
-pub sum_zero : (g : ℕ → ℕ) (n k : ℕ) → sum_below g n ≡ 0 → k < n → g k ≡ 0
-unfolding sum_below
-sum_zero g zero k h b = absurd (omega arith)
-sum_zero g (suc n) k h b = elim (nat_eq k n) as (λ t. nat_eq k n ≡ t → g k ≡ 0) [
-  | true ↦ λ e. let at : k ≡ n = grind (arith, nat_tests) in let z : g n ≡ 0 = omega arith in ap g at ∙ z
-  | false ↦ λ e. let apart : k ≢ n = grind (arith, nat_tests) in let low : k < n = omega arith in let rest : sum_below g n ≡ 0 = omega arith in sum_zero g n k rest low
-] refl
-
-pub count_zero : {X : Type 0} (p : X → Bool) (xs : List X) (at : ℕ) (x : X) → count_by p xs ≡ 0 → slice_get xs at ≡ Some x → p x ≡ true → ⊥
-count_zero p [] at x h has t = let e : None ≡ Some x = has in cc
-count_zero p (y ∷ ys) zero x h has t =
-    let e : y ≡ x = cc in
-    let one : ◌≡◌ {A = ℕ} (cond {A = ℕ} (p y) 1 0) 1 = ap (λ b. cond b 1 0) (ap p e ∙ t) in
-    absurd (omega (arith, one, h, sum_by-cons (λ x. cond {A = ℕ} (p x) 1 0) y ys))
-count_zero p (y ∷ ys) (suc at) x h has t = let rest : count_by p ys ≡ 0 = omega (arith, h, sum_by-cons (λ x. cond {A = ℕ} (p x) 1 0) y ys) in count_zero p ys at x rest has t
 
 module _ (tree : Tree) (sound : IsSound tree) where
   -- an inode of link count 0 has no used slot that leads to it; to inode 1 none ever leads
@@ -45,10 +27,10 @@ module _ (tree : Tree) (sound : IsSound tree) where
             let apart : ino ≢ 1 = grind (arith, nat_tests) in
             let total : links tree ino ≡ 0 = sym (sound.counted ino node has apart) ∙ none in
             let low : dir < tree.last + 1 = omega (arith, (sound.numbers dir other in_tree).1) in
-            let here : links_at 0 ino (fin.get tree.nodes dir) ≡ 0 = sum_zero (λ d. links_at 0 ino (fin.get tree.nodes d)) (tree.last + 1) dir total low in
+            let here : links_at 0 ino (fin.get tree.nodes dir) ≡ 0 = omega (arith, total, sum_term (λ d. links_at 0 ino (fin.get tree.nodes d)) dir (tree.last + 1) low) in
             let few : count_by (leads_to ino) slots ≡ 0 = sym (ap (links_at 0 ino) in_tree ∙ ap (links_from 0 ino) body) ∙ here in
             let leads : leads_to ino slot ≡ true = grind (arith, nat_tests) in
-            count_zero (leads_to ino) slots at slot few used.has leads
+            absurd (omega (arith, few, count_some (leads_to ino) 0 slots at (omega arith), weight_one (leads_to ino) (slice_get slots at) slot used.has leads))
       ] refl
 
   pub lost_nlink : (opens : Counts) (ino : ℕ) (node : Node) → is_lost opens ino (Some node) ≡ true → node.nlink ≡ 0

@@ -1,5 +1,6 @@
 -- A tree stays sound where an inode is put under a number and a missing name of a directory leads to it.
-use Rattle.std.proofs.Common.{◌≡◌, ◌≢◌, inl, inr, ℕ, ◌+◌, ◌≤◌, true, false, ◌||◌, List, drop, Option, Some, None, refl, sym, ap, subst, ◌∙◌, arith}
+use Rattle.std.proofs.Common.{◌≡◌, ◌≢◌, inl, inr, ℕ, ◌+◌, ◌≤◌, true, false, ◌||◌, List, drop, Some, None, refl, sym, ap, subst, ◌∙◌, arith}
+use Rattle.std.proofs.lemmas.Option.{same_Some}
 use Rattle.std.specs.Prelude.{count_by, slice_get}
 use Rattle.std.specs.Str.{bytes_eq}
 use Rattle.std.proofs.lemmas.Bool.Decides.{nat_tests}
@@ -62,7 +63,7 @@ apart_dots name one two = elim (bytes_eq name dot) as (λ b. bytes_eq name dot �
 -- no late slot of an inode from which none leads is used
 pub barren_late : (nodes : Numbered Node) (ino : ℕ) (z : Node) → fin.get nodes ino ≡ Some z → ((q : ℕ) → links_from 2 q z.body ≡ 0) → IsBarren nodes ino
 barren_late nodes ino z has late at other l =
-    let same : l.node ≡ z = let e : ◌≡◌ {A = Option Node} (Some l.node) (Some z) = sym l.has ∙ has in cc in
+    let same : l.node ≡ z = same_Some l.node z (sym l.has ∙ has) in
     let none : count_by (leads_to l.slot.ino) (drop 2 l.slots) ≡ 0 = sym (ap (λ (n : Node). links_from 2 l.slot.ino n.body) (sym same) ∙ ap (links_from 2 l.slot.ino) l.body) ∙ late l.slot.ino in
     let one = weight_one (leads_to l.slot.ino) (slice_get l.slots at) l.slot l.entry.has (leads_itself l.slot) in
     let some = count_some (leads_to l.slot.ino) 2 l.slots at l.late in

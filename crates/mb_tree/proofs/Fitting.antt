@@ -18,7 +18,7 @@ use Rattle.mb_tree.specs.declared.seats.Seat.{Seat}
 use Rattle.mb_tree.specs.declared.seats.SessionChange.TheVariants.{Fresh}
 use Rattle.mb_tree.specs.declared.trees.Tree.{Tree}
 use Rattle.mb_tree.proofs.FiniteMaps.{one_or_not}
-use Rattle.mb_tree.proofs.Seated.{same_some}
+use Rattle.std.proofs.lemmas.Option.{same_Some}
 use Rattle.mb_tree.proofs.FreePlaces.{descriptor_above, descriptor_within, descriptor_free}
 use Rattle.mb_tree.proofs.InodeKinds.{path_ok, is_directory_at, is_regular_at, is_openable_at}
 use Rattle.mb_tree.proofs.Outcomes.{Outcome}
@@ -134,6 +134,6 @@ set_there (first ∷ seats) (suc caller) (suc other) new h = set_there seats cal
 pub each_seat : (P : Seat → Type 0) (seats : List Seat) (caller : ℕ) (seat new : Seat) → slice_get seats caller ≡ Some seat → P new
     → ((other : ℕ) (s : Seat) → other ≢ caller → slice_get seats other ≡ Some s → P s) → (other : ℕ) (s : Seat) → slice_get (slice_set seats caller new) other ≡ Some s → P s
 each_seat P seats caller seat new h mine theirs other s e = elim (one_or_not other caller) [
-  | inl is ↦ subst P (same_some new s (sym (set_here seats caller seat new h) ∙ ap (slice_get (slice_set seats caller new)) (sym is) ∙ e)) mine
+  | inl is ↦ subst P (same_Some new s (sym (set_here seats caller seat new h) ∙ ap (slice_get (slice_set seats caller new)) (sym is) ∙ e)) mine
   | inr apart ↦ theirs other s apart (sym (set_there seats caller other new apart) ∙ e)
 ]

@@ -1,5 +1,6 @@
 -- What a look-up says of the inode that it found, and which changes keep the kind of an inode.
 use Rattle.std.proofs.Common.{◌≡◌, inl, inr, ℕ, Bool, true, false, ◌||◌, List, Option, Some, None, Ok, option_map, unwrap_or, refl, sym, ap, ◌∙◌, arith}
+use Rattle.std.proofs.lemmas.Option.{same_Some}
 use Rattle.std.proofs.lemmas.Bool.Decides.{nat_tests}
 use Rattle.std.specs.Prelude.{◌==◌}
 use Rattle.std.specs.FinMap as fin
@@ -111,9 +112,6 @@ pub record SameKind (old new : Body) : Type 0 where
 pub same_body : (old new : Body) → new ≡ old → SameKind old new
 same_body old new e = record { directory = λ slots b. (slots, e ∙ b); regular = λ size parts b. (size, parts, e ∙ b) }
 
-same_node : (x y : Node) → Some x ≡ Some y → x ≡ y
-same_node x y h = cc
-
 pub kind_changed : (nodes : Numbered Node) (key : ℕ) (f : Node → Node) → ((node : Node) → SameKind node.body (f node).body) → (ino : ℕ) → KeepsKind nodes (changed_at nodes key f) ino
 kind_changed nodes key f same ino =
     elim (fin.get nodes key) as (λ (o : Option Node). fin.get nodes key ≡ o → KeepsKind nodes (unwrap_or (option_map (λ x. fin.insert nodes key (f x)) o) nodes) ino) [
@@ -124,11 +122,11 @@ kind_changed nodes key f same ino =
             let old : fin.get nodes ino ≡ Some node = ap (fin.get nodes) is ∙ e in
             record {
               directory = λ d.
-                  let at : d.node ≡ node = same_node d.node node (sym d.has ∙ old) in
+                  let at : d.node ≡ node = same_Some d.node node (sym d.has ∙ old) in
                   let later = (same node).directory d.slots (ap (λ (n : Node). n.body) (sym at) ∙ d.body) in
                   record { node = f node; slots = later.0; has = here; body = later.1 };
               regular = λ r.
-                  let at : r.node ≡ node = same_node r.node node (sym r.has ∙ old) in
+                  let at : r.node ≡ node = same_Some r.node node (sym r.has ∙ old) in
                   let later = (same node).regular r.size r.parts (ap (λ (n : Node). n.body) (sym at) ∙ r.body) in
                   record { node = f node; size = later.0; parts = later.1; has = here; body = later.2 };
             }

@@ -2,7 +2,7 @@
 use Rattle.std.proofs.Common.{◌≡◌, ◌≢◌, ◌⊎◌, inl, inr, ℕ, ◌+◌, ◌≤◌, Bool, true, false, cond, if◌then◌else◌, List, Option, Some, None, Ok, option_map, refl, sym, ap, subst, ◌∙◌, arith, nat_eq}
 use Rattle.std.specs.Prelude.{slice_get, slice_set}
 use Rattle.std.proofs.lemmas.Bool.Decides.{nat_tests}
-use Rattle.std.proofs.lemmas.Option.{slice_get_within}
+use Rattle.std.proofs.lemmas.Option.{same_Some, slice_get_within}
 use Rattle.std.specs.FinMap as fin
 use Rattle.mb_tree.specs.Answers.{Answer}
 use Rattle.mb_tree.specs.Maps.{Numbered, changed_at}
@@ -55,7 +55,7 @@ module _ (tree : Tree) (dir ino : ℕ) (name : List ℕ) (x y : Node) (old : Lis
   rest = slice_set old at (vacant name)
 
   same_slot : (s : PlainSlot) → slice_get old at ≡ Some s → s.ino ≡ ino
-  same_slot s has = let same : slot ≡ s = let e : ◌≡◌ {A = Option PlainSlot} (Some slot) (Some s) = sym h.stands ∙ has in cc in ap (λ (s : PlainSlot). s.ino) (sym same) ∙ h.leads
+  same_slot s has = let same : slot ≡ s = same_Some slot s (sym h.stands ∙ has) in ap (λ (s : PlainSlot). s.ino) (sym same) ∙ h.leads
 
   fits : CanBeSlotted tree dir ino x y old rest at (vacant name)
   fits = record {
@@ -124,7 +124,7 @@ module _ (tree : Tree) (sound : IsSound tree) (dir ino : ℕ) (name : List ℕ) 
   slots_old = sound.slots dir x old has body
 
   same_number : (at : ℕ) (s : PlainSlot) → found.at ≡ at → slice_get old at ≡ Some s → ino ≡ s.ino
-  same_number at s e stands = let same : found.slot ≡ s = let o : ◌≡◌ {A = Option PlainSlot} (Some found.slot) (Some s) = sym found.has ∙ ap (slice_get old) e ∙ stands in cc in sym found.leads ∙ ap (λ (s : PlainSlot). s.ino) same
+  same_number at s e stands = let same : found.slot ≡ s = same_Some found.slot s (sym found.has ∙ ap (slice_get old) e ∙ stands) in sym found.leads ∙ ap (λ (s : PlainSlot). s.ino) same
 
   -- the first two slots lead to directories
   not_first : found.at ≢ 0
@@ -134,7 +134,7 @@ module _ (tree : Tree) (sound : IsSound tree) (dir ino : ℕ) (name : List ℕ) 
   not_second e = elim (one_or_not dir 2) [
     | inl is ↦
         let r = sound.root in
-        let node_is : x ≡ r.node = let o : ◌≡◌ {A = Option Node} (Some x) (Some r.node) = sym has ∙ ap (fin.get tree.nodes) is ∙ r.has in cc in
+        let node_is : x ≡ r.node = same_Some x r.node (sym has ∙ ap (fin.get tree.nodes) is ∙ r.has) in
         let slots_are : old ≡ r.slots = let o : ◌≡◌ {A = Body} (Directory old) (Directory r.slots) = sym body ∙ ap (λ (n : Node). n.body) node_is ∙ r.body in cc in
         not_root tree sound ino no_directory (same_number 1 (record { ino = 2; name = dot_dot }) e (ap (λ s. slice_get s 1) slots_are ∙ r.upward))
     | inr below ↦

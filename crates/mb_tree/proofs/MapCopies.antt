@@ -1,6 +1,8 @@
 -- A map copied key by key.
-use Rattle.std.proofs.Common.{◌≡◌, inl, inr, ℕ, zero, suc, ◌+◌, ◌<◌, ◌≤◌, Bool, true, false, ◌||◌, if◌then◌else◌, List, [], ◌∷◌, length, take, get_or, map, refl, sym, ap, ◌∙◌, arith, Option, Some, None, is_some, nat_eq}
+use Rattle.std.proofs.Common.{◌≡◌, inl, inr, ℕ, ◌+◌, ◌<◌, ◌≤◌, Bool, true, false, ◌||◌, if◌then◌else◌, List, [], ◌∷◌, length, take, get_or, map, refl, sym, ap, ◌∙◌, arith, Option, Some, None, is_some, nat_eq}
 use Rattle.std.proofs.lemmas.List.{take_all}
+use Rattle.std.proofs.lemmas.List.Folds.{list_any_more}
+use Rattle.std.proofs.Math.Bool.{or-true, or-false}
 use Rattle.std.proofs.lemmas.Bool.Decides.{nat_tests}
 use Rattle.std.specs.FinMap as fin
 use Rattle.std.specs.FinMap.{contains_key-keys, get-empty}
@@ -10,22 +12,9 @@ use Rattle.std.specs.Cmp.{unsigned_tied}
 use Rattle.std.specs.Ordering.{nat_cmp, eq_by_cmp}
 use Rattle.mb_tree.proofs.FiniteMaps.{Numbered, same, get_here, get_there, one_or_not, entries_view}
 
-pub any_more : (p : ℕ → Bool) (ks : List ℕ) (i d : ℕ) → i < length ks → list_any p (take (suc i) ks) ≡ (list_any p (take i ks) || p (get_or ks i d))
-any_more p [] i d h = absurd (omega arith)
-any_more p (k ∷ ks) zero d h = elim (p k) as (λ b. (b || false) ≡ b) [ true ↦ refl | false ↦ refl ]
-any_more p (k ∷ ks) (suc i) d h = elim (p k) as (λ b. (b || list_any p (take (suc i) ks)) ≡ ((b || list_any p (take i ks)) || p (get_or ks i d))) [ true ↦ refl | false ↦ any_more p ks i d (omega arith) ]
-
 any_tied : (q : ℕ) (ks : List ℕ) → list_any (eq_by_cmp nat_cmp q) ks ≡ list_any (nat_eq q) ks
 any_tied q [] = refl
 any_tied q (k ∷ ks) = λ i. unsigned_tied q k i || any_tied q ks i
-
-pub or_true : (b : Bool) → (b || true) ≡ true
-or_true true = refl
-or_true false = refl
-
-pub or_false : (b : Bool) → (b || false) ≡ b
-or_false true = refl
-or_false false = refl
 
 module _ {X : Type 0} where
   pub keys_view : (es : List (ℕ × X)) (ks : List ℕ) (m : Numbered X) → fin.from_entries es ≡ m → IsStrictlySortedBy nat_cmp (map (λ e. e.0) es) → ks ≡ map (λ e. e.0) es → ks ≡ fin.keys m
@@ -39,15 +28,14 @@ module _ {X : Type 0} where
       → (q : ℕ) → fin.get next q ≡ (if list_any (nat_eq q) (take (i + 1) ks) then fin.get m q else None)
   copied_more m copy next ks i d v w h has is_copy n inv q =
       let k : ℕ = get_or ks i d in
-      let n1 : i + 1 ≡ suc i = omega arith in
-      let more : (p : ℕ → Bool) → list_any p (take (i + 1) ks) ≡ (list_any p (take i ks) || p k) = λ p. rw n1 (any_more p ks i d h) in
+      let more : (p : ℕ → Bool) → list_any p (take (i + 1) ks) ≡ (list_any p (take i ks) || p k) = λ p. list_any_more p ks i d h in
       let hit : nat_eq k k ≡ true = grind (arith, nat_tests) in
-      let here : list_any (nat_eq k) (take (i + 1) ks) ≡ true = more (nat_eq k) ∙ ap (λ b. list_any (nat_eq k) (take i ks) || b) hit ∙ or_true _ in
+      let here : list_any (nat_eq k) (take (i + 1) ks) ≡ true = more (nat_eq k) ∙ ap (λ b. list_any (nat_eq k) (take i ks) || b) hit ∙ or-true _ in
       ap (λ m. fin.get m q) n ∙ elim (one_or_not q k) [
         | inl is ↦ rw is (get_here copy k w ∙ ap Some is_copy ∙ sym has ∙ ap (λ b. if b then fin.get m k else None) (sym here))
         | inr not ↦
             let miss : nat_eq q k ≡ false = grind (arith, nat_tests) in
-            let as_before : list_any (nat_eq q) (take (i + 1) ks) ≡ list_any (nat_eq q) (take i ks) = more (nat_eq q) ∙ ap (λ b. list_any (nat_eq q) (take i ks) || b) miss ∙ or_false _ in
+            let as_before : list_any (nat_eq q) (take (i + 1) ks) ≡ list_any (nat_eq q) (take i ks) = more (nat_eq q) ∙ ap (λ b. list_any (nat_eq q) (take i ks) || b) miss ∙ or-false _ in
             get_there copy k w q not ∙ inv q ∙ ap (λ b. if b then fin.get m q else None) (sym as_before)
       ]
 

@@ -1,5 +1,6 @@
 -- Which inodes keep their kinds where names are entered, emptied and removed.
 use Rattle.std.proofs.Common.{◌≡◌, ◌≢◌, inl, inr, ℕ, ◌<◌, true, false, if◌then◌else◌, List, Option, Some, None, Ok, option_map, nat_le, nat_lt, refl, sym, ap, subst, ◌∙◌}
+use Rattle.std.proofs.lemmas.Option.{none-some}
 use Rattle.std.specs.Prelude.{bit_or}
 use Rattle.std.specs.FinMap as fin
 use Rattle.mb_kinds.specs.declared.errors.Errno.TheVariants.{ENOSPC, EMLINK}
@@ -27,12 +28,9 @@ same_slots f (Regular size parts) = same_body (Regular size parts) (Regular size
 same_slots f (Directory slots) = record { directory = λ old b. (f slots, refl); regular = λ s p b. cc }
 same_slots f (Special size area) = same_body (Special size area) (Special size area) refl
 
-none_some : {X : Type 0} (o : Option X) (x : X) → o ≡ None → o ≡ Some x → ⊥
-none_some o x n s = cc
-
 -- a number that was free has no kind to keep
 kind_new : (old new : Numbered Node) (ino : ℕ) → fin.get old ino ≡ None → KeepsKind old new ino
-kind_new old new ino free = record { directory = λ d. absurd (none_some _ d.node free d.has); regular = λ r. absurd (none_some _ r.node free r.has) }
+kind_new old new ino free = record { directory = λ d. absurd (none-some d.node (sym free ∙ d.has)); regular = λ r. absurd (none-some r.node (sym free ∙ r.has)) }
 
 kind_put : (old mid : Numbered Node) (ino : ℕ) (node : Node) → fin.get old ino ≡ None → ((q : ℕ) → KeepsKind old mid q) → (q : ℕ) → KeepsKind old (fin.insert mid ino node) q
 kind_put old mid ino node free each q = elim (one_or_not q ino) [

@@ -1,5 +1,6 @@
 -- Making a file and making a directory keep a sound tree sound.
 use Rattle.std.proofs.Common.{◌≡◌, ◌≢◌, ℕ, zero, suc, ◌+◌, ◌<◌, ◌≤◌, true, false, cond, List, Option, Some, None, IfSome, refl, sym, ap, subst, ◌∙◌, arith, nat_lt}
+use Rattle.std.proofs.lemmas.Option.{none-some}
 use Rattle.std.specs.Prelude.{count_by, slice_get, slice_index, bit_or, ◌==◌}
 use Rattle.std.proofs.lemmas.Bool.Decides.{nat_tests}
 use Rattle.std.specs.FinMap as fin
@@ -34,7 +35,7 @@ use Rattle.mb_tree.proofs.BytesOrAttributes.{kind_set, none_below}
 
 module _ (tree : Tree) (sound : IsSound tree) (ino : ℕ) (free : IsFreeNumber tree ino) where
   no_one : (old : Node) (slots : List PlainSlot) → fin.get tree.nodes ino ≡ Some old → old.body ≡ Directory slots → ⊥
-  no_one old slots has body = let no : ◌≡◌ {A = Option Node} None (Some old) = sym free.unused ∙ has in cc
+  no_one old slots has body = none-some old (sym free.unused ∙ has)
 
   -- a slot of a directory does not lead to it
   unled : (dir : ℕ) (node : Node) (slots : List PlainSlot) (at : ℕ) (slot : PlainSlot) → fin.get tree.nodes dir ≡ Some node → node.body ≡ Directory slots → slice_get slots at ≡ Some slot → leads_to ino slot ≡ false
@@ -44,7 +45,7 @@ module _ (tree : Tree) (sound : IsSound tree) (ino : ℕ) (free : IsFreeNumber t
         let above = free.above in
         let used : is_used slot ≡ true = grind (arith, nat_tests) in
         let there = ((sound.slots dir node slots has body).leads at slot (record { has = stands; used = used })).1 in
-        absurd (let no : ◌≡◌ {A = Option Node} None (Some there.node) = sym free.unused ∙ ap (fin.get tree.nodes) (sym is) ∙ there.has in cc)
+        absurd (none-some there.node (sym free.unused ∙ ap (fin.get tree.nodes) (sym is) ∙ there.has))
     | false ↦ λ e. refl
   ] refl
 
@@ -61,7 +62,7 @@ module _ (tree : Tree) (sound : IsSound tree) (ino : ℕ) (free : IsFreeNumber t
   free_links skip = sum_nothing (λ dir. links_at skip ino (fin.get tree.nodes dir)) (tree.last + 1) (λ dir low. from_one skip dir (fin.get tree.nodes dir) refl)
 
   free_apart : (q : ℕ) (node : Node) → fin.get tree.nodes q ≡ Some node → q ≢ ino
-  free_apart q node has e = let no : ◌≡◌ {A = Option Node} None (Some node) = sym free.unused ∙ sym (ap (fin.get tree.nodes) e) ∙ has in cc
+  free_apart q node has e = none-some node (sym free.unused ∙ sym (ap (fin.get tree.nodes) e) ∙ has)
 
   -- ---- a file
 
@@ -118,7 +119,7 @@ module _ (tree : Tree) (sound : IsSound tree) (ino : ℕ) (free : IsFreeNumber t
     each_first : (P : ℕ → PlainSlot → Type 0) → P 0 own → P 1 above → (at : ℕ) (slot : PlainSlot) → slice_get (first_slots ino dir) at ≡ Some slot → P at slot
     each_first P one two zero slot e = let same : own ≡ slot = cc in subst (P 0) same one
     each_first P one two (suc zero) slot e = let same : above ≡ slot = cc in subst (P 1) same two
-    each_first P one two (suc (suc at)) slot e = absurd (let no : ◌≡◌ {A = Option PlainSlot} None (Some slot) = e in cc)
+    each_first P one two (suc (suc at)) slot e = absurd (none-some slot e)
 
     old_slots : AreSlots tree.nodes dir old
     old_slots = sound.slots dir x old has body

@@ -1,5 +1,6 @@
 -- Entering a name, making a file and making a directory keep a sound tree sound.
 use Rattle.std.proofs.Common.{◌≡◌, ◌≢◌, inl, inr, ℕ, ◌<◌, ◌≤◌, Bool, true, false, List, Option, Some, None, Ok, option_map, unwrap_or, refl, sym, ap, subst, ◌∙◌, arith, nat_lt, nat_le}
+use Rattle.std.proofs.lemmas.Option.{none-some, same_Some}
 use Rattle.std.proofs.lemmas.Bool.Decides.{nat_tests}
 use Rattle.std.specs.FinMap as fin
 use Rattle.mb_kinds.specs.declared.errors.Errno.{Errno}
@@ -63,12 +64,11 @@ entered_body name ino body old e = ap (on_slots (entered name ino)) e
 
 pub leaf_of : (nodes : Numbered Node) (ino : ℕ) → IsLeafAt nodes ino → IsNoDirectory nodes ino
 leaf_of nodes ino leaf node slots has body =
-    let same : leaf.node ≡ node = let e : ◌≡◌ {A = Option Node} (Some leaf.node) (Some node) = sym leaf.has ∙ has in cc in
-    let no : ◌≡◌ {A = Option (List PlainSlot)} None (Some slots) = sym leaf.body ∙ ap (λ (n : Node). slots_of n.body) same ∙ ap slots_of body in
-    cc
+    let same : leaf.node ≡ node = same_Some leaf.node node (sym leaf.has ∙ has) in
+    none-some slots (sym leaf.body ∙ ap (λ (n : Node). slots_of n.body) same ∙ ap slots_of body)
 
 pub no_slots : (body : Body) (slots : List PlainSlot) → slots_of body ≡ None → body ≡ Directory slots → ⊥
-no_slots body slots none e = let no : ◌≡◌ {A = Option (List PlainSlot)} None (Some slots) = sym none ∙ ap slots_of e in cc
+no_slots body slots none e = none-some slots (sym none ∙ ap slots_of e)
 
 module _ (tree : Tree) (sound : IsSound tree) where
   pub not_root : (ino : ℕ) → IsNoDirectory tree.nodes ino → ino ≢ 2

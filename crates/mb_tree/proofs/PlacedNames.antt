@@ -1,6 +1,7 @@
 -- What a look-up of a path says on a sound tree: the directory and the name of its last component, and that it
 -- leads to no inode 1.
 use Rattle.std.proofs.Common.{◌≡◌, ◌≢◌, ℕ, suc, Bool, true, false, cond, ◌&&◌, if◌then◌else◌, List, [], ◌∷◌, length, take, get_or, Option, Some, None, Ok, option_map, option_and_then, refl, sym, ap, subst, ◌∙◌, arith}
+use Rattle.std.proofs.lemmas.Option.{same_Some}
 use Rattle.std.proofs.lemmas.Bool.Decides.{nat_tests}
 use Rattle.std.specs.Prelude.{All, find, slice_get, slice_index, bytes_eq, ◌==◌}
 use Rattle.std.specs.List.{AllByRecursion}
@@ -24,9 +25,6 @@ use Rattle.mb_tree.proofs.Outcomes.{some_ok}
 use Rattle.mb_tree.proofs.PathNames.{component_names, last_name}
 
 -- ---- constructors
-
-same_number : (x y : ℕ) → Some x ≡ Some y → x ≡ y
-same_number x y h = cc
 
 not_itself : (start dir : ℕ) (name : List ℕ) (found : Option ℕ) → Itself start ≡ At dir name found → ⊥
 not_itself start dir name found h = cc
@@ -53,7 +51,7 @@ numbered slots name ino h = elim (find (is_named name) slots) as (λ (o : Option
   | None ↦ λ e s. let no : None ≡ Some ino = s in cc
   | Some slot ↦ λ e s.
       let at = found_at (is_named name) slots slot e in
-      let is : slot.ino ≡ ino = same_number slot.ino ino s in
+      let is : slot.ino ≡ ino = same_Some slot.ino ino s in
       (at.0, slot, record { has = at.1; used = used_of (is_used slot) (bytes_eq slot.name name) at.2 }, is)
 ] refl h
 

@@ -1,5 +1,5 @@
 -- Keys dropped one after another where they are lost.
-use Rattle.std.proofs.Common.{◌≡◌, ◌≢◌, inl, inr, ℕ, ◌+◌, suc, ◌<◌, ◌≤◌, Bool, true, false, cond, not, ◌&&◌, ◌||◌, if◌then◌else◌, List, length, take, get_or, refl, sym, ap, ◌∙◌, arith, Option, None, nat_eq}
+use Rattle.std.proofs.Common.{◌≡◌, ◌≢◌, inl, inr, ℕ, ◌+◌, ◌<◌, ◌≤◌, Bool, true, false, cond, not, ◌&&◌, ◌||◌, if◌then◌else◌, List, length, take, get_or, refl, sym, ap, ◌∙◌, arith, Option, None, nat_eq}
 use Rattle.std.proofs.lemmas.List.{take_all}
 use Rattle.std.proofs.lemmas.Bool.Decides.{nat_tests}
 use Rattle.std.specs.FinMap as fin
@@ -7,7 +7,8 @@ use Rattle.std.specs.FinMap.{get-retain_keys, nat_cmp-IsAntisymmetric}
 use Rattle.std.specs.List.{list_any}
 use Rattle.mb_tree.specs.Maps.{Numbered}
 use Rattle.mb_tree.proofs.FiniteMaps.{same, gone_here, gone_there, one_or_not}
-use Rattle.mb_tree.proofs.MapCopies.{any_more, or_true, or_false}
+use Rattle.std.proofs.lemmas.List.Folds.{list_any_more}
+use Rattle.std.proofs.Math.Bool.{or-true, or-false, and-false}
 
 module _ {X : Type 0} (base : Numbered X) (lost : ℕ → Bool) (inos : List ℕ) where
   -- after the first i numbers
@@ -19,21 +20,13 @@ module _ {X : Type 0} (base : Numbered X) (lost : ℕ → Bool) (inos : List ℕ
 
   here : (i d q : ℕ) → i < length inos → q ≡ get_or inos i d → list_any (nat_eq q) (take (i + 1) inos) ≡ true
   here i d q h e =
-      let n : i + 1 ≡ suc i = omega arith in
       let hit : nat_eq q (get_or inos i d) ≡ true = grind (arith, nat_tests) in
-      rw n (any_more (nat_eq q) inos i d h ∙ ap (λ b. list_any (nat_eq q) (take i inos) || b) hit ∙ or_true _)
+      list_any_more (nat_eq q) inos i d h ∙ ap (λ b. list_any (nat_eq q) (take i inos) || b) hit ∙ or-true _
 
   apart : (i d q : ℕ) → i < length inos → q ≢ get_or inos i d → list_any (nat_eq q) (take (i + 1) inos) ≡ list_any (nat_eq q) (take i inos)
   apart i d q h e =
-      let n : i + 1 ≡ suc i = omega arith in
       let miss : nat_eq q (get_or inos i d) ≡ false = grind (arith, nat_tests) in
-      rw n (any_more (nat_eq q) inos i d h ∙ ap (λ b. list_any (nat_eq q) (take i inos) || b) miss ∙ or_false _)
-
-  and_false : (a b : Bool) → (a && false) ≡ (b && false)
-  and_false true true = refl
-  and_false true false = refl
-  and_false false true = refl
-  and_false false false = refl
+      list_any_more (nat_eq q) inos i d h ∙ ap (λ b. list_any (nat_eq q) (take i inos) || b) miss ∙ or-false _
 
   pub none_dropped : (nodes : Numbered X) → nodes ≡ base → AreDropped nodes 0
   none_dropped nodes e q = ap (λ m. fin.get m q) e
@@ -51,7 +44,7 @@ module _ {X : Type 0} (base : Numbered X) (lost : ℕ → Bool) (inos : List ℕ
     | inl e ↦
         let lost_q : lost q ≡ false = ap lost e ∙ is in
         ap (λ b. if_lost q (list_any (nat_eq q) (take i inos)) b) lost_q
-        ∙ ap (λ b. if b then None else fin.get base q) (and_false (list_any (nat_eq q) (take i inos)) (list_any (nat_eq q) (take (i + 1) inos)))
+        ∙ ap (λ b. if b then None else fin.get base q) (and-false (list_any (nat_eq q) (take i inos)) ∙ sym (and-false (list_any (nat_eq q) (take (i + 1) inos))))
         ∙ ap (λ b. if_lost q (list_any (nat_eq q) (take (i + 1) inos)) b) (sym lost_q)
     | inr not ↦ ap (λ b. if_lost q b (lost q)) (sym (apart i d q h not))
   ]

@@ -1,6 +1,7 @@
 -- A directory with two used slots to which no late slot leads is dropped; removing a directory keeps a sound
 -- tree sound.
-use Rattle.std.proofs.Common.{◌≡◌, ◌≢◌, inl, inr, ℕ, ◌+◌, ◌<◌, ◌≤◌, Bool, true, false, cond, List, length, drop, Option, Some, None, Ok, option_map, unwrap_or, refl, sym, ap, subst, ◌∙◌, arith, nat_eq}
+use Rattle.std.proofs.Common.{◌≡◌, ◌≢◌, inl, inr, ℕ, ◌+◌, ◌<◌, ◌≤◌, Bool, true, false, cond, List, length, drop, Option, Some, Ok, option_map, unwrap_or, refl, sym, ap, subst, ◌∙◌, arith, nat_eq}
+use Rattle.std.proofs.lemmas.Option.{none-some}
 use Rattle.std.specs.Prelude.{count_by, slice_get, option_and_then}
 use Rattle.std.proofs.lemmas.Bool.Decides.{nat_tests}
 use Rattle.std.specs.FinMap as fin
@@ -84,7 +85,7 @@ module _ (tree : Tree) (ino : ℕ) (w : Node) (own : List PlainSlot) (shape : Is
 
   was : (q : ℕ) (node : Node) → fin.get less.nodes q ≡ Some node → (q ≢ ino) × (fin.get tree.nodes q ≡ Some node)
   was q node there =
-      let apart : q ≢ ino = (λ e. let no : ◌≡◌ {A = Option Node} None (Some node) = sym (gone_here tree.nodes ino) ∙ sym (ap (fin.get less.nodes) e) ∙ there in cc) in
+      let apart : q ≢ ino = (λ e. none-some node (sym (gone_here tree.nodes ino) ∙ sym (ap (fin.get less.nodes) e) ∙ there)) in
       (apart, sym (gone_there tree.nodes ino q apart) ∙ there)
 
   there_gone : (q : ℕ) → q ≢ ino → IsThere tree.nodes q → IsThere less.nodes q
@@ -295,7 +296,7 @@ module _ (tree : Tree) (sound : IsSound tree) (dir ino : ℕ) (name : List ℕ) 
       (omega (arith, counts, links_dir), omega (arith, few))
 
   not_ino : (q : ℕ) (node : Node) → fin.get next.nodes q ≡ Some node → q ≢ ino
-  not_ino q node is e = let no : ◌≡◌ {A = Option Node} None (Some node) = sym (gone_here first.nodes ino) ∙ sym (ap (fin.get next.nodes) e) ∙ is in cc
+  not_ino q node is e = none-some node (sym (gone_here first.nodes ino) ∙ sym (ap (fin.get next.nodes) e) ∙ is)
 
   counted : Each next (λ q node. q ≢ 1 → IsCounted q node)
   counted q node is ordinary =

@@ -4,7 +4,7 @@ use Rattle.std.specs.Prelude.{count_by, slice_get, slice_set, position, find, op
 use Rattle.std.specs.Str.{bytes_eq}
 use Rattle.std.proofs.lemmas.List.{length-set}
 use Rattle.std.proofs.lemmas.List.Quantifiers.{position-Some}
-use Rattle.std.proofs.lemmas.Option.{slice_get_within, slice_get_past, get_or_from_slice_get}
+use Rattle.std.proofs.lemmas.Option.{get_or_from_slice_get, none-some, slice_get_past, slice_get_within}
 use Rattle.std.proofs.lemmas.Slice.Eq.{bytes_eq-Decides}
 use Rattle.std.specs.FinMap as fin
 use Rattle.mb_tree.specs.Maps.{Numbered}
@@ -85,7 +85,7 @@ is_entered old name ino first second =
           record {
             at = length old;
             rewritten = subst (λ new. IsRewritten old new (length old) slot) is (push_rewritten old slot (omega arith));
-            unused = λ s has. let none = slice_get_past old (length old) (omega arith) in absurd (let wrong : ◌≡◌ {A = Option PlainSlot} None (Some s) = sym none ∙ has in cc);
+            unused = λ s has. let none = slice_get_past old (length old) (omega arith) in absurd (none-some s (sym none ∙ has));
           }
       | Some at ↦ λ e.
           let is : slice_set old at slot ≡ entered name ino old = ap (λ o. unwrap_or (option_map (λ at. slice_set old at slot) o) (old ++ slot ∷ [])) (sym e) in
@@ -119,7 +119,7 @@ pub record IsFound (old : List PlainSlot) (name : List ℕ) (ino : ℕ) : Type 0
 
 pub is_found : (old : List PlainSlot) (name : List ℕ) (ino : ℕ) → number_of old name ≡ Some ino → IsFound old name ino
 is_found old name ino h = elim (find (is_named name) old) as (λ (o : Option PlainSlot). find (is_named name) old ≡ o → option_map (λ (slot : PlainSlot). slot.ino) o ≡ Some ino → IsFound old name ino) [
-  | None ↦ λ e wrong. absurd (let no : ◌≡◌ {A = Option ℕ} None (Some ino) = wrong in cc)
+  | None ↦ λ e wrong. absurd (none-some ino wrong)
   | Some slot ↦ λ e to.
       let by = found (is_named name) old slot e in
       let test = named_slot name slot by.3 in
@@ -141,7 +141,7 @@ is_missing old name at slot h has used e = elim (find (is_named name) old) as (�
       let fails = missed (is_named name) old at slot none has in
       let passes : is_named name slot ≡ true = ap (λ b. b && bytes_eq slot.name name) used ∙ (bytes_eq-Decides slot.name name).1 (sym e) in
       cc
-  | Some other ↦ λ some wrong. absurd (let no : ◌≡◌ {A = Option ℕ} (Some other.ino) None = wrong in cc)
+  | Some other ↦ λ some wrong. absurd (none-some other.ino (sym wrong))
 ] refl h
 
 -- the numbers of a directory's names

@@ -1,5 +1,6 @@
 -- A session change keeps a session valid.
 use Rattle.std.proofs.Common.{◌≡◌, ◌≢◌, inl, inr, ℕ, zero, suc, ◌+◌, ◌<◌, ◌≤◌, Bool, true, false, not, if◌then◌else◌, Option, Some, None, is_some, option_map, unwrap_or, refl, sym, ap, subst, ◌∙◌, arith}
+use Rattle.std.proofs.lemmas.Option.{same_Some}
 use Rattle.std.proofs.lemmas.Bool.Decides.{nat_tests}
 use Rattle.std.specs.FinMap as fin
 use Rattle.std.specs.FinMap.{get-empty}
@@ -50,9 +51,6 @@ fails p low (suc n) k h a b = elim (p low) as (λ v. p low ≡ v → (if v then 
 pub apart_some : {X : Type 0} (o : Option X) (x : X) → o ≡ None → o ≡ Some x → ⊥
 apart_some o x n s = cc
 
-pub same_some : {X : Type 0} (x y : X) → Some x ≡ Some y → x ≡ y
-same_some x y h = cc
-
 pub none_of : {X : Type 0} (o : Option X) → not (is_some o) ≡ true → o ≡ None
 none_of None h = refl
 none_of (Some x) h = cc
@@ -80,7 +78,7 @@ module _ (nodes : Numbered Node) (seat : Seat) (valid : IsSeated nodes seat) whe
     cwd = valid.cwd;
     descriptors = λ q pl h. elim (one_or_not q fd) [
       | inl is ↦
-          let at : place ≡ pl = same_some place pl (sym (get_here seat.fds fd place) ∙ ap (fin.get (fin.insert seat.fds fd place)) (sym is) ∙ h) in
+          let at : place ≡ pl = same_Some place pl (sym (get_here seat.fds fd place) ∙ ap (fin.get (fin.insert seat.fds fd place)) (sym is) ∙ h) in
           record { above = subst (λ j. 3 ≤ j) (sym is) fits.above; within = subst (λ j. j ≤ 19) (sym is) fits.within; file = file; has = ap (fin.get (fin.insert seat.files place file)) (sym at) ∙ get_here seat.files place file }
       | inr apart ↦
           let old = valid.descriptors q pl (sym (get_there seat.fds fd place q apart) ∙ h) in
@@ -91,7 +89,7 @@ module _ (nodes : Numbered Node) (seat : Seat) (valid : IsSeated nodes seat) whe
     ];
     files = λ pl f h. elim (one_or_not pl place) [
       | inl is ↦
-          let at : file ≡ f = same_some file f (sym (get_here seat.files place file) ∙ ap (fin.get (fin.insert seat.files place file)) (sym is) ∙ h) in
+          let at : file ≡ f = same_Some file f (sym (get_here seat.files place file) ∙ ap (fin.get (fin.insert seat.files place file)) (sym is) ∙ h) in
           subst (λ (g : PlainFile). IsOpenFile nodes (opened seat fd file (Some place)) pl g) at (record { within = subst (λ j. j < 17) (sym is) within; fd = fd; has = get_here seat.fds fd place ∙ ap Some (sym is); openable = fits.openable; written = fits.written })
       | inr apart ↦
           let old = valid.files pl f (sym (get_there seat.files place file pl apart) ∙ h) in
@@ -117,7 +115,7 @@ module _ (nodes : Numbered Node) (seat : Seat) (valid : IsSeated nodes seat) whe
           cwd = valid.cwd;
           descriptors = λ q pl h. elim (one_or_not q to) [
             | inl is ↦
-                let at : place ≡ pl = same_some place pl (sym (get_here seat.fds to place) ∙ ap (fin.get (fin.insert seat.fds to place)) (sym is) ∙ h) in
+                let at : place ≡ pl = same_Some place pl (sym (get_here seat.fds to place) ∙ ap (fin.get (fin.insert seat.fds to place)) (sym is) ∙ h) in
                 let old = valid.descriptors fd place e in
                 record { above = subst (λ j. 3 ≤ j) (sym is) fits.above; within = subst (λ j. j ≤ 19) (sym is) fits.within; file = old.file; has = ap (fin.get seat.files) (sym at) ∙ old.has }
             | inr apart ↦ let old = valid.descriptors q pl (sym (get_there seat.fds to place q apart) ∙ h) in record { above = old.above; within = old.within; file = old.file; has = old.has }
@@ -149,7 +147,7 @@ module _ (nodes : Numbered Node) (seat : Seat) (valid : IsSeated nodes seat) whe
             let old = valid.files pl f h in
             elim (one_or_not old.fd fd) [
               | inl is ↦
-                  let at : place ≡ pl = same_some place pl (sym e ∙ ap (fin.get seat.fds) (sym is) ∙ old.has) in
+                  let at : place ≡ pl = same_Some place pl (sym e ∙ ap (fin.get seat.fds) (sym is) ∙ old.has) in
                   record { within = old.within; fd = other.0; has = same_place ∙ ap Some at; openable = old.openable; written = old.written }
               | inr apart ↦ record { within = old.within; fd = old.fd; has = gone_there seat.fds fd old.fd apart ∙ old.has; openable = old.openable; written = old.written }
             ];
@@ -168,7 +166,7 @@ module _ (nodes : Numbered Node) (seat : Seat) (valid : IsSeated nodes seat) whe
         files = λ pl f h.
             let apart : pl ≢ place = λ is. apart_some _ f (ap (fin.get (fin.remove seat.files place)) is ∙ gone_here seat.files place) h in
             let old = valid.files pl f (sym (gone_there seat.files place pl apart) ∙ h) in
-            let other : old.fd ≢ fd = λ is. apart (same_some pl place (sym old.has ∙ ap (fin.get seat.fds) is ∙ e)) in
+            let other : old.fd ≢ fd = λ is. apart (same_Some pl place (sym old.has ∙ ap (fin.get seat.fds) is ∙ e)) in
             record { within = old.within; fd = old.fd; has = gone_there seat.fds fd old.fd other ∙ old.has; openable = old.openable; written = old.written };
       }
 
@@ -193,7 +191,7 @@ module _ (nodes : Numbered Node) (seat : Seat) (valid : IsSeated nodes seat) whe
         ];
     files = λ pl f h. elim (one_or_not pl place) [
       | inl is ↦
-          let at : ◌≡◌ {A = PlainFile} (record file { offset = offset }) f = same_some _ f (sym (get_here seat.files place _) ∙ ap (fin.get (fin.insert seat.files place (record file { offset = offset }))) (sym is) ∙ h) in
+          let at : ◌≡◌ {A = PlainFile} (record file { offset = offset }) f = same_Some _ f (sym (get_here seat.files place _) ∙ ap (fin.get (fin.insert seat.files place (record file { offset = offset }))) (sym is) ∙ h) in
           let old = valid.files place file e in
           subst (λ (g : PlainFile). IsOpenFile nodes (record seat { files = fin.insert seat.files place (record file { offset = offset }) }) pl g) at (record { within = subst (λ j. j < 17) (sym is) old.within; fd = old.fd; has = old.has ∙ ap Some (sym is); openable = old.openable; written = old.written })
       | inr apart ↦ let old = valid.files pl f (sym (get_there seat.files place _ pl apart) ∙ h) in record { within = old.within; fd = old.fd; has = old.has; openable = old.openable; written = old.written }

@@ -1,5 +1,6 @@
 -- Trees that are sound but for their link counts, their cost and what leads to one inode.
 use Rattle.std.proofs.Common.{◌≡◌, ◌≢◌, inl, inr, ℕ, ◌+◌, ◌≤◌, List, Option, Some, None, refl, sym, ap, subst, ◌∙◌, arith}
+use Rattle.std.proofs.lemmas.Option.{same_Some}
 use Rattle.std.specs.FinMap as fin
 use Rattle.mb_tree.specs.Maps.{Numbered}
 use Rattle.mb_tree.specs.Cost.{cost}
@@ -131,7 +132,7 @@ no_links_leaf skip q (Special size area) leaf = refl
 
 -- a number has one inode
 pub same_node : (a b : Node) (o : Option Node) → o ≡ Some a → o ≡ Some b → a ≡ b
-same_node a b o e f = cc
+same_node a b o e f = same_Some a b (sym e ∙ f)
 
 -- ---- an inode put under a number that is free or a leaf's
 
@@ -180,7 +181,7 @@ module _ (tree : Tree) (ino : ℕ) (x : Node) (shape : IsShaped tree ino) (h : C
   each_put : (P : ℕ → Node → Type 0) → P ino x → Each tree P → Each next P
   each_put P one all q node has = elim (one_or_not q ino) [
     | inl is ↦
-        let same : x ≡ node = let e : ◌≡◌ {A = Option Node} (Some x) (Some node) = sym (get_here tree.nodes ino x) ∙ sym (ap (fin.get next.nodes) is) ∙ has in cc in
+        let same : x ≡ node = same_Some x node (sym (get_here tree.nodes ino x) ∙ sym (ap (fin.get next.nodes) is) ∙ has) in
         subst (λ i. P i node) (sym is) (subst (P ino) same one)
     | inr apart ↦ all q node (sym (get_there tree.nodes ino x q apart) ∙ has)
   ]

@@ -2,9 +2,9 @@
 use Rattle.std.proofs.Common.{◌≡◌, ◌≢◌, ℕ, zero, suc, ◌+◌, ◌<◌, ◌≤◌, Bool, true, false, cond, List, [], ◌∷◌, ◌++◌, length, drop, Option, Some, None, get_or, refl, sym, ap, ◌∙◌, arith, nat_lt}
 use Rattle.std.specs.Prelude.{count_by, slice_get, slice_set, position, find}
 use Rattle.std.proofs.lemmas.Bool.Decides.{nat_tests}
-use Rattle.std.proofs.lemmas.List.Sums.{sum_by-cons, passes_at_first}
+use Rattle.std.proofs.lemmas.List.Sums.{sum_by-cons, sum_by-set, sum_by_push, passes_at_first}
 use Rattle.std.proofs.lemmas.List.Folds.{find_at}
-use Rattle.std.proofs.lemmas.Option.{slice_get_within, get_or_from_slice_get}
+use Rattle.std.proofs.lemmas.Option.{none-some, slice_get-get_or, slice_get_within, get_or_from_slice_get}
 use Rattle.std.specs.List.{position_or_len}
 
 -- 1 where there is a value that passes
@@ -39,13 +39,10 @@ module _ {X : Type 0} where
   count_cons p x xs = sum_by-cons (λ y. cond {A = ℕ} (p y) 1 0) x xs
 
   pub count_set : (p : X → Bool) (xs : List X) (at : ℕ) (y : X) → at < length xs → count_by p (slice_set xs at y) + weight p (slice_get xs at) ≡ count_by p xs + weight p (Some y)
-  count_set p [] at y low = absurd (omega arith)
-  count_set p (x ∷ xs) zero y low = omega (arith, count_cons p x xs, count_cons p y xs)
-  count_set p (x ∷ xs) (suc at) y low = omega (arith, count_cons p x xs, count_cons p x (slice_set xs at y), count_set p xs at y (omega arith))
+  count_set p xs at y low = omega (arith, sum_by-set (λ x. cond {A = ℕ} (p x) 1 0) xs at y y low, ap (weight p) (slice_get-get_or xs at y low))
 
   pub count_push : (p : X → Bool) (xs : List X) (y : X) → count_by p (xs ++ y ∷ []) ≡ count_by p xs + weight p (Some y)
-  count_push p [] y = omega (arith, count_cons p y [])
-  count_push p (x ∷ xs) y = omega (arith, count_cons p x xs, count_cons p x (xs ++ y ∷ []), count_push p xs y)
+  count_push p xs y = sum_by_push (λ x. cond {A = ℕ} (p x) 1 0) xs y
 
   -- one element more skipped
   pub count_drop : (p : X → Bool) (skip : ℕ) (xs : List X) → count_by p (drop skip xs) ≡ weight p (slice_get xs skip) + count_by p (drop (suc skip) xs)
@@ -99,10 +96,10 @@ module _ {X : Type 0} where
   pub missed : (p : X → Bool) (xs : List X) (at : ℕ) (x : X) → find p xs ≡ None → slice_get xs at ≡ Some x → p x ≡ false
   missed p [] at x h has = cc
   missed p (y ∷ ys) zero x h has = elim (p y) as (λ b. p y ≡ b → cond b (Some y) (find p ys) ≡ None → p x ≡ false) [
-    | true ↦ λ e none. absurd (let wrong : ◌≡◌ {A = Option X} (Some y) None = none in cc)
+    | true ↦ λ e none. absurd (none-some y (sym none))
     | false ↦ λ e none. let is : y ≡ x = cc in sym (ap p is) ∙ e
   ] refl h
   missed p (y ∷ ys) (suc at) x h has = elim (p y) as (λ b. cond b (Some y) (find p ys) ≡ None → p x ≡ false) [
-    | true ↦ λ none. absurd (let wrong : ◌≡◌ {A = Option X} (Some y) None = none in cc)
+    | true ↦ λ none. absurd (none-some y (sym none))
     | false ↦ λ none. missed p ys at x none has
   ] h

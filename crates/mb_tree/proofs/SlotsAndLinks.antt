@@ -1,6 +1,7 @@
 -- A tree stays sound whose inodes keep their slots and their link counts, or are dropped where no used slot leads
 -- to them.
 use Rattle.std.proofs.Common.{◌≡◌, ◌⊎◌, inl, inr, ℕ, ◌+◌, ◌≤◌, true, List, Option, Some, None, option_map, unwrap_or, refl, sym, ap, subst, ◌∙◌, arith}
+use Rattle.std.proofs.lemmas.Option.{none-some}
 use Rattle.std.specs.Prelude.{count_by, drop, slice_get}
 use Rattle.std.proofs.lemmas.Bool.Decides.{nat_tests}
 use Rattle.std.specs.FinMap as fin
@@ -85,7 +86,7 @@ module _ (tree : Tree) (sound : IsSound tree) where
     was : (ino : ℕ) (y : Node) → fin.get nodes ino ≡ Some y → (x : Node) × (fin.get tree.nodes ino ≡ Some x) × KeepsSlotsAndLinks x y
     was ino y has = elim (each ino) [
       | inl stays ↦ before (fin.get tree.nodes ino) (fin.get nodes ino) y stays has
-      | inr gone ↦ absurd (let no : ◌≡◌ {A = Option Node} None (Some y) = sym gone.0 ∙ has in cc)
+      | inr gone ↦ absurd (none-some y (sym gone.0 ∙ has))
     ]
 
     was_directory : (y x : Node) (slots : List PlainSlot) → KeepsSlotsAndLinks x y → y.body ≡ Directory slots → x.body ≡ Directory slots

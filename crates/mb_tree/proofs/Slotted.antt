@@ -1,5 +1,6 @@
 -- One late slot of a directory put at a place: a name entered, or a slot emptied.
 use Rattle.std.proofs.Common.{◌≡◌, ◌≢◌, ◌⊎◌, inl, inr, ℕ, ◌+◌, ◌<◌, ◌≤◌, true, false, cond, List, drop, Option, Some, None, refl, sym, ap, subst, ◌∙◌, arith, nat_eq}
+use Rattle.std.proofs.lemmas.Option.{same_Some}
 use Rattle.std.specs.Prelude.{count_by, slice_get}
 use Rattle.std.proofs.lemmas.Bool.Decides.{nat_tests}
 use Rattle.std.specs.FinMap as fin
@@ -85,7 +86,7 @@ module _ (tree : Tree) (dir target : ℕ) (x y : Node) (old new : List PlainSlot
   each_slotted : (P : ℕ → Node → Type 0) → P dir y → Each tree P → Each next P
   each_slotted P one all q node has = elim (one_or_not q dir) [
     | inl is ↦
-        let same : y ≡ node = let e : ◌≡◌ {A = Option Node} (Some y) (Some node) = sym (get_here tree.nodes dir y) ∙ sym (ap (fin.get next.nodes) is) ∙ has in cc in
+        let same : y ≡ node = same_Some y node (sym (get_here tree.nodes dir y) ∙ sym (ap (fin.get next.nodes) is) ∙ has) in
         subst (λ i. P i node) (sym is) (subst (P dir) same one)
     | inr apart ↦ all q node (sym (get_there tree.nodes dir y q apart) ∙ has)
   ]
@@ -97,7 +98,7 @@ module _ (tree : Tree) (dir target : ℕ) (x y : Node) (old new : List PlainSlot
   pub leads_slotted : (d k q : ℕ) → q ≢ target → Leads tree.nodes d k q → Leads next.nodes d k q
   leads_slotted d k q other l = elim (one_or_not d dir) [
     | inl is ↦
-        let node_is : x ≡ l.node = let e : ◌≡◌ {A = Option Node} (Some x) (Some l.node) = sym h.has ∙ sym (ap (fin.get tree.nodes) is) ∙ l.has in cc in
+        let node_is : x ≡ l.node = same_Some x l.node (sym h.has ∙ sym (ap (fin.get tree.nodes) is) ∙ l.has) in
         let slots_are : l.slots ≡ old = same_slots l.slots old (sym l.body ∙ ap (λ (n : Node). n.body) (sym node_is) ∙ h.before) in
         let stood : slice_get old k ≡ Some l.slot = ap (λ s. slice_get s k) (sym slots_are) ∙ l.entry.has in
         let beside : k ≢ at = (λ e. other (sym l.leads ∙ h.was l.slot (sym (ap (slice_get old) e) ∙ stood) l.entry.used)) in
@@ -109,7 +110,7 @@ module _ (tree : Tree) (dir target : ℕ) (x y : Node) (old new : List PlainSlot
   stood : (k : ℕ) (s : PlainSlot) → IsUsedAt new k s → ((k ≡ at) × (s ≡ slot) × (is_used slot ≡ true)) ⊎ ((k ≢ at) × IsUsedAt old k s)
   stood k s u = elim (one_or_not k at) [
     | inl is ↦
-        let same : slot ≡ s = let e : ◌≡◌ {A = Option PlainSlot} (Some slot) (Some s) = sym h.rewritten.here ∙ sym (ap (slice_get new) is) ∙ u.has in cc in
+        let same : slot ≡ s = same_Some slot s (sym h.rewritten.here ∙ sym (ap (slice_get new) is) ∙ u.has) in
         inl (is, sym same, ap is_used same ∙ u.used)
     | inr apart ↦ inr (apart, record { has = sym (h.rewritten.there k apart) ∙ u.has; used = u.used })
   ]
@@ -154,7 +155,7 @@ module _ (tree : Tree) (dir target : ℕ) (x y : Node) (old new : List PlainSlot
   top_slotted : (node : Node) (slots : List PlainSlot) → fin.get tree.nodes 2 ≡ Some node → node.body ≡ Directory slots → HasSecond next.nodes 2 (slice_get slots 1)
   top_slotted node slots has body = elim (one_or_not 2 dir) [
     | inl is ↦
-        let node_is : x ≡ node = let e : ◌≡◌ {A = Option Node} (Some x) (Some node) = sym h.has ∙ sym (ap (fin.get tree.nodes) is) ∙ has in cc in
+        let node_is : x ≡ node = same_Some x node (sym h.has ∙ sym (ap (fin.get tree.nodes) is) ∙ has) in
         let slots_are : slots ≡ old = same_slots slots old (sym body ∙ ap (λ (n : Node). n.body) (sym node_is) ∙ h.before) in
         record { node = y; slots = new; has = ap (fin.get next.nodes) is ∙ get_here tree.nodes dir y; body = h.after; is = front 1 (omega arith) ∙ ap (λ s. slice_get s 1) (sym slots_are) }
     | inr apart ↦ record { node = node; slots = slots; has = get_there tree.nodes dir y 2 apart ∙ has; body = body; is = refl }

@@ -1,5 +1,6 @@
 -- A step keeps a valid machine valid.
 use Rattle.std.proofs.Common.{◌≡◌, ◌≢◌, ℕ, zero, suc, ◌<◌, Bool, true, false, ◌||◌, List, [], ◌∷◌, Option, Some, None, IfSome, Ok, Err, nat_lt, refl, sym, ap, subst, ◌∙◌, arith}
+use Rattle.std.proofs.lemmas.Option.{none-some, same_Some}
 use Rattle.std.proofs.lemmas.Bool.Decides.{nat_tests}
 use Rattle.std.specs.Prelude.{slice_get, slice_set, ◌==◌, option_map, unwrap_or}
 use Rattle.std.specs.List.{list_any}
@@ -21,7 +22,6 @@ use Rattle.mb_tree.specs.SessionLaws.{KeepsUsed, IsAtMostOnBytesOrAttributes, Is
 use Rattle.mb_tree.specs.NameLaws.{OperationKept}
 use Rattle.mb_tree.specs.declared.machines.Machine.{Machine}
 use Rattle.mb_tree.specs.declared.nodes.Node.{Node}
-use Rattle.mb_tree.specs.declared.nodes.PlainSlot.{PlainSlot}
 use Rattle.mb_tree.specs.declared.operations.FsOp.{FsOp}
 use Rattle.mb_tree.specs.declared.operations.FsOp.TheVariants.{Create, MakeDir, RemoveDir, Enlink, Delink, Release}
 use Rattle.mb_tree.specs.declared.plans.CallPlan.{CallPlan}
@@ -52,12 +52,6 @@ rest_false : (a b : Bool) → (a || b) ≡ false → b ≡ false
 rest_false true b h = absurd (let no : true ≡ false = h in cc)
 rest_false false b h = h
 
-same_node : (x y : Node) → Some x ≡ Some y → x ≡ y
-same_node x y h = cc
-
-none_some : (slots : List PlainSlot) → None ≡ Some slots → ⊥
-none_some slots h = cc
-
 no_cwd : (seats : List Seat) (ino caller : ℕ) (seat : Seat) → list_any (λ (s : Seat). s.cwd == ino) seats ≡ false → slice_get seats caller ≡ Some seat → seat.cwd ≢ ino
 no_cwd [] ino caller seat h at is = let no : None ≡ Some seat = at in cc
 no_cwd (first ∷ seats) ino zero seat h at is =
@@ -69,8 +63,8 @@ no_cwd (first ∷ seats) ino (suc caller) seat h at is = no_cwd seats ino caller
 
 leaf_apart : (nodes : Numbered Node) (ino other : ℕ) → IsLeafAt nodes ino → IsDirectoryAt nodes other → other ≢ ino
 leaf_apart nodes ino other leaf d is =
-    let at : leaf.node ≡ d.node = same_node leaf.node d.node (sym leaf.has ∙ ap (fin.get nodes) (sym is) ∙ d.has) in
-    none_some d.slots (sym leaf.body ∙ ap (λ (n : Node). slots_of n.body) at ∙ ap slots_of d.body)
+    let at : leaf.node ≡ d.node = same_Some leaf.node d.node (sym leaf.has ∙ ap (fin.get nodes) (sym is) ∙ d.has) in
+    none-some d.slots (sym leaf.body ∙ ap (λ (n : Node). slots_of n.body) at ∙ ap slots_of d.body)
 
 -- ---- a step that is served
 
