@@ -1,4 +1,5 @@
 pub mod ChangeEntries
 pub mod ChangedBlocks
 pub mod CountMaps
+pub mod Editing
 pub mod WithinViews

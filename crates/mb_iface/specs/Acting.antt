@@ -57,9 +57,9 @@ pub record HasRefused (tree : Tree) (opens : ℕ → ℕ) (op : FsOp) (demanded 
   pub picks : Picks tree op demanded picked
   pub effect : effect tree opens op picked ≡ Err e
 
--- a file system's answer on a volume of the tree
+-- a file system's answer on a volume of the tree; of an operation that does not fit nothing is promised
 abbrev pub Acts : (ℕ → Option (List ℕ)) → Image → Tree → fin.FinMap nat_cmp ℕ → FsOp → Option ℕ → Acted → Type 0
 Acts shown image tree opens op demanded (acted.Done changes picked) = Fits tree (count_of opens) op demanded → HasDone shown image tree (count_of opens) op demanded changes picked
 Acts shown image tree opens op demanded (acted.Refused e) = Fits tree (count_of opens) op demanded → HasRefused tree (count_of opens) op demanded e
-Acts shown image tree opens op demanded (acted.Need need) = IsNear image tree (IsTouched tree op) need.first
+Acts shown image tree opens op demanded (acted.Need need) = Fits tree (count_of opens) op demanded → IsNear image tree (IsTouched tree op) need.first
 Acts shown image tree opens op demanded acted.NoMemory = Unit {0}

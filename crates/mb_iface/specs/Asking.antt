@@ -49,9 +49,9 @@ answer_of tree (query.Bytes ino offset count) = do
   Ok (answer.Bytes (read_at node.body offset count))
 answer_of tree (query.Used ino) = Ok (answer.Used (used_in tree.nodes ino))
 
--- a file system's answer on a volume of the tree
+-- a file system's answer on a volume of the tree; of a query that is not one of those nothing is promised
 abbrev pub Finds : Image → Tree → Query → Asked → Type 0
 Finds image tree query (asked.Found answer) = IsAskable tree query → answer_of tree query ≡ Ok answer
 Finds image tree query (asked.Refused e) = IsAskable tree query → answer_of tree query ≡ Err e
-Finds image tree query (asked.Need need) = IsNear image tree (IsPassed tree query) need.first
+Finds image tree query (asked.Need need) = IsAskable tree query → IsNear image tree (IsPassed tree query) need.first
 Finds image tree query asked.NoMemory = Unit {0}

@@ -1,5 +1,5 @@
 -- Which blocks an answer may ask for, whatever the view.
-use Rattle.std.specs.Prelude.{List, ℕ, ◌≤◌, ◌≡◌, Option, None}
+use Rattle.std.specs.Prelude.{List, ℕ, ◌≤◌, ◌<◌, ◌≡◌, ◌+◌, ◌⊎◌, Option, None, IsSome}
 use Rattle.mb_iface.specs.declared.replies.Need.{Need}
 use Rattle.mb_iface.specs.declared.replies.Asked.{Asked}
 use Rattle.mb_iface.specs.declared.replies.Asked.TheVariants as asked
@@ -13,6 +13,15 @@ pub record IsNeed (shown : ℕ → Option (List ℕ)) (need : Need) : Type 0 whe
   pub below : need.first ≤ 262143
   pub some : 1 ≤ need.count
   pub few : need.count ≤ 32
+
+-- the longest run of blocks from one on that a view lacks, as far as they are wanted
+pub record IsRun (shown : ℕ → Option (List ℕ)) (first wanted : ℕ) (need : Need) : Type 0 where
+  pub begins : need.first ≡ first
+  pub few : need.count ≤ wanted
+  pub inside : first + need.count ≤ 262144
+  pub lacking : (block : ℕ) → first ≤ block → block < first + need.count → shown block ≡ None
+  -- it ends after 32 blocks or the wanted ones, at a volume's last block, or before a block that the view has
+  pub longest : (need.count ≡ 32) ⊎ (need.count ≡ wanted) ⊎ (first + need.count ≡ 262144) ⊎ IsSome (shown (first + need.count))
 
 abbrev pub AsksFor : (ℕ → Option (List ℕ)) → Asked → Type 0
 AsksFor shown (asked.Found answer) = Unit {0}

@@ -1,4 +1,5 @@
-ghost use Rattle.std.specs.Prelude.{◌≡◌, ◌<◌, ℕ, [], List, Some, OnOk, OnErr, option_copied, slice_get, length, cond, nat_eq};
+ghost use Rattle.std.specs.Prelude.{◌≡◌, ◌<◌, ◌≤◌, ◌+◌, ℕ, [], List, Some, OnOk, OnErr, IfOk, MatchOption, is_some, option_copied, slice_get, length, cond, nat_eq};
+ghost use Rattle.mb_word.specs.Numbers.{put_at};
 ghost use Rattle.std.specs.Option.{option_or};
 ghost use Rattle.mb_tree.specs.Views.{over};
 ghost use Rattle.indexmap.specs.IndexMap.{insert_entry, insert_all};
@@ -26,6 +27,15 @@ impl Model for Changes {
     ghost invariant = { λ c. AreChanges c.map.entries };
 }
 
+/// Writes bytes over those of a block, from an offset on.
+pub(crate) fn write_at(into: &mut [u8; 512], at: usize, bytes: &[u8])
+    requires { at + length bytes.now ≤ 512 }
+    ensures bytes { into.new ≡ put_at into.old at bytes.now }
+    ensures sized { length into.new ≡ 512 }
+{
+    into[at..at + bytes.len()].copy_from_slice(bytes);
+}
+
 impl Changes {
     /// No change; needs no memory.
     pub fn new(alloc: Global) -> Changes
@@ -34,6 +44,16 @@ impl Changes {
         Changes {
             map: IndexMap::new(alloc),
         }
+    }
+
+    /// No change, with room for so many blocks, so that the first ones take no memory each on their
+    /// own. The only error is want of memory.
+    pub fn with_room(alloc: Global, blocks: usize) -> Result<Changes, AllocError>
+        ensures { IfOk result (λ changes. changes ≡ []) }
+    {
+        Ok(Changes {
+            map: IndexMap::with_capacity(alloc, blocks)?,
+        })
     }
 
     /// How many blocks are changed.
@@ -73,6 +93,22 @@ impl Changes {
     {
         self.map.insert(block, *bytes)?;
         Ok(())
+    }
+
+    /// Changes bytes of a block that is changed already, from an offset on, and keeps its other bytes;
+    /// needs no memory. Where the block is not changed yet nothing is, and the answer is false.
+    pub fn patch(&mut self, block: u32, at: usize, bytes: &[u8]) -> bool
+        requires { at + length bytes.now ≤ 512 }
+        ensures told { result ≡ is_some (changed self.old block) }
+        ensures each { MatchOption (changed self.old block) (self.new ≡ self.old) (λ old. (other : ℕ) → changed self.new other ≡ cond (nat_eq block other) (Some (put_at old at bytes.now)) (changed self.old other)) }
+    {
+        match self.map.get_mut(&block) {
+            Some(into) => {
+                write_at(into, at, bytes);
+                true
+            }
+            None => false,
+        }
     }
 
     /// Changes two blocks, one after the other, or none. The only error is want of memory; the

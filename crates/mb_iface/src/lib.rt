@@ -3,12 +3,14 @@
 //! answers, and the trait of a file system's code. Nothing here waits, and only want of memory is
 //! refused.
 //!
-//! `specs/Changed.antt` says how changes lie over the blocks of an image, `specs/Near.antt` for which
-//! blocks a query or an operation may ask, `specs/Asking.antt` and `specs/Acting.antt` what its
-//! answers mean on a volume of the reference tree.
+//! `specs/Changed.antt` says how changes lie over the blocks of an image, `specs/Edits.antt` what a
+//! change of some bytes of a block does, `specs/Near.antt` for which blocks a query or an operation may
+//! ask, `specs/Asking.antt` and `specs/Acting.antt` what its answers mean on a volume of the reference
+//! tree.
 #![tactic(auto)]
 
 mod change_lists;
+mod edits;
 mod laws;
 mod open_counts;
 mod overlays;
@@ -20,6 +22,7 @@ mod tests;
 mod views;
 
 pub use change_lists::Changes;
+pub use edits::{Edited, edit, edit_both};
 pub use laws::{changes_cover, counts_tell, views_under_changes};
 pub use open_counts::Opens;
 pub use overlays::{Over, seen};

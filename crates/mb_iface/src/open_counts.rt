@@ -1,4 +1,4 @@
-ghost use Rattle.std.specs.Prelude.{◌≡◌, ◌<◌, ℕ, OnOk, OnErr, IfOk, Some, None};
+ghost use Rattle.std.specs.Prelude.{◌≡◌, ◌<◌, ℕ, OnOk, OnErr, IfOk, Some, None, Decides};
 ghost use Rattle.std.specs.FinMap as fin;
 ghost use Rattle.mb_iface.specs.OpenCounts.{count_of, with_count, AreCounts};
 
@@ -63,6 +63,17 @@ impl Opens {
         }
         self.counts.insert(ino, count)?;
         Ok(())
+    }
+
+    /// Whether there are as many open files on each inode here as there.
+    pub fn same(&self, other: &Opens) -> bool
+        ensures counts { Decides result ((ino : ℕ) → count_of self.now ino ≡ count_of other.now ino) }
+        ensures maps { Decides result (self.now ≡ other.now) }
+    {
+        if self.counts.len() != other.counts.len() {
+            return false;
+        }
+        self.counts == other.counts
     }
 
     /// The same counts again. The only error is want of memory.

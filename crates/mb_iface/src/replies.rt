@@ -1,4 +1,8 @@
+ghost use Rattle.std.specs.Prelude.{◌≡◌, ◌≤◌, ◌<◌, ℕ, List, Option, None};
+ghost use Rattle.mb_iface.specs.Needs.{IsNeed, IsRun};
+
 use crate::change_lists::Changes;
+use crate::views::View;
 use mb_kinds::{Errno, Name, Octets, Stat};
 
 /// What a query finds.
@@ -27,6 +31,41 @@ pub enum Answer {
 pub struct Need {
     pub first: u32,
     pub count: u32,
+}
+
+impl Need {
+    /// One block, from 1 on and below 262,144.
+    pub fn one(block: u32) -> Need
+        requires some { 1 ≤ block }
+        requires below { block < 262144 }
+        ensures first { result.first ≡ block }
+        ensures count { result.count ≡ 1 }
+        ensures need { (shown : ℕ → Option (List ℕ)) → shown block ≡ None → IsNeed shown result }
+    {
+        Need {
+            first: block,
+            count: 1,
+        }
+    }
+
+    /// The run of neighbours from a block on, which is from 1 on and below 262,144, that a view lacks:
+    /// as far as they are `wanted`, at most 32, and up to the last block that a volume can have.
+    pub fn run<V: View>(view: &V, first: u32, wanted: u32) -> Need
+        requires some { 1 ≤ first }
+        requires below { first < 262144 }
+        requires wanted { 1 ≤ wanted }
+        requires lacking { V.shown view.now first ≡ None }
+        ensures need { IsNeed (V.shown view.now) result }
+        ensures run { IsRun (V.shown view.now) first wanted result }
+    {
+        let most = wanted.min(32).min(262_144 - first);
+        for count in 1..most {
+            if view.get(first + count).is_some() {
+                return Need { first, count };
+            }
+        }
+        Need { first, count: most }
+    }
 }
 
 /// The answer to a query.

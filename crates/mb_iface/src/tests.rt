@@ -31,6 +31,17 @@ fn ones() -> OneBlock {
     }
 }
 
+/// The run of blocks from one on, where the view lacks that one.
+fn run_from<V: View>(view: &V, first: u32, wanted: u32) -> Option<Need> {
+    if first < 1 || first >= 262_144 || wanted < 1 {
+        return None;
+    }
+    match view.get(first) {
+        Some(_) => None,
+        None => Some(Need::run(view, first, wanted)),
+    }
+}
+
 /// A file system that has no memory.
 #[derive(Clone, Copy)]
 struct Starved;
@@ -87,6 +98,69 @@ fn changes_stand_in_the_order_of_first_writes(rt: HostRuntime) -> Result<(), Fai
     assert_eq!(rt; bytes[0], 4);
     let (last, _) = changes.at(2);
     assert_eq!(rt; last, 9);
+    Ok(())
+}
+
+#[test]
+fn edit_keeps_the_other_bytes_of_the_block(rt: HostRuntime) -> Result<(), Fail> {
+    let view = ones();
+    let mut changes = Changes::with_room(rt.alloc(), 2)?;
+    assert_eq!(rt; edit(&view, &mut changes, 6, 0, &[7]), Edited::Lacking);
+    assert!(rt; !changes.patch(5, 0, &[7]));
+    assert_eq!(rt; changes.len(), 0);
+    // in a copy of the view's block, and then twice in place
+    assert_eq!(rt; edit(&view, &mut changes, 5, 510, &[7, 8]), Edited::Done);
+    assert_eq!(rt; edit(&view, &mut changes, 5, 0, &[9]), Edited::Done);
+    assert!(rt; changes.patch(5, 2, &[6]));
+    assert_eq!(rt; changes.len(), 1);
+    let bytes = changes.get(5).ok_or("block 5 is not changed")?;
+    assert_eq!(rt; &bytes[..4], [9, 1, 6, 1].as_slice());
+    assert_eq!(rt; &bytes[508..], [1, 1, 7, 8].as_slice());
+    Ok(())
+}
+
+#[test]
+fn later_one_of_two_edits_lies_over_the_earlier_one(rt: HostRuntime) -> Result<(), Fail> {
+    let mut changes = Changes::new(rt.alloc());
+    let edited = edit_both(&ones(), &mut changes, 5, 0, &[2, 2], 1, &[3, 3]);
+    assert_eq!(rt; edited, Edited::Done);
+    let bytes = changes.get(5).ok_or("block 5 is not changed")?;
+    assert_eq!(rt; &bytes[..4], [2, 3, 3, 1].as_slice());
+    Ok(())
+}
+
+#[test]
+fn run_of_needs_ends_before_a_block_that_is_there(rt: HostRuntime) {
+    let view = ones();
+    assert_eq!(rt; run_from(&view, 5, 9), None);
+    assert_eq!(rt; run_from(&view, 3, 9), Some(Need { first: 3, count: 2 }));
+    assert_eq!(rt; run_from(&view, 6, 9), Some(Need { first: 6, count: 9 }));
+    assert_eq!(rt;
+        run_from(&view, 6, 40),
+        Some(Need {
+            first: 6,
+            count: 32
+        })
+    );
+    let last = Some(Need {
+        first: 262_142,
+        count: 2,
+    });
+    assert_eq!(rt; run_from(&view, 262_142, 9), last);
+    assert_eq!(rt; Need::one(4), Need { first: 4, count: 1 });
+}
+
+#[test]
+fn tables_are_the_same_where_they_count_alike(rt: HostRuntime) -> Result<(), Fail> {
+    let mut opens = Opens::new(rt.alloc());
+    opens.set(3, 2)?;
+    let mut other = Opens::new(rt.alloc());
+    assert!(rt; !opens.same(&other));
+    other.set(4, 2)?;
+    assert!(rt; !opens.same(&other));
+    other.set(3, 2)?;
+    other.set(4, 0)?;
+    assert!(rt; opens.same(&other));
     Ok(())
 }
 

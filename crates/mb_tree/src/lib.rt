@@ -69,14 +69,12 @@ pub use name_laws::{
 };
 pub use nodes::{Body, Node, Nodes, Parts, PlainSlot, PlainSlots};
 pub use operations::{FsOp, Inos};
-pub use plans::{CallPlan, acting, answered, both, changing};
-pub use seats::{PlainFile, Seat, Seats, SessionChange, change_session, reads, writes};
 pub use part_laws::{
     parts_after_put, parts_stand_after_put, parts_stay_whole, put_splits, put_within_part,
     worked_parts,
 };
-pub use plans::CallPlan;
-pub use seats::{PlainFile, Seat, Seats, SessionChange, reads};
+pub use plans::{CallPlan, acting, answered, both, changing};
+pub use seats::{PlainFile, Seat, Seats, SessionChange, change_session, reads, writes};
 pub use session_laws::{
     bytes_or_attributes_valid, counts_follow, operations_fit, release_valid, valid_kept,
     valid_stays,

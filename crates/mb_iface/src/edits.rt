@@ -1,0 +1,63 @@
+ghost use Rattle.std.specs.Prelude.{◌≤◌, ◌<◌, ◌+◌, length};
+ghost use Rattle.mb_iface.specs.Edits.{Edits, EditsBoth};
+
+use crate::change_lists::{Changes, write_at};
+use crate::views::View;
+
+/// What became of bytes of a block that were to be changed.
+#[derive(Clone, Copy, Debug, PartialEq, Drop)]
+pub enum Edited {
+    /// They are changed, and the block is a changed one.
+    Done,
+    /// The block is neither changed nor in the view; nothing was changed.
+    Lacking,
+    /// Memory was wanted and not given, which comes only where the block was not changed before;
+    /// nothing was changed.
+    NoMemory,
+}
+
+/// Changes bytes of a block from an offset on, and keeps its other bytes: in place where the block is
+/// changed already, else in a copy of the view's block. Bytes that end past 512 are not taken.
+pub fn edit<V: View>(view: &V, changes: &mut Changes, block: u32, at: usize, bytes: &[u8]) -> Edited
+    requires below { block < 262144 }
+    requires fits { at + length bytes.now ≤ 512 }
+    ensures { Edits (V.shown view.now) changes.old changes.new block at bytes.now result }
+{
+    if changes.patch(block, at, bytes) {
+        return Edited::Done;
+    }
+    let Some(found) = view.get(block) else {
+        return Edited::Lacking;
+    };
+    let mut whole = *found;
+    write_at(&mut whole, at, bytes);
+    match changes.put(block, &whole) {
+        Ok(()) => Edited::Done,
+        Err(_) => Edited::NoMemory,
+    }
+}
+
+/// Changes bytes of one block from two offsets on, one after the other, or none.
+pub fn edit_both<V: View>(
+    view: &V,
+    changes: &mut Changes,
+    block: u32,
+    at: usize,
+    bytes: &[u8],
+    beside: usize,
+    more: &[u8],
+) -> Edited
+    requires below { block < 262144 }
+    requires fits { at + length bytes.now ≤ 512 }
+    requires more_fits { beside + length more.now ≤ 512 }
+    ensures { EditsBoth (V.shown view.now) changes.old changes.new block at bytes.now beside more.now result }
+{
+    match edit(view, changes, block, at, bytes) {
+        Edited::Done => {
+            let _ = changes.patch(block, beside, more);
+            Edited::Done
+        }
+        Edited::Lacking => Edited::Lacking,
+        Edited::NoMemory => Edited::NoMemory,
+    }
+}
