@@ -1,4 +1,5 @@
 pub mod Conserving
+pub mod Dropping
 pub mod Enumerated
 pub mod Families
 pub mod FieldsKept
@@ -12,6 +13,7 @@ pub mod Hanging
 pub mod HeldLists
 pub mod InodeStays
 pub mod InodeWalks
+pub mod InodeWrites
 pub mod Keeping
 pub mod Keys
 pub mod LaidRules

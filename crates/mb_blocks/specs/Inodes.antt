@@ -1,7 +1,9 @@
 -- An inode's 64 bytes: the fields that a node says, and writes that leave some of them (V7 filsys(5)).
 use Rattle.std.specs.Prelude.{List, ℕ, ◌+◌, ◌*◌, ◌<◌, ◌≡◌, ◌≢◌, length, slice_index}
 use Rattle.mb_word.specs.Fields.{isize_of, inode_block, inode_place, mode_of, nlink_of, uid_of, gid_of, atime_of, mtime_of, ctime_of}
-use Rattle.mb_word.specs.Numbers.{SameFrom}
+use Rattle.mb_word.specs.Numbers.{SameFrom, put_at}
+use Rattle.mb_layout.specs.Inode.{dinode_bytes, FitsDinode}
+use Rattle.mb_layout.specs.declared.dinodes.Dinode.{Dinode}
 use Rattle.mb_tree.specs.Blocks.{pointers}
 use Rattle.mb_tree.specs.declared.nodes.Node.{Node}
 
@@ -41,3 +43,20 @@ pub record IsBorn (blocks : ℕ → List ℕ) (ino : ℕ) : Type 0 where
   pub some : 0 < ino
   pub listed : inode_block ino < isize_of (blocks 1)
   pub holes : (p : ℕ) → p < 13 → (pointers blocks).top ino p ≡ 0
+
+-- an inode's 64 bytes written, and every other byte as before
+pub record IsDinodeWritten (old new : ℕ → List ℕ) (ino : ℕ) (d : Dinode) : Type 0 where
+  pub fits : FitsDinode d
+  pub block : new (inode_block ino) ≡ put_at (old (inode_block ino)) (64 * inode_place ino) (dinode_bytes d)
+  pub others : (block : ℕ) → block ≢ inode_block ino → new block ≡ old block
+
+-- an inode's value says the fields of a node other than its size and what it holds
+pub record HasValues (d : Dinode) (node : Node) : Type 0 where
+  pub used : d.mode ≢ 0
+  pub mode : d.mode ≡ node.mode
+  pub nlink : d.nlink ≡ node.nlink
+  pub uid : d.uid ≡ node.uid
+  pub gid : d.gid ≡ node.gid
+  pub atime : d.atime ≡ node.atime
+  pub mtime : d.mtime ≡ node.mtime
+  pub ctime : d.ctime ≡ node.ctime

@@ -1,16 +1,19 @@
 -- The laws of the steps on blocks, each the contract of a function without a body. In each of them has says which
 -- inodes have addresses: at all inodes of a volume a law speaks of the volume, at some of them of what these hold.
-use Rattle.std.specs.Prelude.{List, [], ◌∷◌, ◌++◌, ℕ, ◌+◌, ◌*◌, ◌<◌, ◌≤◌, ◌≡◌, ◌≢◌, ◌⊎◌, ◌↔◌, Bool, true, length}
+use Rattle.std.specs.Prelude.{List, [], ◌∷◌, ◌++◌, ℕ, ◌+◌, ◌*◌, ◌<◌, ◌≤◌, ◌≡◌, ◌≢◌, ◌⊎◌, ◌↔◌, Bool, true, length, slice_index}
 use Rattle.std.specs.List.{Contains}
 use Rattle.mb_word.specs.Fields.{isize_of, fsize_of, ninode_of, inode_block, inode_place, index_entry}
 use Rattle.mb_word.specs.Numbers.{put_at, long_bytes, addr_bytes}
-use Rattle.mb_tree.specs.Blocks.{pointers, first_list}
+use Rattle.mb_layout.specs.Inode.{dinode_at, address_in}
+use Rattle.mb_layout.specs.declared.dinodes.Dinode.{Dinode}
+use Rattle.mb_tree.specs.Blocks.{pointers, first_list, IsFreeChain}
 use Rattle.mb_tree.specs.Cost.{most_parts, index_blocks}
 use Rattle.mb_tree.specs.Places.{Place, Pointers, at, level, IsPlace, place_of}
+use Rattle.mb_tree.specs.declared.nodes.Node.{Node}
 use Rattle.mb_blocks.specs.Conserved.{Conserves}
 use Rattle.mb_blocks.specs.FreeLists.{IsTaken, HasTaken, AreFreed, HasFreed, onto}
 use Rattle.mb_blocks.specs.Growing.{IsEntrySet, IsTopSet, SetsPlace, Reaches, missing}
-use Rattle.mb_blocks.specs.Inodes.{IsRewritten, IsBorn}
+use Rattle.mb_blocks.specs.Inodes.{HasFields, HasValues, IsBorn, IsDinodeWritten, IsRewritten}
 use Rattle.mb_blocks.specs.Laid.{IsLaid, IndexesLeadOn}
 use Rattle.mb_blocks.specs.Owners.{without, Enumerates, HoldsParts}
 use Rattle.mb_blocks.specs.Pointing.{KeepsHeld}
@@ -109,3 +112,25 @@ abbrev pub TopBytes : Type 0
 TopBytes = (old new : ℕ → List ℕ) (ino place value : ℕ) → 0 < ino → place < 13 → value < 16777216 → length (old (inode_block ino)) ≡ 512
     → new (inode_block ino) ≡ put_at (old (inode_block ino)) (64 * inode_place ino + 12 + 3 * place) (addr_bytes value)
     → ((block : ℕ) → block ≢ inode_block ino → new block ≡ old block) → IsTopSet old new ino place value
+
+-- an inode let go, its bytes written, and its blocks put back
+abbrev pub Dropped : Type 0
+Dropped = (has : ℕ → Bool) (old mid new : ℕ → List ℕ) (ino : ℕ) (list chain : List ℕ) → IsLaid has old [] chain → has ino ≡ true → Enumerates old ino list
+    → inode_block ino < isize_of (old 1) → IsRewritten old mid ino → AreFreed mid new list
+    → IsLaid (without has ino) new [] (onto list chain) × Conserves has (without has ino) old new chain (onto list chain)
+
+-- what some inodes and the chain have after the way to a place of theirs was made they had before, whichever chain is left
+abbrev pub WayMadeForFewer : Type 0
+WayMadeForFewer = (few has : ℕ → Bool) (old new : ℕ → List ℕ) (loose chain left : List ℕ) (q : Place) → ((i : ℕ) → few i ≡ true → has i ≡ true)
+    → IsLaid has old loose chain → IsPlace few q → Reaches old new q → IsFreeChain new left → Conserves few few old new (loose ++ chain) (loose ++ left)
+
+-- an inode's bytes written: its value reads back, its addresses are those of its area, and the other inodes stay
+abbrev pub InodeBytes : Type 0
+InodeBytes = (old new : ℕ → List ℕ) (ino : ℕ) (d : Dinode) → 0 < ino → length (old (inode_block ino)) ≡ 512 → IsDinodeWritten old new ino d
+    → slice_index d.area 39 ≡ slice_index (old (inode_block ino)) (64 * inode_place ino + 51)
+    → IsRewritten old new ino × (dinode_at (new (inode_block ino)) (inode_place ino) ≡ d) × ((p : ℕ) → p < 13 → (pointers new).top ino p ≡ address_in d p)
+
+-- and its fields are those of a node with its values
+abbrev pub InodeFields : Type 0
+InodeFields = (old new : ℕ → List ℕ) (ino : ℕ) (d : Dinode) (node : Node) → 0 < ino → length (old (inode_block ino)) ≡ 512 → IsDinodeWritten old new ino d
+    → HasValues d node → HasFields new ino node

@@ -1,4 +1,4 @@
-ghost use Rattle.mb_blocks.specs.Laws.{Taken, Written, Rewritten, Hung, Freed, LetGo, Joined, LaidForFewer, WayMade, WalkEnumerates, CostEnumerated, CostMissing, LaidKeepsRules, OutAtEnd, EntryBytes, TopBytes};
+ghost use Rattle.mb_blocks.specs.Laws.{Taken, Written, Rewritten, Hung, Freed, LetGo, Joined, LaidForFewer, Dropped, WayMade, WayMadeForFewer, WalkEnumerates, CostEnumerated, CostMissing, LaidKeepsRules, OutAtEnd, EntryBytes, TopBytes, InodeBytes, InodeFields};
 ghost use Rattle.mb_blocks.specs.Worked.{PutBack, FreshChain, SmallFile};
 
 /// A block that is taken was the free chain's first, and is in hand then.
@@ -27,6 +27,11 @@ pub fn let_go()
     ensures { LetGo }
 {}
 
+/// An inode is let go and written, and its blocks are put back.
+pub fn dropped()
+    ensures { Dropped }
+{}
+
 /// Inodes without an address may join those that have some.
 pub fn joined()
     ensures { Joined }
@@ -39,7 +44,8 @@ pub fn laid_for_fewer()
 
 /// Once the way to a place is made the place holds a block, and the chain is shorter by the blocks that were missing.
 pub fn way_made()
-    ensures { WayMade }
+    ensures whole { WayMade }
+    ensures fewer { WayMadeForFewer }
 {}
 
 /// The walk over an inode's addresses by their levels lists its blocks, each once.
@@ -67,6 +73,12 @@ pub fn out_at_end()
 pub fn address_bytes()
     ensures entry { EntryBytes }
     ensures top { TopBytes }
+{}
+
+/// The bytes of an inode, written in its block, are its value, and the other inodes stay.
+pub fn inode_bytes()
+    ensures value { InodeBytes }
+    ensures fields { InodeFields }
 {}
 
 /// The lists of 0, 1, 49 and 50 addresses with one more, the chain of a small fresh volume, and the blocks of a small file.

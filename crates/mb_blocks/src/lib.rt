@@ -15,6 +15,6 @@
 mod laws;
 
 pub use laws::{
-    address_bytes, costs, freed, hung, joined, keeps_rules, laid_for_fewer, let_go, out_at_end,
-    taken, walk_enumerates, way_made, worked_numbers, written,
+    address_bytes, costs, dropped, freed, hung, inode_bytes, joined, keeps_rules, laid_for_fewer,
+    let_go, out_at_end, taken, walk_enumerates, way_made, worked_numbers, written,
 };

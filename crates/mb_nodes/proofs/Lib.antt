@@ -1,0 +1,12 @@
+pub mod Erasing
+pub mod Filling
+pub mod GrownDirectories
+pub mod KeptFrom
+pub mod Making
+pub mod MoreSlots
+pub mod NodeParts
+pub mod OneInode
+pub mod Setting
+pub mod SlotRanges
+pub mod Underway
+pub mod Volumes

@@ -1,0 +1,48 @@
+ghost use Rattle.mb_nodes.specs.Laws.{StoredOf, VolumeOf, FieldsSet, PartPut, HoleFilled, FillRefused, DirectoryGrown, FileMade, DirectoryMade, Cleared, Erased};
+
+/// A volume stores its tree, and a stored tree that is sound is a volume.
+pub fn volume_is_stored()
+    ensures stored { StoredOf }
+    ensures volume { VolumeOf }
+{}
+
+/// An inode's fields are set.
+pub fn fields_set()
+    ensures { FieldsSet }
+{}
+
+/// The bytes of a part that is there are written.
+pub fn part_put()
+    ensures { PartPut }
+{}
+
+/// A hole is filled with zeros; it is refused where the free chain is too short, and then the tree would pass the capacity.
+pub fn hole_filled()
+    ensures filled { HoleFilled }
+    ensures refused { FillRefused }
+{}
+
+/// A directory grows by slots.
+pub fn directory_grown()
+    ensures { DirectoryGrown }
+{}
+
+/// An empty file is made.
+pub fn file_made()
+    ensures { FileMade }
+{}
+
+/// A directory is made.
+pub fn directory_made()
+    ensures { DirectoryMade }
+{}
+
+/// A node becomes an empty file.
+pub fn cleared()
+    ensures { Cleared }
+{}
+
+/// A node is gone.
+pub fn erased()
+    ensures { Erased }
+{}
