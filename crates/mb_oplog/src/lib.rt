@@ -1,0 +1,14 @@
+//! The operation log: the operations that were done since the last checkpoint, in order, each with the number of
+//! the inode that it made. A recovery does them again.
+//!
+//! A contract sees an `Oplog` as the list of its operations and its room, the number of operations that it takes
+//! without memory. `reserve` alone may want memory.
+//!
+//! `Logged` stands in `mb_core` too, under the same name, until the core for one caller goes.
+#![tactic(auto)]
+
+mod oplogs;
+#[cfg(test)]
+mod tests;
+
+pub use oplogs::{Logged, Oplog};
