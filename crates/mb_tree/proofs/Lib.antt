@@ -13,6 +13,7 @@ pub mod Dropped
 pub mod EachOperation
 pub mod Entering
 pub mod FiniteMaps
+pub mod FitsUnpicked
 pub mod Fitting
 pub mod FreePlaces
 pub mod Groups
@@ -20,9 +21,13 @@ pub mod Histories
 pub mod HistoryOperations
 pub mod InodeKinds
 pub mod KeptVolumes
+pub mod KnownPlaces
+pub mod LawfulPicks
 pub mod Leaving
+pub mod Locality
 pub mod MapCopies
 pub mod NamedKinds
+pub mod NewCosts
 pub mod NewInodes
 pub mod NewNames
 pub mod OneTrees
@@ -32,11 +37,13 @@ pub mod OperationsFit
 pub mod Outcomes
 pub mod Padding
 pub mod PathNames
+pub mod PickedEffects
 pub mod PlacedNames
 pub mod PuttingParts
 pub mod ReleaseValid
 pub mod Released
 pub mod RemovedDirectories
+pub mod Repicking
 pub mod Rewritten
 pub mod Rows
 pub mod Searches

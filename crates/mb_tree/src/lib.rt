@@ -9,8 +9,12 @@
 //! `specs/Trees.antt` and `specs/Machines.antt` which trees are sound and which machines are valid,
 //! `specs/History.antt` which lists of entries are histories. What holds of them is proved as laws: of steps
 //! and histories in `specs/Laws.antt`, of the operations on names in `specs/NameLaws.antt`, of the counts of
-//! open files and of what keeps a machine valid in `specs/SessionLaws.antt` and `specs/ValidLaws.antt`; that
-//! an image is a volume of at most one tree in `specs/OneTree.antt`.
+//! open files and of what keeps a machine valid in `specs/SessionLaws.antt` and `specs/ValidLaws.antt`; of the
+//! free number that is picked for a call in `specs/PickLaws.antt`; of what a call looks at in
+//! `specs/LocalLaws.antt`; that an image is a volume of at most one tree in `specs/OneTree.antt`.
+//!
+//! A row that looks something up goes on with a continuation of its own (`open_found`, `creat_under` and so
+//! on): a function of what stat tells, which a file system that looks things up on blocks can use as well.
 #![tactic(auto)]
 
 mod calls;
@@ -23,6 +27,7 @@ mod file_rows;
 mod history_laws;
 mod inodes;
 mod laws;
+mod local_laws;
 mod lookups;
 mod machines;
 mod maps;
@@ -31,6 +36,7 @@ mod nodes;
 mod operations;
 mod part_laws;
 mod path_rows;
+mod pick_laws;
 mod plans;
 mod seats;
 mod session_laws;
@@ -86,3 +92,113 @@ pub use valid_laws::{history_valid, one_tree, opening_valid};
 pub use volume_laws::{
     kept_composes, kept_resized, kept_same, volume_by_its_blocks, volume_resized,
 };
+pub use changes::DOT;
+pub use changes::DOT_DOT;
+pub use decisions::access_found;
+pub use decisions::bits_of;
+pub use decisions::chdir_found;
+pub use decisions::chmod_found;
+pub use decisions::chown_found;
+pub use decisions::creat_found;
+pub use decisions::creat_under;
+pub use decisions::descriptor;
+pub use decisions::is_current;
+pub use decisions::is_dots;
+pub use decisions::is_owner;
+pub use decisions::link_under;
+pub use decisions::lseek_from;
+pub use decisions::masked;
+pub use decisions::mkdir_under;
+pub use decisions::need;
+pub use decisions::offset_from;
+pub use decisions::open_file;
+pub use decisions::open_found;
+pub use decisions::read_found;
+pub use decisions::stat_found;
+pub use decisions::stored;
+pub use decisions::unlink_found;
+pub use decisions::utime_found;
+pub use file_rows::close_row;
+pub use file_rows::dup_row;
+pub use file_rows::exit_row;
+pub use file_rows::write_row;
+pub use inodes::is_directory;
+pub use inodes::is_regular;
+pub use inodes::is_special;
+pub use inodes::is_used;
+pub use inodes::may;
+pub use laws::after_appends;
+pub use laws::alike_kept;
+pub use laws::cost_kept;
+pub use laws::drop_kept;
+pub use laws::legal_appends;
+pub use laws::legal_grows;
+pub use laws::legal_splits;
+pub use laws::quiet_kept;
+pub use laws::refused_stays;
+pub use laws::release_kept;
+pub use laws::served_by_effect;
+pub use laws::session_kept;
+pub use local_laws::acted_alike;
+pub use local_laws::free_of_counts;
+pub use local_laws::place_known;
+pub use local_laws::planned_alike;
+pub use lookups::Placed;
+pub use lookups::components;
+pub use lookups::number_of;
+pub use lookups::start_of;
+pub use maps::Copied;
+pub use maps::Map;
+pub use name_laws::create_kept;
+pub use name_laws::delink_kept;
+pub use name_laws::enlink_kept;
+pub use name_laws::make_dir_kept;
+pub use name_laws::operation_kept;
+pub use name_laws::remove_dir_kept;
+pub use nodes::Body;
+pub use nodes::Node;
+pub use nodes::Nodes;
+pub use nodes::Parts;
+pub use nodes::PlainSlot;
+pub use nodes::PlainSlots;
+pub use operations::FsOp;
+pub use operations::Inos;
+pub use pick_laws::adds_none;
+pub use pick_laws::adds_one;
+pub use pick_laws::effect_unpicked;
+pub use pick_laws::lawful_made;
+pub use pick_laws::lawful_refused;
+pub use pick_laws::lawful_unmade;
+pub use pick_laws::lawful_unplanned;
+pub use pick_laws::makes_by_number;
+pub use pick_laws::plan_repicked;
+pub use pick_laws::refusal_repicked;
+pub use pick_laws::refused_alike;
+pub use pick_laws::refused_unpicked;
+pub use pick_laws::refused_with_all;
+pub use pick_laws::unpicked_fits;
+pub use plans::CallPlan;
+pub use plans::acting;
+pub use plans::answered;
+pub use plans::both;
+pub use plans::changing;
+pub use seats::PlainFile;
+pub use seats::Seat;
+pub use seats::Seats;
+pub use seats::SessionChange;
+pub use seats::change_session;
+pub use seats::reads;
+pub use seats::writes;
+pub use session_laws::counts_follow;
+pub use session_laws::operations_fit;
+pub use session_laws::quiet_valid;
+pub use session_laws::release_valid;
+pub use session_laws::valid_kept;
+pub use session_laws::valid_stays;
+pub use stops::NoMemory;
+pub use stops::Stop;
+pub use tables::Fds;
+pub use tables::Files;
+pub use valid_laws::history_valid;
+pub use valid_laws::one_tree;
+pub use valid_laws::opening_valid;
