@@ -48,10 +48,12 @@ carried_out_goes_on held last now (made ∷ later) (suc done) op whole so_far at
 pub find_few_both : (most : ℕ) (held middle : TreeAndOpens) (front back : List PickedOp) → AreCarriedOut held front middle → FindFewOpens most held front → FindFewOpens most middle back
     → FindFewOpens most held (front ++ back)
 find_few_both most held middle [] back leads few rest = subst (λ (start : TreeAndOpens). FindFewOpens most start back) (sym leads) rest
-find_few_both most held middle (made ∷ front) back leads few rest =
-    (few.0, λ next one.
+find_few_both most held middle (made ∷ front) back leads few rest = (
+  few.0,
+  λ next one.
       let same = one_end held leads.0 next made leads.1 one in
-      find_few_both most next middle front back (subst (λ (start : TreeAndOpens). AreCarriedOut start front middle) same leads.2) (few.1 next one) rest)
+      find_few_both most next middle front back (subst (λ (start : TreeAndOpens). AreCarriedOut start front middle) same leads.2) (few.1 next one) rest,
+)
 
 pub find_few_ends : (most : ℕ) (held last : TreeAndOpens) (op : Option FsOp) (pick : Option ℕ) → AreCarriedOut held (picked_op op pick) last
     → ((ino : ℕ) → held.opens ino ≤ most) → ((ino : ℕ) → last.opens ino ≤ most) → FindFewOpens most held (picked_op op pick)

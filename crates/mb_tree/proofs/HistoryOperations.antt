@@ -39,9 +39,9 @@ one_file : (ino : ℕ) (o : Option PlainFile) → held_by ino o ≤ 1
 one_file ino None = omega arith
 one_file ino (Some file) = one_or_none (nat_eq file.ino ino)
   where
-  one_or_none : (b : Bool) → (if b then 1 else 0) ≤ 1
-  one_or_none true = omega arith
-  one_or_none false = omega arith
+    one_or_none : (b : Bool) → (if b then 1 else 0) ≤ 1
+    one_or_none true = omega arith
+    one_or_none false = omega arith
 
 pub few_opens : FewOpens
 few_opens [] ino = omega arith
@@ -56,9 +56,9 @@ few_opens (seat ∷ seats) ino =
 change_length : (seats : List Seat) (caller : ℕ) (change : SessionChange) → length (with_change seats caller change) ≡ length seats
 change_length seats caller change = by_seat (slice_get seats caller)
   where
-  by_seat : (o : Option Seat) → length (unwrap_or (option_map (λ seat. slice_set seats caller (changed seat change)) o) seats) ≡ length seats
-  by_seat None = refl
-  by_seat (Some seat) = length-set seats caller (changed seat change)
+    by_seat : (o : Option Seat) → length (unwrap_or (option_map (λ seat. slice_set seats caller (changed seat change)) o) seats) ≡ length seats
+    by_seat None = refl
+    by_seat (Some seat) = length-set seats caller (changed seat change)
 
 step_length : (machine : Machine) (entry : Entry) → length (stepped machine entry).1.seats ≡ length machine.seats
 unfolding stepped
@@ -107,7 +107,7 @@ module _ (machine : Machine) (entry : Entry) (valid : IsValid machine) (good : I
   unfolding stepped
   answered_step reply answered run =
       elim (serve machine entry.caller entry.call entry.moment entry.pick) as (λ (r : Answer (Reply × Machine)). serve machine entry.caller entry.call entry.moment entry.pick ≡ r → (or_refused machine r).0 ≡ reply
-          → AreCarriedOut (tree_and_opens machine) (planned_op (plan machine entry.caller entry.call entry.moment entry.pick) entry.pick) (tree_and_opens (or_refused machine r).1)) [
+      → AreCarriedOut (tree_and_opens machine) (planned_op (plan machine entry.caller entry.call entry.moment entry.pick) entry.pick) (tree_and_opens (or_refused machine r).1)) [
         | Ok s ↦ λ is says.
             let by = served machine entry.caller entry.call entry.moment entry.pick s.0 s.1 is in
             let opens : counts s.1.seats ≡ by.held.opens = ap counts by.seats ∙ counts_follow machine entry.caller entry.call entry.moment entry.pick by.planned by.held (valid entry.caller) by.plans by.acts in

@@ -91,7 +91,7 @@ module _ (parts : Numbered (List ℕ)) (index byte : ℕ) (bytes : List ℕ) (pa
       let old = part_at parts part in
       let got : fin.get (put_byte parts index byte) part ≡ Some (put_at old (index % 512) (byte ∷ [])) =
       ap (fin.get (put_byte parts index byte)) is ∙ get_here parts (index / 512) _ ∙ ap Some (put_one (part_at parts (index / 512)) (index % 512) byte (omega (arith, whole (index / 512)))
-          ∙ ap (λ p. put_at (part_at parts p) (index % 512) (byte ∷ [])) (sym is)) in
+      ∙ ap (λ p. put_at (part_at parts p) (index % 512) (byte ∷ [])) (sym is)) in
       rw (got, place, next, off, later, left, room) (put_more old (index % 512) byte (take (511 - index % 512) bytes) (whole part) (omega (arith, few)))
 
   before : index < 512 * part → After (fin.get parts part)
@@ -147,9 +147,10 @@ falls_into part index bytes reached =
 pub parts_stand_after_put : PartsStandAfterPut
 parts_stand_after_put parts index bytes part whole =
     let by = stands_by (fin.get parts part) (index - 512 * part) (bytes_into part index bytes) in
-    let after = parts_after_put parts index bytes part whole in
-    (λ some. elim (by.0 (subst IsSome after some)) [ inl old ↦ inl old | inr more ↦ inr (reached_by part index bytes more) ],
-      λ h. subst IsSome (sym after) (by.1 (elim h [ inl old ↦ inl old | inr reached ↦ inr (falls_into part index bytes reached) ])))
+    let after = parts_after_put parts index bytes part whole in (
+      λ some. elim (by.0 (subst IsSome after some)) [ inl old ↦ inl old | inr more ↦ inr (reached_by part index bytes more) ],
+      λ h. subst IsSome (sym after) (by.1 (elim h [ inl old ↦ inl old | inr reached ↦ inr (falls_into part index bytes reached) ])),
+    )
 
 pub worked_parts : WorkedParts
 worked_parts = record { first = refl; place = refl; second = refl; start = refl; third = refl }

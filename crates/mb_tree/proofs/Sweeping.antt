@@ -23,11 +23,11 @@ lost_of : (a : Bool) (o : Option Node) (ino : ℕ) → is_nameless ino o ≡ a �
 lost_of a None ino is = elim a as (λ x. (x && false) ≡ false) [ true ↦ refl | false ↦ refl ]
 lost_of true (Some node) ino is = first_of (nat_eq node.nlink 0) (not (is_directory node.mode)) (not (nat_eq ino 1)) is
   where
-  first_of : (x y z : Bool) → (x && y && z) ≡ true → (x && (0 == 0)) ≡ (x && y && z)
-  first_of true true true h = refl
-  first_of true true false h = cc
-  first_of true false z h = cc
-  first_of false y z h = cc
+    first_of : (x y z : Bool) → (x && y && z) ≡ true → (x && (0 == 0)) ≡ (x && y && z)
+    first_of true true true h = refl
+    first_of true true false h = cc
+    first_of true false z h = cc
+    first_of false y z h = cc
 lost_of false (Some node) ino is = sym is
 
 sweeps : (nodes : Numbered Node) (inos : List ℕ) → AreNameless nodes inos → less_open nodes (release (opens_of_list inos) inos) inos ≡ swept nodes
@@ -43,13 +43,14 @@ there_of nodes ino (Some node) has is = record { node = node; has = has }
 all_there : (nodes : Numbered Node) (inos : List ℕ) → ((ino : ℕ) → list_any (nat_eq ino) inos ≡ true → IsThere nodes ino) → AllByRecursion (IsThere nodes) inos
 all_there nodes [] each = tt
 all_there nodes (first ∷ inos) each =
-    let here : nat_eq first first ≡ true = grind (arith, nat_tests) in
-    (each first (ap (λ b. b || list_any (nat_eq first) inos) here),
-      all_there nodes inos (λ ino h. each ino (ap (λ b. nat_eq ino first || b) h ∙ or_true (nat_eq ino first))))
+    let here : nat_eq first first ≡ true = grind (arith, nat_tests) in (
+      each first (ap (λ b. b || list_any (nat_eq first) inos) here),
+      all_there nodes inos (λ ino h. each ino (ap (λ b. nat_eq ino first || b) h ∙ or_true (nat_eq ino first))),
+    )
   where
-  or_true : (b : Bool) → (b || true) ≡ true
-  or_true true = refl
-  or_true false = refl
+    or_true : (b : Bool) → (b || true) ≡ true
+    or_true true = refl
+    or_true false = refl
 
 pub sweep_is_release : SweepIsRelease
 sweep_is_release tree inos are some = record {

@@ -175,7 +175,7 @@ module _ (image other : Image) (tree : Tree) (has : HasBlocksOf image other) (vo
       let start : first_list image.at ≡ first_list other.at = ap (λ (bytes : List ℕ). record { count = nfree_of bytes; entry = free_of bytes }) (sym first) in
       subst (λ (it : Listed). IsChain (list_in other.at) it volume.chain) start
       (chain_alike (list_in image.at) (list_in other.at) (first_list image.at) volume.chain
-          (All-weaker (IsOpenToFiles image.at) (λ block. list_in image.at block ≡ list_in other.at block) list_same volume.chain volume.spare.in_range) volume.spare.listed)
+      (All-weaker (IsOpenToFiles image.at) (λ block. list_in image.at block ≡ list_in other.at block) list_same volume.chain volume.spare.in_range) volume.spare.listed)
 
   spare_same : SparesBlocks tree other.at volume.chain
   spare_same = record {

@@ -102,6 +102,9 @@ pub record SparesBlocks (tree : Tree) (blocks : ℕ → List ℕ) (chain : List 
   pub once : AllPairs (λ one other. one ≢ other) chain
   pub apart : All (λ block. (q : Place) → IsPlace (has_addresses tree) q → at (pointers blocks) q ≢ block) chain
 
+-- an image of blocks of 512 bytes that is a volume of the tree. Nothing is asked of a byte's value, of block 0, or of
+-- what is read from s_fsize on: the other blocks alone make it one (law volume_by_its_blocks). That a device reads zeros
+-- past its end, and that what is read and written are bytes below 256, the trait of devices says (Disk of mb_edge)
 pub record IsVolume (image : Image) (tree : Tree) : Type 0 where
   pub chain : List ℕ
   pub bytes : (block : ℕ) → length (image.at block) ≡ 512

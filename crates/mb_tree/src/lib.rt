@@ -7,11 +7,14 @@
 //! (`specs/Sessions.antt`). Want of memory is the only error and leaves the machine as it was.
 //! `specs/Lookup.antt` says where a path leads, `specs/Cost.antt` how many blocks a tree holds,
 //! `specs/Trees.antt` and `specs/Machines.antt` which trees are sound and which machines are valid,
-//! `specs/History.antt` which lists of entries are histories. What holds of them is proved as laws: of steps
-//! and histories in `specs/Laws.antt`, of the operations on names in `specs/NameLaws.antt`, of the counts of
-//! open files and of what keeps a machine valid in `specs/SessionLaws.antt` and `specs/ValidLaws.antt`; of the
-//! free number that is picked for a call in `specs/PickLaws.antt`; of what a call looks at in
-//! `specs/LocalLaws.antt`; that an image is a volume of at most one tree in `specs/OneTree.antt`.
+//! `specs/History.antt` which lists of entries are histories, `specs/CarriedOut.antt` what their operations
+//! come to. What holds of them is proved as laws: of steps and histories in `specs/Laws.antt` and
+//! `specs/HistoryLaws.antt`, of the operations on names in `specs/NameLaws.antt`, of the counts of open files
+//! and of what keeps a machine valid in `specs/SessionLaws.antt` and `specs/ValidLaws.antt`; of the free
+//! number that is picked for a call in `specs/PickLaws.antt`; of what a call looks at in
+//! `specs/LocalLaws.antt`; of the release at opening in `specs/Sweep.antt`; of the parts of a file in
+//! `specs/PutParts.antt`; that an image is a volume of at most one tree in `specs/OneTree.antt`, and by its
+//! blocks alone in `specs/VolumeLaws.antt`.
 //!
 //! A row that looks something up goes on with a continuation of its own (`open_found`, `creat_under` and so
 //! on): a function of what stat tells, which a file system that looks things up on blocks can use as well.
