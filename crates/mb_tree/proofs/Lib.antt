@@ -7,6 +7,7 @@ pub mod Chains
 pub mod Changed
 pub mod Cheaper
 pub mod CountsFollow
+pub mod Descriptors
 pub mod Dropped
 pub mod EachOperation
 pub mod Entering

@@ -1,8 +1,7 @@
 -- No row is planned with a refusal, or with a reply of a fault or of the disk.
 use Rattle.std.specs.Prelude.{List, [], ◌∷◌, ℕ, ◌+◌, Bool, true, false, not, ◌&&◌, ◌==◌, if◌then◌else◌, length, Option, Some, None, Ok, Err, ℤ, pos, ◌+ℤ◌, nat_le}
 use Rattle.std.specs.FinMap as fin
-use Rattle.mb_kinds.specs.declared.replies.Reply.{Reply}
-use Rattle.mb_kinds.specs.declared.replies.Reply.TheVariants.{Num, Got, Info}
+use Rattle.mb_kinds.specs.declared.replies.Reply.TheVariants.{Num}
 use Rattle.mb_kinds.specs.declared.calls.How.{How}
 use Rattle.mb_kinds.specs.declared.calls.Whence.{Whence}
 use Rattle.mb_kinds.specs.declared.calls.Call.{Call}
@@ -10,6 +9,7 @@ use Rattle.mb_kinds.specs.declared.calls.Call.TheVariants as call
 use Rattle.mb_kinds.specs.declared.errors.Errno.TheVariants.{EPERM, ENXIO, EBADF, EACCES, EBUSY, EEXIST, ENOTDIR, EISDIR, EINVAL, EMFILE, EFBIG, ENOSPC}
 use Rattle.mb_tree.specs.Answers.{Answer, ◌>>=◌, ◌>>◌, need, some}
 use Rattle.mb_tree.specs.Maps.{Numbered}
+use Rattle.mb_tree.specs.Plans.{IsServedReply}
 use Rattle.mb_tree.specs.Inodes.{is_directory, is_special, may}
 use Rattle.mb_tree.specs.Lookup.{stat_in, find_path, find_place, used_in}
 use Rattle.mb_tree.specs.Sessions.{reads, writes, free_descriptor, file_on, is_shared, inos_of}
@@ -25,19 +25,13 @@ use Rattle.mb_kinds.specs.declared.errors.Errno.{Errno}
 use Rattle.mb_tree.specs.Rows.{open_row, creat_present, creat_missing, creat_at, creat_row, close_row, read_row, write_row, lseek_row, dup_row, link_at, link_row, unlink_named, unlink_at, unlink_row, mkdir_at, mkdir_row, rmdir_named, rmdir_at, rmdir_row, chdir_row, stat_row, fstat_row, chmod_row, chown_row, utime_row, access_row, umask_row, sync_row, exit_row, seated, both, bits_of, wrote, base_of, offset_at, is_busy, is_dots, is_owner, exited, row}
 use Rattle.mb_tree.proofs.Always.{Always, always_ok, always_err, always_bind, always_then}
 
-abbrev pub IsPlain : Reply → Type 0
-IsPlain (Num number) = Unit {0}
-IsPlain (Got bytes) = Unit {0}
-IsPlain (Info stat) = Unit {0}
-IsPlain _ = ⊥
-
 abbrev IsPlanPlain : CallPlan → Type 0
-IsPlanPlain planned = IsPlain planned.reply
+IsPlanPlain planned = IsServedReply planned.reply
 
 abbrev pub PlainAnswer : Answer CallPlan → Type 0
 PlainAnswer answer = Always IsPlanPlain answer
 
-plain_ok : (p : CallPlan) → IsPlain p.reply → PlainAnswer (Ok p)
+plain_ok : (p : CallPlan) → IsServedReply p.reply → PlainAnswer (Ok p)
 plain_ok = always_ok IsPlanPlain
 
 plain_err : (e : Errno) → PlainAnswer (Err e)

@@ -14,7 +14,8 @@ use Rattle.mb_tree.specs.Laws.{RefusedStays, ServedByEffect}
 use Rattle.mb_tree.specs.declared.machines.Machine.{Machine}
 use Rattle.mb_tree.specs.declared.plans.CallPlan.{CallPlan}
 use Rattle.mb_tree.proofs.Always.{bind_ok, same_ok}
-use Rattle.mb_tree.proofs.Rows.{IsPlain, plain_row}
+use Rattle.mb_tree.specs.Plans.{IsServedReply}
+use Rattle.mb_tree.proofs.Rows.{plain_row}
 
 pub served : ServedByEffect
 served machine caller call moment pick reply next h =
@@ -31,13 +32,13 @@ served machine caller call moment pick reply next h =
       seats = ap (λ (s : Reply × Machine). s.1.seats) (sym last);
     }
 
-plain_plan : (machine : Machine) (caller : ℕ) (call : Call) (moment : ℕ) (pick : Option ℕ) (planned : CallPlan) → plan machine caller call moment pick ≡ Ok planned → IsPlain planned.reply
+plain_plan : (machine : Machine) (caller : ℕ) (call : Call) (moment : ℕ) (pick : Option ℕ) (planned : CallPlan) → plan machine caller call moment pick ≡ Ok planned → IsServedReply planned.reply
 plain_plan machine caller call moment pick planned h =
     let one = bind_ok (some (slice_get machine.seats caller) EINVAL) _ planned h in
     (plain_row machine.tree.nodes machine.seats one.0 call moment pick).holds planned one.2
 
-refused_not_plain : (reply : Reply) (e : Errno) → reply ≡ Refused e → IsPlain reply → ⊥
-refused_not_plain reply e h plain = subst IsPlain h plain
+refused_not_plain : (reply : Reply) (e : Errno) → reply ≡ Refused e → IsServedReply reply → ⊥
+refused_not_plain reply e h plain = subst IsServedReply h plain
 
 pub refused : RefusedStays
 refused machine caller call moment pick e =

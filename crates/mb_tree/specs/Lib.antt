@@ -17,6 +17,7 @@ pub mod NameLaws
 pub mod OneTree
 pub mod Opening
 pub mod Places
+pub mod Plans
 pub mod Results
 pub mod Rows
 pub mod SessionLaws

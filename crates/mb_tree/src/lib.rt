@@ -16,6 +16,7 @@
 mod changes;
 mod contents;
 mod costs;
+mod decisions;
 mod effects;
 mod file_rows;
 mod inodes;

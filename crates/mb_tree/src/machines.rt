@@ -1,6 +1,6 @@
 ghost use Rattle.std.specs.Prelude.{◌≡◌, ◌<◌, IfOk, OnErr, length, slice_get, Some};
 ghost use Rattle.mb_tree.specs.Results.{Gives, Serves};
-ghost use Rattle.mb_tree.specs.Sessions.{HasDescriptorInRange};
+ghost use Rattle.mb_tree.specs.Plans.{IsPlanFor};
 ghost use Rattle.mb_tree.specs.Rows.{row};
 ghost use Rattle.mb_tree.specs.Step.{serve, step};
 
@@ -11,7 +11,7 @@ use crate::path_rows::{
     access_row, chdir_row, chmod_row, chown_row, creat_row, link_row, mkdir_row, open_row,
     rmdir_row, stat_row, unlink_row, utime_row,
 };
-use crate::plans::{CallPlan, answered, seated};
+use crate::plans::{CallPlan, answered, changing};
 use crate::seats::{Seat, Seats, SessionChange, change_session};
 use crate::stops::{NoMemory, Stop};
 use crate::trees::Tree;
@@ -36,7 +36,7 @@ fn row(
     pick: Option<u16>,
 ) -> Result<CallPlan, Stop>
     ensures row { Gives (λ plan. plan) result (row nodes.now seats.now seat.now call.now moment pick) }
-    ensures ready { IfOk result (λ plan. HasDescriptorInRange plan.session) }
+    ensures ready { IfOk result (λ plan. IsPlanFor seat.now plan) }
 {
     match call {
         Call::Open { path, how } => open_row(alloc, nodes, seat, path.as_slice(), *how),
@@ -88,7 +88,7 @@ fn row(
             moment,
         ),
         Call::Access { path, bits } => access_row(alloc, nodes, seat, path.as_slice(), *bits),
-        Call::Umask { mask } => Ok(seated(
+        Call::Umask { mask } => Ok(changing(
             Reply::Num(u32::from(seat.umask)),
             SessionChange::Mask {
                 mask: *mask & 0o777,

@@ -1,52 +1,21 @@
-ghost use Rattle.std.specs.Prelude.{◌≡◌, ◌<◌, ◌==◌, IfOk};
-ghost use Rattle.std.specs.List.{list_any};
+ghost use Rattle.std.specs.Prelude.{◌≡◌, IfOk};
+ghost use Rattle.mb_tree.specs.Plans.{IsPlanFor};
 ghost use Rattle.mb_tree.specs.Results.{Gives};
-ghost use Rattle.mb_kinds.specs.declared.errors.Errno.TheVariants.{EMFILE};
-ghost use Rattle.mb_tree.specs.Answers.{need, some};
-ghost use Rattle.mb_tree.specs.Sessions.{HasDescriptorInRange, free_descriptor};
-ghost use Rattle.mb_tree.specs.Rows.{bits_of, open_row, masked, creat_present, creat_missing, creat_at, creat_row, link_at, link_row, unlink_named, unlink_at, unlink_row, mkdir_at, mkdir_row, is_busy, is_dots, rmdir_named, rmdir_at, rmdir_row, chdir_row, stat_row, is_owner, stored, chmod_row, chown_row, utime_row, access_row};
+ghost use Rattle.mb_tree.specs.Rows.{open_row, creat_present, creat_missing, creat_row, link_at, link_row, unlink_named, unlink_row, mkdir_at, mkdir_row, is_busy, rmdir_named, rmdir_row, chdir_row, stat_row, chmod_row, chown_row, utime_row, access_row};
 
-use crate::changes::{DOT, DOT_DOT};
-use crate::inodes::{is_directory, is_special, may};
+use crate::decisions::{
+    access_found, chdir_found, chmod_found, chown_found, creat_found, creat_under, is_current,
+    is_dots, link_under, mkdir_under, need, open_found, stat_found, unlink_found, utime_found,
+};
+use crate::inodes::{is_directory, may};
 use crate::lookups::{Placed, find_path, find_place, stat_in, used_in};
 use crate::nodes::Nodes;
 use crate::operations::FsOp;
-use crate::plans::{CallPlan, acting, answered, both, seated};
-use crate::seats::{Seat, SessionChange, count, reads, writes};
+use crate::plans::{CallPlan, acting};
+use crate::seats::{Seat, count};
 use crate::stops::Stop;
-use mb_kinds::{Cred, Errno, How, Name, Reply, Stat};
+use mb_kinds::{Errno, How, Name};
 use std::alloc::Global;
-
-/// Refused where a test is false.
-fn need(test: bool, error: Errno) -> Result<(), Stop>
-    ensures { Gives (λ unit. unit) result (need test error) }
-{
-    if test {
-        Ok(())
-    } else {
-        Err(Stop::Refused(error))
-    }
-}
-
-/// A free descriptor.
-fn descriptor(seat: &Seat) -> Result<u16, Stop>
-    ensures free { Gives (λ fd. fd) result (some (free_descriptor seat.now) EMFILE) }
-    ensures within { IfOk result (λ fd. fd < 20) }
-{
-    match seat.free_descriptor() {
-        Some(fd) => Ok(fd),
-        None => Err(Stop::Refused(Errno::EMFILE)),
-    }
-}
-
-/// The permission bits that a direction wants.
-fn bits_of(how: How) -> u8
-    ensures { result ≡ bits_of how }
-{
-    let read = if reads(how) { 4 } else { 0 };
-    let write = if writes(how) { 2 } else { 0 };
-    read + write
-}
 
 /// open(2).
 pub fn open_row(
@@ -57,51 +26,20 @@ pub fn open_row(
     how: How,
 ) -> Result<CallPlan, Stop>
     ensures row { Gives (λ plan. plan) result (open_row nodes.now seat.now path.now how) }
-    ensures ready { IfOk result (λ plan. HasDescriptorInRange plan.session) }
+    ensures ready { IfOk result (λ plan. IsPlanFor seat.now plan) }
 {
     let stat = find_path(alloc, nodes, seat.cred, seat.cwd, path)?;
-    need(may(seat.cred, &stat, bits_of(how)), Errno::EACCES)?;
-    need(!(is_directory(stat.mode) && writes(how)), Errno::EISDIR)?;
-    need(!is_special(stat.mode), Errno::ENXIO)?;
-    let fd = descriptor(seat)?;
-    let op = FsOp::Hold { ino: stat.ino };
-    Ok(both(
-        u32::from(fd),
-        op,
-        SessionChange::Fresh {
-            fd,
-            ino: stat.ino,
-            how,
-        },
-    ))
-}
-
-/// The nine permission bits of a mode without those of the session's mask.
-fn masked(mode: u16, seat: &Seat) -> u16
-    ensures { result ≡ masked mode seat.now }
-{
-    mode & 0o777 & !seat.umask
+    let plan = open_found(seat, &stat, how)?;
+    Ok(plan)
 }
 
 fn creat_present(nodes: &Nodes, seat: &Seat, moment: u32, ino: u16) -> Result<CallPlan, Stop>
     ensures row { Gives (λ plan. plan) result (creat_present nodes.now seat.now moment ino) }
-    ensures ready { IfOk result (λ plan. HasDescriptorInRange plan.session) }
+    ensures ready { IfOk result (λ plan. IsPlanFor seat.now plan) }
 {
     let stat = stat_in(nodes, ino)?;
-    need(may(seat.cred, &stat, 2), Errno::EACCES)?;
-    need(!is_directory(stat.mode), Errno::EISDIR)?;
-    need(!is_special(stat.mode), Errno::ENXIO)?;
-    let fd = descriptor(seat)?;
-    let op = FsOp::Empty { ino, moment };
-    Ok(both(
-        u32::from(fd),
-        op,
-        SessionChange::Fresh {
-            fd,
-            ino,
-            how: How::Writing,
-        },
-    ))
+    let plan = creat_found(seat, moment, ino, &stat)?;
+    Ok(plan)
 }
 
 fn creat_missing(
@@ -114,33 +52,11 @@ fn creat_missing(
     name: Name,
 ) -> Result<CallPlan, Stop>
     ensures row { Gives (λ plan. plan) result (creat_missing nodes.now seat.now mode moment pick dir name) }
-    ensures ready { IfOk result (λ plan. HasDescriptorInRange plan.session) }
+    ensures ready { IfOk result (λ plan. IsPlanFor seat.now plan) }
 {
     let parent = stat_in(nodes, dir)?;
-    need(may(seat.cred, &parent, 2), Errno::EACCES)?;
-    let fd = descriptor(seat)?;
-    let Some(ino) = pick else {
-        return Err(Stop::Refused(Errno::ENOSPC));
-    };
-    let Cred { uid, gid } = seat.cred;
-    let mode = masked(mode, seat);
-    let op = FsOp::Create {
-        dir,
-        name,
-        mode,
-        uid,
-        gid,
-        moment,
-    };
-    Ok(both(
-        u32::from(fd),
-        op,
-        SessionChange::Fresh {
-            fd,
-            ino,
-            how: How::Writing,
-        },
-    ))
+    let plan = creat_under(seat, mode, moment, pick, dir, name, &parent)?;
+    Ok(plan)
 }
 
 /// creat(2).
@@ -154,7 +70,7 @@ pub fn creat_row(
     pick: Option<u16>,
 ) -> Result<CallPlan, Stop>
     ensures row { Gives (λ plan. plan) result (creat_row nodes.now seat.now path.now mode moment pick) }
-    ensures ready { IfOk result (λ plan. HasDescriptorInRange plan.session) }
+    ensures ready { IfOk result (λ plan. IsPlanFor seat.now plan) }
 {
     match find_place(alloc, nodes, seat.cred, seat.cwd, path)? {
         Placed::Itself(ino) => creat_present(nodes, seat, moment, ino),
@@ -167,9 +83,15 @@ pub fn creat_row(
     }
 }
 
-fn link_at(nodes: &Nodes, seat: &Seat, moment: u32, ino: u16, placed: Placed) -> Result<CallPlan, Stop>
+fn link_at(
+    nodes: &Nodes,
+    seat: &Seat,
+    moment: u32,
+    ino: u16,
+    placed: Placed,
+) -> Result<CallPlan, Stop>
     ensures row { Gives (λ plan. plan) result (link_at nodes.now seat.now moment ino placed) }
-    ensures ready { IfOk result (λ plan. HasDescriptorInRange plan.session) }
+    ensures ready { IfOk result (λ plan. IsPlanFor seat.now plan) }
 {
     let Placed::At {
         dir,
@@ -180,13 +102,8 @@ fn link_at(nodes: &Nodes, seat: &Seat, moment: u32, ino: u16, placed: Placed) ->
         return Err(Stop::Refused(Errno::EEXIST));
     };
     let parent = stat_in(nodes, dir)?;
-    need(may(seat.cred, &parent, 2), Errno::EACCES)?;
-    Ok(acting(FsOp::Enlink {
-        dir,
-        name,
-        ino,
-        moment,
-    }))
+    let plan = link_under(seat, moment, ino, dir, name, &parent)?;
+    Ok(plan)
 }
 
 /// link(2).
@@ -199,7 +116,7 @@ pub fn link_row(
     moment: u32,
 ) -> Result<CallPlan, Stop>
     ensures row { Gives (λ plan. plan) result (link_row nodes.now seat.now from.now to.now moment) }
-    ensures ready { IfOk result (λ plan. HasDescriptorInRange plan.session) }
+    ensures ready { IfOk result (λ plan. IsPlanFor seat.now plan) }
 {
     let stat = find_path(alloc, nodes, seat.cred, seat.cwd, from)?;
     need(!is_directory(stat.mode), Errno::EPERM)?;
@@ -216,13 +133,12 @@ fn unlink_named(
     ino: u16,
 ) -> Result<CallPlan, Stop>
     ensures row { Gives (λ plan. plan) result (unlink_named nodes.now seat.now moment dir name ino) }
-    ensures ready { IfOk result (λ plan. HasDescriptorInRange plan.session) }
+    ensures ready { IfOk result (λ plan. IsPlanFor seat.now plan) }
 {
     let stat = stat_in(nodes, ino)?;
     let parent = stat_in(nodes, dir)?;
-    need(may(seat.cred, &parent, 2), Errno::EACCES)?;
-    need(!is_directory(stat.mode), Errno::EPERM)?;
-    Ok(acting(FsOp::Delink { dir, name, moment }))
+    let plan = unlink_found(seat, moment, dir, name, &parent, &stat)?;
+    Ok(plan)
 }
 
 /// unlink(2).
@@ -234,7 +150,7 @@ pub fn unlink_row(
     moment: u32,
 ) -> Result<CallPlan, Stop>
     ensures row { Gives (λ plan. plan) result (unlink_row nodes.now seat.now path.now moment) }
-    ensures ready { IfOk result (λ plan. HasDescriptorInRange plan.session) }
+    ensures ready { IfOk result (λ plan. IsPlanFor seat.now plan) }
 {
     match find_place(alloc, nodes, seat.cred, seat.cwd, path)? {
         Placed::Itself(_) => Err(Stop::Refused(Errno::EPERM)),
@@ -255,7 +171,7 @@ fn mkdir_at(
     placed: Placed,
 ) -> Result<CallPlan, Stop>
     ensures row { Gives (λ plan. plan) result (mkdir_at nodes.now seat.now mode moment placed) }
-    ensures ready { IfOk result (λ plan. HasDescriptorInRange plan.session) }
+    ensures ready { IfOk result (λ plan. IsPlanFor seat.now plan) }
 {
     let Placed::At {
         dir,
@@ -266,17 +182,8 @@ fn mkdir_at(
         return Err(Stop::Refused(Errno::EEXIST));
     };
     let parent = stat_in(nodes, dir)?;
-    need(may(seat.cred, &parent, 2), Errno::EACCES)?;
-    let Cred { uid, gid } = seat.cred;
-    let mode = masked(mode, seat);
-    Ok(acting(FsOp::MakeDir {
-        dir,
-        name,
-        mode,
-        uid,
-        gid,
-        moment,
-    }))
+    let plan = mkdir_under(seat, mode, moment, dir, name, &parent)?;
+    Ok(plan)
 }
 
 /// mkdir(1) in one step.
@@ -289,17 +196,10 @@ pub fn mkdir_row(
     moment: u32,
 ) -> Result<CallPlan, Stop>
     ensures row { Gives (λ plan. plan) result (mkdir_row nodes.now seat.now path.now mode moment) }
-    ensures ready { IfOk result (λ plan. HasDescriptorInRange plan.session) }
+    ensures ready { IfOk result (λ plan. IsPlanFor seat.now plan) }
 {
     let placed = find_place(alloc, nodes, seat.cred, seat.cwd, path)?;
     mkdir_at(nodes, seat, mode, moment, placed)
-}
-
-/// Whether a directory is a caller's current one.
-fn is_current(seats: &[Seat], ino: u16) -> bool
-    ensures { result ≡ list_any (λ seat. seat.cwd == ino) seats.now }
-{
-    seats.iter().any(|seat| seat.cwd == ino)
 }
 
 /// Whether a directory is the root, open, or a caller's current directory.
@@ -307,13 +207,6 @@ fn is_busy(seats: &[Seat], ino: u16) -> bool
     ensures { result ≡ is_busy seats.now ino }
 {
     ino == 2 || count(seats, ino) > 0 || is_current(seats, ino)
-}
-
-/// Whether a name is `.` or `..`.
-fn is_dots(name: &Name) -> bool
-    ensures { result ≡ is_dots name.now }
-{
-    *name == DOT || *name == DOT_DOT
 }
 
 fn rmdir_named(
@@ -326,7 +219,7 @@ fn rmdir_named(
     ino: u16,
 ) -> Result<CallPlan, Stop>
     ensures row { Gives (λ plan. plan) result (rmdir_named nodes.now seats.now seat.now moment dir name ino) }
-    ensures ready { IfOk result (λ plan. HasDescriptorInRange plan.session) }
+    ensures ready { IfOk result (λ plan. IsPlanFor seat.now plan) }
 {
     let stat = stat_in(nodes, ino)?;
     need(is_directory(stat.mode), Errno::ENOTDIR)?;
@@ -348,7 +241,7 @@ pub fn rmdir_row(
     moment: u32,
 ) -> Result<CallPlan, Stop>
     ensures row { Gives (λ plan. plan) result (rmdir_row nodes.now seats.now seat.now path.now moment) }
-    ensures ready { IfOk result (λ plan. HasDescriptorInRange plan.session) }
+    ensures ready { IfOk result (λ plan. IsPlanFor seat.now plan) }
 {
     match find_place(alloc, nodes, seat.cred, seat.cwd, path)? {
         Placed::Itself(_) => Err(Stop::Refused(Errno::EBUSY)),
@@ -364,39 +257,20 @@ pub fn rmdir_row(
 /// chdir(2).
 pub fn chdir_row(alloc: Global, nodes: &Nodes, seat: &Seat, path: &[u8]) -> Result<CallPlan, Stop>
     ensures row { Gives (λ plan. plan) result (chdir_row nodes.now seat.now path.now) }
-    ensures ready { IfOk result (λ plan. HasDescriptorInRange plan.session) }
+    ensures ready { IfOk result (λ plan. IsPlanFor seat.now plan) }
 {
     let stat = find_path(alloc, nodes, seat.cred, seat.cwd, path)?;
-    need(is_directory(stat.mode), Errno::ENOTDIR)?;
-    need(may(seat.cred, &stat, 1), Errno::EACCES)?;
-    Ok(seated(Reply::Num(0), SessionChange::Cwd { ino: stat.ino }))
+    let plan = chdir_found(seat, &stat)?;
+    Ok(plan)
 }
 
 /// stat(2).
 pub fn stat_row(alloc: Global, nodes: &Nodes, seat: &Seat, path: &[u8]) -> Result<CallPlan, Stop>
     ensures row { Gives (λ plan. plan) result (stat_row nodes.now seat.now path.now) }
-    ensures ready { IfOk result (λ plan. HasDescriptorInRange plan.session) }
+    ensures ready { IfOk result (λ plan. IsPlanFor seat.now plan) }
 {
     let stat = find_path(alloc, nodes, seat.cred, seat.cwd, path)?;
-    Ok(answered(Reply::Info(stat)))
-}
-
-/// Whether the caller is uid 0 or the owner.
-fn is_owner(cred: Cred, stat: &Stat) -> bool
-    ensures { result ≡ is_owner cred stat.now }
-{
-    cred.uid == 0 || cred.uid == stat.uid
-}
-
-/// The bits of a mode that a caller can set.
-fn stored(mode: u16, cred: Cred) -> u16
-    ensures { result ≡ stored mode cred }
-{
-    if cred.uid == 0 {
-        mode & 0o7777
-    } else {
-        mode & 0o6777
-    }
+    Ok(stat_found(stat))
 }
 
 /// chmod(2).
@@ -409,16 +283,11 @@ pub fn chmod_row(
     moment: u32,
 ) -> Result<CallPlan, Stop>
     ensures row { Gives (λ plan. plan) result (chmod_row nodes.now seat.now path.now mode moment) }
-    ensures ready { IfOk result (λ plan. HasDescriptorInRange plan.session) }
+    ensures ready { IfOk result (λ plan. IsPlanFor seat.now plan) }
 {
     let stat = find_path(alloc, nodes, seat.cred, seat.cwd, path)?;
-    need(is_owner(seat.cred, &stat), Errno::EPERM)?;
-    let mode = stored(mode, seat.cred);
-    Ok(acting(FsOp::SetMode {
-        ino: stat.ino,
-        mode,
-        moment,
-    }))
+    let plan = chmod_found(seat, mode, moment, &stat)?;
+    Ok(plan)
 }
 
 /// chown(2).
@@ -432,16 +301,11 @@ pub fn chown_row(
     moment: u32,
 ) -> Result<CallPlan, Stop>
     ensures row { Gives (λ plan. plan) result (chown_row nodes.now seat.now path.now uid gid moment) }
-    ensures ready { IfOk result (λ plan. HasDescriptorInRange plan.session) }
+    ensures ready { IfOk result (λ plan. IsPlanFor seat.now plan) }
 {
     let stat = find_path(alloc, nodes, seat.cred, seat.cwd, path)?;
-    need(seat.cred.uid == 0, Errno::EPERM)?;
-    Ok(acting(FsOp::SetOwner {
-        ino: stat.ino,
-        uid,
-        gid,
-        moment,
-    }))
+    let plan = chown_found(seat, uid, gid, moment, &stat)?;
+    Ok(plan)
 }
 
 /// utime(2).
@@ -455,16 +319,11 @@ pub fn utime_row(
     moment: u32,
 ) -> Result<CallPlan, Stop>
     ensures row { Gives (λ plan. plan) result (utime_row nodes.now seat.now path.now atime mtime moment) }
-    ensures ready { IfOk result (λ plan. HasDescriptorInRange plan.session) }
+    ensures ready { IfOk result (λ plan. IsPlanFor seat.now plan) }
 {
     let stat = find_path(alloc, nodes, seat.cred, seat.cwd, path)?;
-    need(is_owner(seat.cred, &stat), Errno::EPERM)?;
-    Ok(acting(FsOp::SetTimes {
-        ino: stat.ino,
-        atime,
-        mtime,
-        moment,
-    }))
+    let plan = utime_found(seat, atime, mtime, moment, &stat)?;
+    Ok(plan)
 }
 
 /// access(2).
@@ -476,9 +335,9 @@ pub fn access_row(
     bits: u8,
 ) -> Result<CallPlan, Stop>
     ensures row { Gives (λ plan. plan) result (access_row nodes.now seat.now path.now bits) }
-    ensures ready { IfOk result (λ plan. HasDescriptorInRange plan.session) }
+    ensures ready { IfOk result (λ plan. IsPlanFor seat.now plan) }
 {
     let stat = find_path(alloc, nodes, seat.cred, seat.cwd, path)?;
-    need(may(seat.cred, &stat, bits), Errno::EACCES)?;
-    Ok(answered(Reply::Num(0)))
+    let plan = access_found(seat, bits, &stat)?;
+    Ok(plan)
 }

@@ -26,7 +26,7 @@ pub fn answered(answer: Reply) -> CallPlan
 }
 
 /// A reply and a session change.
-pub fn seated(answer: Reply, change: SessionChange) -> CallPlan
+pub fn changing(answer: Reply, change: SessionChange) -> CallPlan
     ensures { result ≡ seated answer change }
 {
     CallPlan {
