@@ -19,7 +19,8 @@ turned : (b : Bool) (n m : ℕ) → cond b n m ≡ cond (not b) m n
 turned true n m = refl
 turned false n m = refl
 
-counted : (low high size part : ℕ) (rest : List ℕ) → set.len (touched low high size (part ∷ rest)) ≡ cond (is_last low high size part rest) (set.len (touched low high size rest) + 1) (set.len (touched low high size rest))
+-- a group is counted where no later part is in it
+pub counted : (low high size part : ℕ) (rest : List ℕ) → set.len (touched low high size (part ∷ rest)) ≡ cond (is_last low high size part rest) (set.len (touched low high size rest) + 1) (set.len (touched low high size rest))
 counted low high size part rest =
     let groups : List ℕ = map (λ x. (x - low) / size) (filter (is_within low high) rest) in
     elim (is_within low high part) as (λ b. set.len (set.from_list {R = nat_cmp} (map (λ x. (x - low) / size) (cond b (part ∷ filter (is_within low high) rest) (filter (is_within low high) rest)))) ≡ cond (b && not (list_any (is_near low high size part) rest)) (set.len (touched low high size rest) + 1) (set.len (touched low high size rest))) [

@@ -13,6 +13,7 @@
 //! an image is a volume of at most one tree in `specs/OneTree.antt`.
 #![tactic(auto)]
 
+mod calls;
 mod changes;
 mod contents;
 mod costs;
@@ -39,13 +40,21 @@ mod trees;
 mod valid_laws;
 mod volume_laws;
 
-pub use inodes::{is_directory, is_regular};
+pub use calls::call_allowed;
+pub use changes::{DOT, DOT_DOT};
+pub use decisions::{
+    access_found, bits_of, chdir_found, chmod_found, chown_found, creat_found, creat_under,
+    descriptor, is_current, is_dots, is_owner, link_under, lseek_from, masked, mkdir_under, need,
+    offset_from, open_file, open_found, read_found, stat_found, stored, unlink_found, utime_found,
+};
+pub use file_rows::{close_row, dup_row, exit_row, write_row};
+pub use inodes::{is_directory, is_regular, is_special, is_used, may};
 pub use laws::{
     after_appends, bytes_or_attributes_kept, cost_kept, drop_kept, legal_appends, legal_grows,
     legal_splits, refused_stays, release_kept, served_by_effect, session_kept,
     slots_and_links_kept,
 };
-pub use lookups::{Placed, components, number_of};
+pub use lookups::{Placed, components, number_of, start_of};
 pub use machines::Machine;
 pub use maps::{Copied, Map};
 pub use name_laws::{
@@ -53,13 +62,13 @@ pub use name_laws::{
 };
 pub use nodes::{Body, Node, Nodes, Parts, PlainSlot, PlainSlots};
 pub use operations::{FsOp, Inos};
-pub use plans::CallPlan;
-pub use seats::{PlainFile, Seat, Seats, SessionChange, reads};
+pub use plans::{CallPlan, acting, answered, both, changing};
+pub use seats::{PlainFile, Seat, Seats, SessionChange, change_session, reads, writes};
 pub use session_laws::{
     bytes_or_attributes_valid, counts_follow, operations_fit, release_valid, valid_kept,
     valid_stays,
 };
-pub use stops::NoMemory;
+pub use stops::{NoMemory, Stop};
 pub use tables::{Fds, Files};
 pub use trees::Tree;
 pub use valid_laws::{history_valid, one_tree, opening_valid};

@@ -53,8 +53,9 @@ pub fn components(alloc: Global, path: &[u8]) -> Result<Vec<Name>, AllocError>
     Ok(names)
 }
 
-/// Where a path starts: a path that begins with a slash at the root.
-fn start_of(cwd: u16, path: &[u8]) -> u16
+/// Where a path starts: one that begins with a slash at the root, inode 2, and another at the current
+/// directory.
+pub fn start_of(cwd: u16, path: &[u8]) -> u16
     ensures { result ≡ start_of cwd path.now }
 {
     if path.first() == Some(&47) { 2 } else { cwd }

@@ -7,10 +7,12 @@ use std::alloc::{AllocError, AllocFailed};
 #[derive(Clone, Copy, Debug, PartialEq, Eq, Drop)]
 pub struct NoMemory;
 
-/// Why a function of the model gives no value: it met want of memory, or the call is refused.
+/// Why a function of the model gives no value.
 #[derive(Clone, Copy, Debug, Drop)]
 pub enum Stop {
+    /// It met want of memory, which says nothing of the call.
     NoMemory,
+    /// The call is refused with this error.
     Refused(Errno),
 }
 
