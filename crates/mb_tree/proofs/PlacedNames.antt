@@ -48,7 +48,7 @@ used_of true b h = refl
 used_of false b h = h
 
 -- the slot that a name leads by
-numbered : (slots : List PlainSlot) (name : List ℕ) (ino : ℕ) → number_of slots name ≡ Some ino → (at : ℕ) × (slot : PlainSlot) × IsUsedAt slots at slot × (slot.ino ≡ ino)
+pub numbered : (slots : List PlainSlot) (name : List ℕ) (ino : ℕ) → number_of slots name ≡ Some ino → (at : ℕ) × (slot : PlainSlot) × IsUsedAt slots at slot × (slot.ino ≡ ino)
 numbered slots name ino h = elim (find (is_named name) slots) as (λ (o : Option PlainSlot). find (is_named name) slots ≡ o → option_map (λ (slot : PlainSlot). slot.ino) o ≡ Some ino → (at : ℕ) × (slot : PlainSlot) × IsUsedAt slots at slot × (slot.ino ≡ ino)) [
   | None ↦ λ e s. let no : None ≡ Some ino = s in cc
   | Some slot ↦ λ e s.
@@ -71,7 +71,7 @@ pub record IsLooked (nodes : Numbered Node) (dir : ℕ) (name : List ℕ) (found
   pub body : node.body ≡ Directory slots
   pub number : number_of slots name ≡ found
 
-look_ok : (nodes : Numbered Node) (cred : Cred) (dir : ℕ) (name : List ℕ) (found : Option ℕ) → look nodes cred dir name ≡ Ok found → IsLooked nodes dir name found
+pub look_ok : (nodes : Numbered Node) (cred : Cred) (dir : ℕ) (name : List ℕ) (found : Option ℕ) → look nodes cred dir name ≡ Ok found → IsLooked nodes dir name found
 look_ok nodes cred dir name found h =
     let one = bind_ok (some (fin.get nodes dir) ENOTDIR) _ found h in
     let two = bind_ok (some (slots_of one.0.body) ENOTDIR) _ found one.2 in

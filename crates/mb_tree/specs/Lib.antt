@@ -10,12 +10,14 @@ pub mod Fits
 pub mod History
 pub mod Inodes
 pub mod Laws
+pub mod LocalLaws
 pub mod Lookup
 pub mod Machines
 pub mod Maps
 pub mod NameLaws
 pub mod OneTree
 pub mod Opening
+pub mod PickLaws
 pub mod Places
 pub mod Plans
 pub mod Results
