@@ -1,32 +1,8 @@
-use crate::run_tests::{Failing, NOTHING_FAILS, hello_volume, run};
+use crate::example_tests::WIPED_JOB;
+use crate::run_tests::{Failing, NOTHING_FAILS, run};
+use crate::volumes::{CTIME, HELLO, hello_volume};
 use std::alloc::{AllocError, Global};
 use std::test::Fail;
-
-const WIPED_JOB: &[u8] =
-    b"calls = [\"a open /hello r\", \"a chmod /hello 600\", \"a chmod /hello 640\", \"a read 3 9\"]\nfaults = [\"3 finish 0 1 wipe 255\"]";
-
-const WIPED_TEXT: &[u8] =
-    b"1 a open /hello r = 3\n2 a chmod /hello 600 = 0\n3 a chmod /hello 640 = 0\n4 a read 3 9 = 5 68656c6c6f\n5 a exit = 0\nend 5 faults 1 seal 5\n";
-
-// Inode 3 has its mode at byte 128 of block 2 and its ctime at byte 188.
-#[test]
-fn a_fault_that_wipes_the_pages_is_rolled_back_and_replayed(rt: HostRuntime) -> Result<(), Fail> {
-    let end = run(
-        rt.alloc(),
-        &["run", "v"],
-        hello_volume(rt.alloc())?,
-        WIPED_JOB,
-        NOTHING_FAILS,
-    )?;
-    assert_eq!(rt; end.status, 0);
-    assert_eq!(rt; end.printed.as_slice(), WIPED_TEXT);
-    let mut wanted = hello_volume(rt.alloc())?;
-    assert_eq!(rt; wanted.len(), 51200);
-    wanted[1152] = 0xa0;
-    wanted[1214] = 3;
-    assert!(rt; end.image == wanted, "nothing else changed");
-    Ok(())
-}
 
 #[test]
 fn a_fault_without_a_dirty_page_wipes_nothing(rt: HostRuntime) -> Result<(), Fail> {
@@ -78,8 +54,12 @@ fn as_many_faults_as_there_may_be_are_recovered_from(rt: HostRuntime) -> Result<
             .ends_with(b"256 a exit = 0\nend 256 faults 255 seal 256\n")
     );
     assert_eq!(rt; end.image.len(), 51200);
-    assert_eq!(rt; end.image[1152], 0x80);
-    assert_eq!(rt; end.image[1214], 255, "the moment of the last call");
+    assert_eq!(rt; end.image[HELLO], 0x80);
+    assert_eq!(rt;
+        end.image[HELLO + CTIME + 2],
+        255,
+        "the moment of the last call"
+    );
     Ok(())
 }
 

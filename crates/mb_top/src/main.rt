@@ -8,6 +8,8 @@ mod adapters;
 mod blocks;
 mod deciding;
 #[cfg(test)]
+mod example_tests;
+#[cfg(test)]
 mod fault_tests;
 mod files;
 mod finish;
@@ -24,6 +26,8 @@ mod settling;
 mod stand_ins;
 #[cfg(test)]
 mod tests;
+#[cfg(test)]
+mod volumes;
 mod words;
 
 use adapters::{FileDisk, InSource, OutSink};
