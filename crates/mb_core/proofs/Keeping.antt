@@ -20,7 +20,7 @@ use Rattle.mb_tree.specs.declared.machines.Machine.{Machine}
 use Rattle.mb_tree.specs.declared.seats.Seat.{Seat}
 use Rattle.mb_tree.specs.declared.trees.Tree.{Tree}
 use Rattle.mb_attrs.proofs.Keeping.{kept_composes}
-use Rattle.mb_core.specs.Events.{ended, ended_by_device, entering, entry_for, leaving, logging, resumed, sealing, striking, unwound, waiting}
+use Rattle.mb_core.specs.Events.{ended, entering, entry_for, leaving, logging, resumed, sealing, striking, unwound, waiting}
 use Rattle.mb_core.specs.Holds.{AreOrdinary, HasNames, Holds, IsHeldBy, IsLegalSoFar, ReplaysToNow, ViewIsCurrent, held_by}
 use Rattle.mb_core.specs.Journal.{IsLoggable, ops_of}
 use Rattle.mb_core.specs.Numbering.{AreNumbered, IsLast, open_calls}
@@ -78,6 +78,10 @@ module _ {D : Type 0} (before : Tree) (first base : Image) (core : CoreState D) 
   view_now : core.recovers ≡ false → IsHeldBy before first (under base core.current) core.opens.counts (held_by now)
   view_now runs = subst (ViewIsCurrent begun_with before first base core.history core.current core.opens.counts) runs h.view
 
+  -- the one caller has its session
+  one_seat : length core.sessions ≡ 1 → 0 < length now.seats
+  one_seat one = (let same : length now.seats ≡ length core.sessions = ap length h.legal.seats in omega (arith, one, same))
+
   -- a call in flight comes after all entries
   later : (flight : Flight) → AreNumbered core.config.start core.history core.stand → core.stand.flight ≡ Some flight → flight.answered ≡ false
       → flight.moment ≡ core.config.start + (length core.history + 1)
@@ -124,21 +128,21 @@ module _ {D : Type 0} (before : Tree) (first base : Image) (core : CoreState D) 
   holds_logging flight ticket ready room runs plain loggable done one numbered flies unanswered brief =
       let few : (ino : ℕ) → counts now.seats ino ≤ 17 = subst (λ seats. (ino : ℕ) → counts seats ino ≤ 17) (sym h.legal.seats) (few_open core.sessions one) in
       let ordinary = subst AreOrdinary (sym h.legal.seats) h.legal.ordinary in
-      let moves = performed now flight ready (under base core.current) h.legal.valid h.legal.names ordinary few brief done.lawful plain loggable (view_now runs).volume done.answered in
+      let moves = performed now flight ready (under base core.current) h.legal.valid h.legal.names ordinary few (one_seat one) brief done.lawful plain loggable (view_now runs).volume done.answered in
       let moment = later flight numbered flies unanswered in
       logged_holds flight ticket ready room runs moves few loggable (omega (arith, moment))
       (follows_all (core.config.start + 1) core.history (entry_for flight ready.pick ready.reply) numbered.moments numbered.lives (omega (arith, moment)))
 
   -- ---- the disk ends a call
 
-  module _ (flight : Flight) (numbered : AreNumbered core.config.start core.history core.stand) (flies : core.stand.flight ≡ Some flight) (unanswered : flight.answered ≡ false) where
+  module _ (flight : Flight) (one : length core.sessions ≡ 1) (numbered : AreNumbered core.config.start core.history core.stand) (flies : core.stand.flight ≡ Some flight) (unanswered : flight.answered ≡ false) where
     abbrev cut_off : Entry
     cut_off = entry_for flight None Device
 
     -- it did nothing
     cut_off_stays : MovesOn now cut_off None None now.seats now
     cut_off_stays = record {
-      runs = refl;
+      runs = record { declared = one_seat one; unpicked = refl };
       leads = refl;
       operation = refl;
       effect = refl;
@@ -170,16 +174,7 @@ module _ {D : Type 0} (before : Tree) (first base : Image) (core : CoreState D) 
           view = view_stays core.recovers h.view;
         }
 
-  pub holds_device : (flight : Flight) (room : Room) → AreNumbered core.config.start core.history core.stand → core.stand.flight ≡ Some flight → flight.answered ≡ false
-      → Holds before first base (record (ended_by_device core (Some flight)) { room = room })
-  holds_device flight room numbered flies unanswered = subst (λ (answered : Bool). Holds before first base (record (if answered then core else record core {
-    stand = record core.stand { flight = None };
-    inside = false;
-    answer = None;
-    history = core.history ++ cut_off flight numbered flies unanswered ∷ [];
-  }) { room = room })) (sym unanswered) (cut_off_holds flight numbered flies unanswered room)
-
-  -- where there is no such call, nothing happens
+  -- the room for what may come is no matter
   pub holds_room : (room : Room) → Holds before first base (record core { room = room })
   holds_room room = record { legal = h.legal; checkpoint = h.checkpoint; replay = h.replay; view = h.view }
 

@@ -23,7 +23,6 @@ use Rattle.mb_core.specs.Numbering.{AreNumbered}
 use Rattle.mb_core.specs.Pages.{PageList}
 use Rattle.mb_core.specs.Ready.{IsPlain}
 use Rattle.mb_core.specs.State.{CoreState, Room}
-use Rattle.mb_core.specs.Trail.{IsDisciplined}
 use Rattle.mb_core.specs.declared.journal.Logged.{Logged}
 use Rattle.mb_core.specs.declared.open_table.OpenTable.{OpenTable}
 use Rattle.mb_core.specs.declared.ready.Ready.{Ready}
@@ -193,10 +192,6 @@ outside_needs core flight h flies outside unanswered =
 -- so does a call that begins
 pub new_needs : {D : Type 0} (core : CoreState D) → core.stand.flight ≡ None → NeedsTicket core
 new_needs core none = subst (MayEnter core.incarnation) (sym none) tt
-
--- the event trace is disciplined
-pub trail_disciplined : {D : Type 0} (core : CoreState D) → IsOrderly core → IsDisciplined core.trail
-trail_disciplined core h = rw h.trailed.watch refl
 
 -- ---- a call ends, is logged, or leaves
 

@@ -1,5 +1,5 @@
 -- What a call that finishes does to the reference model: one entry more.
-use Rattle.std.proofs.Common.{List, [], ◌∷◌, ℕ, zero, suc, ◌≡◌, ◌<◌, ◌≤◌, ◌⊎◌, inl, inr, Option, Some, None, Ok, IfSome, option_and_then, option_map, unwrap_or, slice_get, slice_set, refl, ap, sym, ◌∙◌, subst}
+use Rattle.std.proofs.Common.{List, [], ◌∷◌, ℕ, zero, suc, ◌≡◌, ◌<◌, ◌≤◌, ◌⊎◌, inl, inr, Option, Some, None, Ok, IfSome, length, option_and_then, option_map, unwrap_or, slice_get, slice_set, refl, ap, sym, ◌∙◌, subst}
 use Rattle.mb_kinds.specs.Image.{Image}
 use Rattle.mb_kinds.specs.declared.entries.Entry.{Entry}
 use Rattle.mb_kinds.specs.declared.entries.Flight.{Flight}
@@ -149,11 +149,11 @@ module _ (now : Machine) (flight : Flight) (ready : Ready) (view : Image) where
   step_of : (reply : Reply) (next : Machine) → serve now 0 flight.call flight.moment ready.pick ≡ Ok (reply, next) → step now 0 flight.call flight.moment ready.pick ≡ (reply, next)
   step_of reply next is = ap (or_refused now) is
 
-  module _ (valid : IsValid now) (names : HasNames now.tree) (ordinary : AreOrdinary now.seats) (few : (ino : ℕ) → counts now.seats ino ≤ 17) (brief : flight.moment < 4294967296)
+  module _ (valid : IsValid now) (names : HasNames now.tree) (ordinary : AreOrdinary now.seats) (few : (ino : ℕ) → counts now.seats ino ≤ 17) (seated : 0 < length now.seats) (brief : flight.moment < 4294967296)
       (lawful : IsLawful now 0 flight.call flight.moment ready.pick) (plain : IsPlain ready.reply) (loggable : IfSome ready.op IsLoggable) where
     step_is : (next : Machine) → step now 0 flight.call flight.moment ready.pick ≡ (ready.reply, next) → IsStep now entry
     unfolding stepped
-    step_is next is = record { lawful = lawful; answer = ap (λ (done : Reply × Machine). done.0) is }
+    step_is next is = record { declared = seated; lawful = lawful; answer = ap (λ (done : Reply × Machine). done.0) is }
 
     leads_to : (next : Machine) → step now 0 flight.call flight.moment ready.pick ≡ (ready.reply, next) → past_reply now (stepped now entry).1 ready.reply ≡ next
     unfolding stepped

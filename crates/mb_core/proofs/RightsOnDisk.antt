@@ -81,7 +81,7 @@ module _ {D : Type 0} (told : D → Option Image) (faults : D → ℕ) (core : C
       let ends = ends_at (faults core.first) (faults core.disk) (faults disk) core right.bounded right.answers right.devices later rose core.stand.flight in
       let ended = ended_by_device core core.stand.flight in
       record {
-        holds = told_device told core disk same right.orderly.numbered right.holds room;
+        holds = told_device told core disk same right.orderly.seats right.orderly.numbered right.holds room;
         tells = λ first tells. subst IsSome (sym same) (right.tells first (sym (ap told (first_stays core.stand.flight)) ∙ tells));
         orderly = orderly_disk (record ended { room = room }) disk ended.sealed ended.current ended.opens (orderly_device core room right.orderly leaves);
         bounded = record { config = ends.bounded.config; begun = ends.bounded.begun; logged = ends.bounded.logged; struck = ends.bounded.struck };

@@ -1,5 +1,5 @@
 -- What an event was answered, and what then holds of the images of its core.
-use Rattle.std.proofs.Common.{List, [], ◌∷◌, ◌++◌, ℕ, ◌≡◌, ◌<◌, inl, inr, Bool, true, false, Option, Some, None, Ok, Err, Result, OnOk, OnErr, IsSome, if◌then◌else◌, option_map, refl, ap, sym, ◌∙◌, subst, arith}
+use Rattle.std.proofs.Common.{length, List, [], ◌∷◌, ◌++◌, ℕ, ◌≡◌, ◌<◌, inl, inr, Bool, true, false, Option, Some, None, Ok, Err, Result, OnOk, OnErr, IsSome, if◌then◌else◌, option_map, refl, ap, sym, ◌∙◌, subst, arith}
 use Rattle.mb_kinds.specs.Image.{Image}
 use Rattle.mb_kinds.specs.declared.calls.Call.{Call}
 use Rattle.mb_kinds.specs.declared.entries.Flight.{Flight}
@@ -147,7 +147,7 @@ module _ {D : Type 0} (told : D → Option Image) where
   view_of now past image f g is was same = same_image (f image) (g image) (sym (ap (option_map f) is) ∙ same ∙ ap (option_map g) was)
 
   -- the disk ends the call in flight that has no entry, where there is one
-  module _ (core : CoreState D) (disk : D) (same : told disk ≡ told core.disk) (numbered : AreNumbered core.config.start core.history core.stand) (h : HoldsTold told core) (room : Room) where
+  module _ (core : CoreState D) (disk : D) (same : told disk ≡ told core.disk) (one : length core.sessions ≡ 1) (numbered : AreNumbered core.config.start core.history core.stand) (h : HoldsTold told core) (room : Room) where
     device_on : (flight : Flight) (answered : Bool) → flight.answered ≡ answered → core.stand.flight ≡ Some flight → HoldsTold told (record (if answered then core else record core {
       stand = record core.stand { flight = None };
       inside = false;
@@ -156,7 +156,7 @@ module _ {D : Type 0} (told : D → Option Image) where
     }) { disk = disk; room = room })
     device_on flight true is flies = told_room (record core { disk = disk }) room (told_read core disk same h)
     device_on flight false is flies = λ first image tree begins tells volume names.
-        holds_flushed tree first _ _ (cut_off_holds tree first _ core (h first image tree begins (sym same ∙ tells) volume names) flight numbered flies is room) disk core.sealed
+        holds_flushed tree first _ _ (cut_off_holds tree first _ core (h first image tree begins (sym same ∙ tells) volume names) flight one numbered flies is room) disk core.sealed
 
     device_at : (flight : Option Flight) → core.stand.flight ≡ flight → HoldsTold told (record (ended_by_device core flight) { disk = disk; room = room })
     device_at None flies = told_room (record core { disk = disk }) room (told_read core disk same h)
@@ -195,7 +195,7 @@ module _ {D : Type 0} (told : D → Option Image) where
       holds_flushed tree first base _ resumes new.disk old.sealed)
   told_rolls old new (Err roll.Device) by recovers orderly replayed same h =
       let taken : HoldsTold told (unwound old) = told_unwound old h in
-      let ends = told_device (unwound old) new.disk same orderly.numbered taken new.room in
+      let ends = told_device (unwound old) new.disk same orderly.seats orderly.numbered taken new.room in
       subst (HoldsTold told) (sym by) (told_memory (record (ended_by_device (unwound old) old.stand.flight) { disk = new.disk; room = new.room }) new (recovers_on (unwound old) old.stand.flight ∙ recovers) refl ends)
   told_rolls old new (Err roll.NoMemory) by recovers orderly replayed same h = subst (HoldsTold told) (sym by) (told_memory (unwound old) new recovers same (told_unwound old h))
 

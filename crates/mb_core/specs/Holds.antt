@@ -51,7 +51,8 @@ AreOrdinary sessions = (caller : ℕ) (seat : Seat) → slice_get sessions calle
 
 -- ---- the parts that speak of images: the machine is the one that the volume opened with, start its image
 
--- the history is a legal one, every machine on the way is valid, and the sessions are those of the machine after it
+-- the history is a legal one; the machine after it is valid, each of its inodes but inode 1 has a name, and its sessions
+-- are those of now, without an open file on inode 1
 pub record IsLegalSoFar (machine : Machine) (begins : ℕ) (history : List Entry) (sessions : List Seat) : Type 0 where
   pub legal : Legal machine begins history
   pub valid : IsValid (after machine history)

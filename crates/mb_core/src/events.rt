@@ -9,6 +9,7 @@ ghost use Rattle.mb_core.specs.Looks.{Flushes};
 ghost use Rattle.mb_core.specs.Ready.{MayFinish};
 ghost use Rattle.mb_core.specs.Results.{Finishes, IsTicketOf, Leaves, Rolls, Strikes};
 ghost use Rattle.mb_core.specs.State.{seen};
+ghost use Rattle.mb_core.specs.Trail.{IsDisciplined};
 ghost use Rattle.mb_core.specs.declared.answers.OpenFault.TheVariants.{Device};
 ghost use Rattle.mb_tree.specs.Volume.{HasSizes};
 
@@ -199,9 +200,10 @@ impl<D: Disk> Core<D> {
         self.fields.struck.as_slice()
     }
 
-    /// The event trace.
+    /// The event trace, which is disciplined.
     pub fn trail(&self) -> &[Step]
-        ensures { result.now ≡ self.now.trail }
+        ensures trail { result.now ≡ self.now.trail }
+        ensures disciplined { IsDisciplined result.now }
     {
         self.fields.trail.as_slice()
     }

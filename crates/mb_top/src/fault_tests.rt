@@ -1,32 +1,8 @@
-use crate::run_tests::{Failing, NOTHING_FAILS, hello_volume, run};
+use crate::example_tests::WIPED_JOB;
+use crate::run_tests::{End, Failing, NOTHING_FAILS, run};
+use crate::volumes::{CTIME, HELLO, changed_volume, hello_volume};
 use std::alloc::{AllocError, Global};
 use std::test::Fail;
-
-const WIPED_JOB: &[u8] =
-    b"calls = [\"a open /hello r\", \"a chmod /hello 600\", \"a chmod /hello 640\", \"a read 3 9\"]\nfaults = [\"3 finish 0 1 wipe 255\"]";
-
-const WIPED_TEXT: &[u8] =
-    b"1 a open /hello r = 3\n2 a chmod /hello 600 = 0\n3 a chmod /hello 640 = 0\n4 a read 3 9 = 5 68656c6c6f\n5 a exit = 0\nend 5 faults 1 seal 5\n";
-
-// Inode 3 has its mode at byte 128 of block 2 and its ctime at byte 188.
-#[test]
-fn a_fault_that_wipes_the_pages_is_rolled_back_and_replayed(rt: HostRuntime) -> Result<(), Fail> {
-    let end = run(
-        rt.alloc(),
-        &["run", "v"],
-        hello_volume(rt.alloc())?,
-        WIPED_JOB,
-        NOTHING_FAILS,
-    )?;
-    assert_eq!(rt; end.status, 0);
-    assert_eq!(rt; end.printed.as_slice(), WIPED_TEXT);
-    let mut wanted = hello_volume(rt.alloc())?;
-    assert_eq!(rt; wanted.len(), 51200);
-    wanted[1152] = 0xa0;
-    wanted[1214] = 3;
-    assert!(rt; end.image == wanted, "nothing else changed");
-    Ok(())
-}
 
 #[test]
 fn a_fault_without_a_dirty_page_wipes_nothing(rt: HostRuntime) -> Result<(), Fail> {
@@ -78,36 +54,65 @@ fn as_many_faults_as_there_may_be_are_recovered_from(rt: HostRuntime) -> Result<
             .ends_with(b"256 a exit = 0\nend 256 faults 255 seal 256\n")
     );
     assert_eq!(rt; end.image.len(), 51200);
-    assert_eq!(rt; end.image[1152], 0x80);
-    assert_eq!(rt; end.image[1214], 255, "the moment of the last call");
+    assert_eq!(rt; end.image[HELLO], 0x80);
+    assert_eq!(rt;
+        end.image[HELLO + CTIME + 2],
+        255,
+        "the moment of the last call"
+    );
     Ok(())
 }
 
-// The opening reads 21 blocks. A later read that fails ends one call, or delays a recovery, and the status is 0.
+// The 21 reads of the opening end the run. Then the calls read 2, 3 and 1 blocks. The third call is struck there; the
+// recovery reads 1 block for the first chmod, and the third call reads 1 block anew. The fourth reads 1 block.
 #[test]
 fn the_disk_fails_one_read_after_another(rt: HostRuntime) -> Result<(), Fail> {
-    for read in 1..40u64 {
-        let end = run(
-            rt.alloc(),
-            &["run", "v"],
-            hello_volume(rt.alloc())?,
-            WIPED_JOB,
-            Failing {
-                source: 0,
-                disk: read,
-                writes: 0,
-                sink: 0,
-            },
+    for read in 1..22 {
+        let end = run_with_failing_read(rt.alloc(), read)?;
+        assert_eq!(rt; end.status, 5, "read {read}");
+        assert_eq!(rt; end.printed.as_slice(), b"disk fault\n".as_slice());
+        assert!(rt; end.image == hello_volume(rt.alloc())?);
+    }
+    let device = "EIO device";
+    let bytes = "5 68656c6c6f";
+    for (reads, replies, faults, mode, moment) in [
+        (22..24, [device, "0", "0", "EBADF"], 1, 0o640, 3),
+        (24..27, ["3", device, "0", bytes], 1, 0o640, 3),
+        (27..28, ["3", "0", device, bytes], 0, 0o600, 2),
+        (28..30, ["3", "0", device, bytes], 1, 0o600, 2),
+        (30..31, ["3", "0", "0", device], 1, 0o640, 3),
+        (31..40, ["3", "0", "0", bytes], 1, 0o640, 3),
+    ] {
+        let [open, first, second, read_bytes] = replies;
+        let wanted = format!(in rt.alloc();
+            "1 a open /hello r = {open}\n2 a chmod /hello 600 = {first}\n3 a chmod /hello 640 = {second}\n4 a read 3 9 = {read_bytes}\n5 a exit = 0\nend 5 faults {faults} seal 5\n"
         )?;
-        if read < 22 {
-            assert_eq!(rt; end.status, 5, "read {read}");
-            assert_eq!(rt; end.printed.as_slice(), b"disk fault\n".as_slice());
-            assert!(rt; end.image == hello_volume(rt.alloc())?);
-        } else {
+        for read in reads {
+            let end = run_with_failing_read(rt.alloc(), read)?;
             assert_eq!(rt; end.status, 0, "read {read}");
+            assert_eq!(rt; end.printed.as_slice(), wanted.as_bytes(), "read {read}");
+            assert!(rt;
+                end.image == changed_volume(rt.alloc(), mode, moment)?,
+                "read {read}"
+            );
         }
     }
     Ok(())
+}
+
+fn run_with_failing_read(alloc: Global, read: u64) -> Result<End, AllocError> {
+    run(
+        alloc,
+        &["run", "v"],
+        hello_volume(alloc)?,
+        WIPED_JOB,
+        Failing {
+            source: 0,
+            disk: read,
+            writes: 0,
+            sink: 0,
+        },
+    )
 }
 
 // There is one page to write.

@@ -1,11 +1,14 @@
 //! The program: it takes its words, a job from standard input and the image from a file, and ends with a
 //! status. `adapters` is the trusted edge: it counts each error of the system, and tells nothing of what
-//! files and pipes hold. `words` says which words are a command, by `specs/Commands.antt`.
+//! files and pipes hold. `stand_ins` keeps the image from standing at a descriptor that was closed. `words`
+//! says which words are a command, by `specs/Commands.antt`.
 #![tactic(auto)]
 
 mod adapters;
 mod blocks;
 mod deciding;
+#[cfg(test)]
+mod example_tests;
 #[cfg(test)]
 mod fault_tests;
 mod files;
@@ -20,14 +23,18 @@ mod roots;
 mod run_tests;
 mod runs;
 mod settling;
+mod stand_ins;
 #[cfg(test)]
 mod tests;
+#[cfg(test)]
+mod volumes;
 mod words;
 
 use adapters::{FileDisk, InSource, OutSink};
 use finish::Finish;
 use mb_edge::write_whole;
 use membrane::membrane;
+use stand_ins::StandIns;
 use std::alloc::AllocError;
 use std::env::Env;
 use std::io::ErrorKind;
@@ -51,6 +58,13 @@ fn words_of<R: Env + AllocGlobal>(rt: &R) -> Result<Words, AllocError> {
 
 fn main(rt: HostRuntime) -> ExitCode {
     let mut out = OutSink::new(io::writer(&rt));
+    // before anything is opened
+    let Ok(_stand_ins) = StandIns::take(&rt) else {
+        return match write_whole(&mut out, b"disk fault\n") {
+            Ok(()) => ExitCode::from(5),
+            Err(_) => ExitCode::from(7),
+        };
+    };
     let words = words_of(&rt);
     let path = match &words {
         Ok(words) => image_name(words).to_vec(rt.alloc()),

@@ -1,5 +1,9 @@
+use crate::example_tests::HELLO_JOB;
 use crate::finish::Finish;
 use crate::membrane::membrane;
+use crate::volumes::{
+    ADDRESS, HELLO, NLINK, ROOT, ROOT_SLOTS, SIZE, SUPER_BLOCK, hello_volume, put, volume_with,
+};
 use crate::words::{Word8, Words};
 use mb_edge::{Bytes, Fails, MemDisk, MemSink, MemSource};
 use std::alloc::{AllocError, Global};
@@ -28,36 +32,6 @@ pub const NOTHING_FAILS: Failing = Failing {
     writes: 0,
     sink: 0,
 };
-
-fn put(image: &mut [u8], at: usize, bytes: &[u8]) {
-    if at <= image.len() && bytes.len() <= image.len() - at {
-        image[at..at + bytes.len()].copy_from_slice(bytes);
-    }
-}
-
-// A volume of 100 blocks and 16 inodes with the file `hello` in its root.
-pub fn hello_volume(alloc: Global) -> Result<Vec<u8>, AllocError> {
-    let mut image = vec![in alloc; 0; 51200]?;
-    // the super-block: the i-list ends at block 4, the volume at block 100, 45 free blocks are listed
-    put(&mut image, 512, &[4, 0, 0, 0, 100, 0, 45, 0]);
-    // the root, inode 2: a directory of 48 bytes at block 4
-    put(
-        &mut image,
-        1088,
-        &[0xff, 0x41, 2, 0, 0, 0, 0, 0, 0, 0, 48, 0, 0, 4, 0],
-    );
-    // inode 3: a file of 5 bytes at block 5
-    put(
-        &mut image,
-        1152,
-        &[0xa4, 0x81, 1, 0, 0, 0, 0, 0, 0, 0, 5, 0, 0, 5, 0],
-    );
-    put(&mut image, 2048, &[2, 0, b'.']);
-    put(&mut image, 2064, &[2, 0, b'.', b'.']);
-    put(&mut image, 2080, &[3, 0, b'h', b'e', b'l', b'l', b'o']);
-    put(&mut image, 2560, b"hello");
-    Ok(image)
-}
 
 fn fails(alloc: Global, call: u64) -> Result<Fails, AllocError> {
     Ok(Fails::from_vec([call].to_vec(alloc)?))
@@ -106,26 +80,6 @@ pub fn run(
         printed: sink.taken().to_vec(alloc)?,
         image: disk.bytes().to_vec(alloc)?,
     })
-}
-
-const HELLO_JOB: &[u8] =
-    b"calls = [\"a open /hello r\", \"a read 3 9\", \"a read 3 9\", \"a open /nope r\", \"a close 3\"]";
-
-const HELLO_TEXT: &[u8] =
-    b"1 a open /hello r = 3\n2 a read 3 9 = 5 68656c6c6f\n3 a read 3 9 = 0\n4 a open /nope r = ENOENT\n5 a close 3 = 0\n6 a exit = 0\nend 6 faults 0 seal 6\n";
-
-#[test]
-fn a_file_of_the_root_is_read(rt: HostRuntime) -> Result<(), Fail> {
-    let end = run(
-        rt.alloc(),
-        &["run", "v"],
-        hello_volume(rt.alloc())?,
-        HELLO_JOB,
-        NOTHING_FAILS,
-    )?;
-    assert_eq!(rt; end.status, 0);
-    assert_eq!(rt; end.printed.as_slice(), HELLO_TEXT);
-    Ok(())
 }
 
 #[test]
@@ -226,38 +180,41 @@ fn a_call_that_the_disk_fails_changes_nothing(rt: HostRuntime) -> Result<(), Fai
     Ok(())
 }
 
+// The third slot of the root.
+const HELLO_SLOT: usize = ROOT_SLOTS + 2 * 16;
+
 // What a change of some bytes of the example volume makes of it.
 #[test]
 fn near_misses_of_a_simple_image_are_told_apart(rt: HostRuntime) -> Result<(), Fail> {
     let not_built = b"not built\n".as_slice();
     let bad_sizes = b"volume refused: block 1 rule 2\n".as_slice();
     for (at, bytes, status, printed) in [
-        (512, [2, 0].as_slice(), 3, bad_sizes),
-        (516, [101, 0].as_slice(), 3, bad_sizes),
-        (1088, [0xff, 0x81].as_slice(), 9, not_built),
-        (1098, [0x10, 0x14].as_slice(), 9, not_built),
-        (1098, [49, 0].as_slice(), 9, not_built),
-        (1162, [0x01, 0x14].as_slice(), 9, not_built),
-        (1154, [0, 0].as_slice(), 9, not_built),
-        (2080, [1, 0].as_slice(), 9, not_built),
-        (2080, [2, 0].as_slice(), 9, not_built),
-        (2080, [16, 0].as_slice(), 9, not_built),
-        (2080, [17, 0].as_slice(), 9, not_built),
-        (2080, [0xff, 0xff].as_slice(), 9, not_built),
+        (SUPER_BLOCK, [2, 0].as_slice(), 3, bad_sizes),
+        (SUPER_BLOCK + 4, [101, 0].as_slice(), 3, bad_sizes),
+        (ROOT, [0xff, 0x81].as_slice(), 9, not_built),
+        (ROOT + SIZE + 2, [0x10, 0x14].as_slice(), 9, not_built),
+        (ROOT + SIZE + 2, [49, 0].as_slice(), 9, not_built),
+        (HELLO + SIZE + 2, [0x01, 0x14].as_slice(), 9, not_built),
+        (HELLO + NLINK, [0, 0].as_slice(), 9, not_built),
+        (HELLO_SLOT, [1, 0].as_slice(), 9, not_built),
+        (HELLO_SLOT, [2, 0].as_slice(), 9, not_built),
+        (HELLO_SLOT, [16, 0].as_slice(), 9, not_built),
+        (HELLO_SLOT, [17, 0].as_slice(), 9, not_built),
+        (HELLO_SLOT, [0xff, 0xff].as_slice(), 9, not_built),
         (
-            1100,
+            ROOT + ADDRESS,
             [0xff, 0xff, 0xff].as_slice(),
             0,
             b"1 a open /hello r = ENOENT\n2 a exit = 0\nend 2 faults 0 seal 2\n".as_slice(),
         ),
         (
-            2082,
+            HELLO_SLOT + 2,
             b"hellohellohell".as_slice(),
             0,
             b"1 a open /hello r = ENOENT\n2 a exit = 0\nend 2 faults 0 seal 2\n".as_slice(),
         ),
         (
-            2080,
+            HELLO_SLOT,
             [0, 0].as_slice(),
             0,
             b"1 a open /hello r = ENOENT\n2 a exit = 0\nend 2 faults 0 seal 2\n".as_slice(),
@@ -278,17 +235,17 @@ fn near_misses_of_a_simple_image_are_told_apart(rt: HostRuntime) -> Result<(), F
     Ok(())
 }
 
-// A file of ten parts: part p is at block 5 + p and filled with that number, but part 3 is a hole.
+// A file of ten parts: each is filled with its number and 5 more, but part 3 is a hole.
 fn ten_parts(alloc: Global) -> Result<Vec<u8>, AllocError> {
-    let mut image = hello_volume(alloc)?;
-    put(&mut image, 1160, &[0, 0, 0, 0x14]);
-    for part in 0..10u8 {
-        let block = 5 + usize::from(part);
-        put(&mut image, 512 * block, &[5 + part; 512]);
-        let address = if part == 3 { 0 } else { 5 + part };
-        put(&mut image, 1164 + 3 * usize::from(part), &[0, address, 0]);
+    let mut parts = [None; 10];
+    for (number, part) in (5..15).zip(&mut parts) {
+        *part = if number == 8 {
+            None
+        } else {
+            Some([number; 512])
+        };
     }
-    Ok(image)
+    volume_with(alloc, 10 * 512, &parts)
 }
 
 fn push_hex(out: &mut Vec<u8>, digits: &[u8], count: usize) -> Result<(), AllocError> {
