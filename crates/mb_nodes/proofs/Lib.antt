@@ -1,3 +1,4 @@
+pub mod CacheWrites
 pub mod Erasing
 pub mod Filling
 pub mod GrownDirectories
@@ -8,5 +9,6 @@ pub mod NodeParts
 pub mod OneInode
 pub mod Setting
 pub mod SlotRanges
+pub mod SlotSetting
 pub mod Underway
 pub mod Volumes

@@ -73,6 +73,21 @@ module _ (image : Image) (tree : Tree) (chain : List ℕ) (stored : IsStored ima
         (is ∙ sym (ap body_has_addresses body)) (node_fields new ino changed fields (subst (HasBody new ino) (sym body) whole))
         (let a = ap body_cost body in let b : cost_at (fin.get tree.nodes ino) ≡ body_cost node.body = ap cost_at has in omega (arith, a, b))
 
+  module _ (new : ℕ → List ℕ) (written : IsRewritten image.at new ino) (tops : (p : ℕ) → p < 13 → (pointers new).top ino p ≡ (pointers image.at).top ino p) (size more : ℕ) (parts : Numbered (List ℕ))
+      (body : node.body ≡ Regular size parts) (changed : Node) (now : changed.body ≡ Regular more parts) (fields : HasFields new ino changed) (sized : size_of (new (inode_block ino)) (inode_place ino) ≡ more) where
+    -- the size of a file, with its other fields
+    pub sized_now : Follows image tree new (record tree { nodes = fin.insert tree.nodes ino changed }) chain
+    sized_now =
+        let low = mine_listed image tree chain stored ino within (has_addresses tree) same_has image.at chain start in
+        let held = rewritten_held (has_addresses tree) image.at new ino [] chain start.laid low written (λ t. tops) in
+        let is : has_addresses tree ino ≡ true = addressed image tree chain stored ino node has (ap body_has_addresses body) in
+        let file : HasFile image.at ino size parts = subst (HasBody image.at ino) body (node_stored image tree chain stored ino node has).body in
+        let file_now : HasFile new ino more parts = record { sized = sized; each = λ part. file.each part ∙ sym (part_kept (has_addresses tree) image.at new held ino part is) } in
+        finished image tree chain stored ino within (has_addresses tree) same_has new chain
+        (after_rewriting image tree chain stored ino within (has_addresses tree) same_has image.at chain start new written (λ t. tops)) changed
+        (is ∙ sym (ap body_has_addresses now)) (node_fields new ino changed fields (subst (HasBody new ino) (sym now) file_now))
+        (let a = ap body_cost now in let b : cost_at (fin.get tree.nodes ino) ≡ body_cost (Regular size parts) = ap cost_at has ∙ ap body_cost body in omega (arith, a, b))
+
   module _ (size : ℕ) (parts : Numbered (List ℕ)) (part : ℕ) (was : List ℕ) (body : node.body ≡ Regular size parts) (there : fin.get parts part ≡ Some was) (new : ℕ → List ℕ)
       (others : (block : ℕ) → block ≢ part_address image.at ino part → new block ≡ image.at block) (long : length (new (part_address image.at ino part)) ≡ 512) where
     abbrev bytes : List ℕ

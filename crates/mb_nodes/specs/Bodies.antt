@@ -1,7 +1,8 @@
 -- A directory's slots apart from its size, slots written into a part, and the blocks that a body lets go.
-use Rattle.std.specs.Prelude.{List, [], ℕ, ◌+◌, ◌*◌, ◌<◌, ◌≡◌, ◌≢◌, ◌↔◌, true, false, IsSome, length, map}
+use Rattle.std.specs.Prelude.{List, [], ℕ, ◌+◌, ◌*◌, ◌<◌, ◌≤◌, ◌≡◌, ◌≢◌, ◌↔◌, true, false, IsSome, length, map}
 use Rattle.std.specs.List.{range_with_len}
-use Rattle.mb_word.specs.Fields.{inode_block, inode_place, size_of, area_of}
+use Rattle.mb_word.specs.Fields.{ninode_of, inode_block, inode_place, size_of, area_of}
+use Rattle.mb_word.specs.Numbers.{SameFrom}
 use Rattle.mb_tree.specs.Blocks.{pointers, part_in, slot_of, slot_in}
 use Rattle.mb_tree.specs.Cost.{most_parts}
 use Rattle.mb_tree.specs.Volume.{body_has_addresses}
@@ -35,3 +36,18 @@ pub record HasWritten (one two : ℕ → List ℕ) (block from : ℕ) (more : Li
 pub data LetsGo (blocks : ℕ → List ℕ) (ino : ℕ) : Body → List ℕ → Type 0 where
   listed : (body : Body) (list : List ℕ) → body_has_addresses body ≡ true → Enumerates blocks ino list → LetsGo blocks ino body list
   special : (body : Body) → body_has_addresses body ≡ false → LetsGo blocks ino body []
+
+-- one slot of a part's block written
+pub record IsSlotSet (old new : ℕ → List ℕ) (block place : ℕ) (slot : PlainSlot) : Type 0 where
+  pub others : (other : ℕ) → other ≢ block → new other ≡ old other
+  pub full : length (new block) ≡ 512
+  pub kept : (beside : ℕ) → beside < 32 → beside ≢ place → slot_of (new block) beside ≡ slot_of (old block) beside
+  pub here : slot_of (new block) place ≡ slot
+
+-- the cache of free inode numbers written, in bytes 208 to 409 of the super-block
+pub record IsCacheWritten (old new : ℕ → List ℕ) : Type 0 where
+  pub sized : length (new 1) ≡ 512
+  pub few : ninode_of (new 1) ≤ 100
+  pub front : SameFrom (new 1) (old 1) 0 208
+  pub back : SameFrom (new 1) (old 1) 410 102
+  pub others : (other : ℕ) → other ≢ 1 → new other ≡ old other
