@@ -15,9 +15,6 @@ use Rattle.mb_frames.proofs.Pages.{one_other, stands_append, stands_none, stands
 use Rattle.mb_frames.proofs.Steps.{spots, list_is, told_list, page_there, first_is, step_ends, step_sides, step_shaped, step_lists, step_places}
 use Rattle.mb_frames.proofs.Moves.{tail_of, first_or, last_none, rings, told_rings, once_rings, stays, whole_shaped, whole_lists, whole_bytes, empty_is, written_shaped, written_rings, written_first}
 
-abbrev ptr_of : List Ptr → ℕ → Ptr
-ptr_of hs k = get_or hs k null_ptr
-
 record Some_of (l : List Ptr) : Type 0 where
   pub p : Ptr
   pub ps : List Ptr
@@ -120,10 +117,6 @@ module _ (c : List Cell) (s : Ptr) (hs : List Ptr) (S : Shaped c (map (row_at c)
       pub put_others : (q : Ptr) → q ≢ f → SameAt (rings c s hs S) (map (pages_at c2) hs) q
       put_others q n =
           stays c s hs S c2 put_shaped q (omega (arith, put_count q, one_other f q n)) (bytes_all c1 c2 f f t M q ∙ W.bytes q ∙ ap (λ y. cond y b (bytes_at c q)) (other_ptr f q n))
-
--- nothing is known anew of a token
-pub same_all : (r : List (List Page)) (q : Ptr) → SameAt r r q
-same_all r q = record { stands = refl; bytes = refl }
 
 module _ (c : List Cell) (s : Ptr) (hs : List Ptr) (S : Shaped c (map (row_at c) (s ∷ hs))) (a : ℕ) (wa : a < length hs) (h : Ptr) (eh : get_or hs a null_ptr ≡ h) where
   abbrev wi : suc a < length (s ∷ hs)

@@ -1,5 +1,5 @@
 -- The rings, as spare pages are added.
-use Rattle.std.proofs.Common.{◌≡◌, ℕ, ◌+◌, ◌<◌, ◌≤◌, min, true, false, inl, inr, List, [], ◌∷◌, ◌++◌, length, get_or, map, reverse, refl, sym, ap, ◌∙◌, subst, arith, length-append}
+use Rattle.std.proofs.Common.{◌≡◌, ℕ, ◌+◌, ◌<◌, ◌≤◌, true, false, inl, inr, List, [], ◌∷◌, ◌++◌, length, get_or, map, reverse, refl, sym, ap, ◌∙◌, subst, arith, length-append}
 use Rattle.std.proofs.lemmas.List.{map-append, reverse-append, length-map}
 use Rattle.std.specs.Prelude.{IsTrue, slice_get, Some}
 use Rattle.std.specs.List.{AllByRecursion}
@@ -100,15 +100,6 @@ stocked_sound c new s hs all all' p I B e = record {
       stocked_places c s hs I.shaped new p.ptr B ∙ ap (λ l. p.ptr ∷ l) I.freed
       ∙ sym (ap reverse (ap (map (λ (n : NodePtr). n.ptr)) e ∙ map-append (λ (n : NodePtr). n.ptr) all (p ∷ [])) ∙ reverse-append (map (λ (n : NodePtr). n.ptr) all) (p.ptr ∷ []));
 }
-
--- where a walk ended
-pub walked_count : (c : List Cell) (h : Ptr) (most : ℕ) (p : Ptr) (n : ℕ) → Walked c h most p n → n ≡ min (length (pages_at c h)) most
-walked_count c h most p n w =
-    let whole : length (pages_at c h) ≡ length w.before + length w.after = sym (length-map (pages_at c h) (λ (g : Page). g.place)) ∙ ap length w.cut ∙ length-append w.before w.after in
-    (elim (leb_tells most n) as (λ _. n ≡ min (length (pages_at c h)) most) [
-      | inl y ↦ omega (arith, whole, w.count, w.within, y.1)
-      | inr z ↦ let none : length w.after ≡ 0 = ap length (w.stop (omega (arith, z.1))) in omega (arith, whole, none, w.count, w.within)
-    ])
 
 get_mid : {X Y : Type 0} (f : X → Y) (xs : List X) (y : X) (ys : List X) → slice_get (map f (xs ++ y ∷ ys)) (length xs) ≡ Some (f y)
 get_mid f [] y ys = refl

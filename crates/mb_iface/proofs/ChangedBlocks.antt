@@ -55,9 +55,6 @@ part_over : (c s : Option (List ℕ)) (below : List ℕ) → IfSome s (λ bytes.
 part_over None s below part = part
 part_over (Some bytes) s below part = refl
 
-part_none : (s : Option (List ℕ)) (below : List ℕ) → IfSome s (λ bytes. below ≡ bytes) → IfSome s (λ bytes. below ≡ bytes)
-part_none s below part = part
-
 -- a part of the blocks is, under the changes, a part of the blocks under them
 pub shown_part : (shown : ℕ → Option (List ℕ)) (changes : ChangeList) (blocks : ℕ → List ℕ) → IsPart shown blocks → IsPart (shown_over shown changes) (over blocks (changed changes))
 unfolding over

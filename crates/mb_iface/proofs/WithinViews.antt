@@ -1,11 +1,8 @@
 -- Changes of blocks that a view has: a block that was looked up and then changed is one of them.
-use Rattle.std.proofs.Common.{ℕ, ◌≡◌, List, [], Option, Some, None, IsSome, Bool, true, false, cond, nat_eq, refl, subst, arith}
+use Rattle.std.proofs.Common.{ℕ, ◌≡◌, List, Option, Some, None, IsSome, Bool, true, false, cond, nat_eq, refl, subst, arith}
 use Rattle.std.specs.Option.{option_or}
 use Rattle.std.proofs.lemmas.Bool.Decides.{nat_tests}
 use Rattle.mb_iface.specs.Changed.{ChangeList, changed, shown_over, IsWithinView}
-
-pub within_none : (shown : ℕ → Option (List ℕ)) → IsWithinView shown []
-within_none shown block some = cc
 
 -- a block that is found under changes of blocks of the view is one of the view
 from_under : (c s : Option (List ℕ)) → (IsSome c → IsSome s) → IsSome (option_or c s) → IsSome s
@@ -29,16 +26,3 @@ within_put shown old new block bytes each found within other some =
     (within other)
     (subst IsSome (each other) some)
 
-later_within : (l e s : Option (List ℕ)) → (IsSome l → IsSome s) → (IsSome e → IsSome s) → IsSome (option_or l e) → IsSome s
-later_within None e s late early some = early some
-later_within (Some bytes) e s late early some = late some
-
--- later changes of blocks of the view under the earlier ones
-pub within_later : (shown : ℕ → Option (List ℕ)) (old later new : ChangeList)
-    → ((other : ℕ) → changed new other ≡ option_or (changed later other) (changed old other))
-    → IsWithinView (shown_over shown old) later → IsWithinView shown old → IsWithinView shown new
-within_later shown old later new each above within other some =
-    later_within (changed later other) (changed old other) (shown other)
-    (λ late. found_within shown old other within (above other late))
-    (within other)
-    (subst IsSome (each other) some)

@@ -3,6 +3,7 @@ pub mod Blocks
 pub mod CarriedOut
 pub mod Cells
 pub mod Chain
+pub mod Changes
 pub mod Cost
 pub mod Counting
 pub mod Effect

@@ -3,7 +3,7 @@
 use Rattle.std.proofs.Common.{ℕ, ◌≡◌, ◌+◌, ◌<◌, ◌≤◌, List, [], ◌++◌, length, take, drop, get_or, refl, sym, ap, ◌∙◌, arith}
 use Rattle.std.proofs.lemmas.List.{length-take, length-drop, get_or-take, get_or-drop, get_or-append-add, ext_get_or, take-append-drop, drop-drop, drop_at}
 use Rattle.mb_word.specs.Numbers.{word_at, long_at, put_at, SameFrom}
-use Rattle.mb_word.proofs.Writes.{length-put_at, put_at_in, put_at_own}
+use Rattle.mb_word.proofs.Writes.{put_at_own}
 
 -- a byte of a part
 pub get_or-part : (b : List ℕ) (at n k : ℕ) → k < n → get_or (take n (drop at b)) k 0 ≡ get_or b (at + k) 0
@@ -27,12 +27,6 @@ part_is a b at from n in_a in_b same =
     let lb = length-part b from n in_b in
     ext_get_or 0 (take n (drop at a)) (take n (drop from b)) (omega arith)
     (λ k within. get_or-part a at n k (omega arith) ∙ same k (omega arith) ∙ sym (get_or-part b from n k (omega arith)))
-
--- a part of what was written
-pub part_put : (b : List ℕ) (at : ℕ) (xs : List ℕ) (n m : ℕ) → at + length xs ≤ length b → n + m ≤ length xs → take m (drop (at + n) (put_at b at xs)) ≡ take m (drop n xs)
-part_put b at xs n m fits within =
-    part_is (put_at b at xs) xs (at + n) n m (omega (arith, length-put_at b at xs fits)) within
-    (λ k below. ap (λ i. get_or (put_at b at xs) i 0) (omega arith) ∙ put_at_in b at xs (n + k) fits (omega arith))
 
 -- a part written where it stood changes nothing
 pub part_unchanged : (b : List ℕ) (at n : ℕ) → at + n ≤ length b → put_at b at (take n (drop at b)) ≡ b

@@ -118,19 +118,6 @@ addr_back b at value fits small =
     ∙ addr_at-put b at (addr_bytes value) 0 (omega (arith, length-addr_bytes value)) (omega (arith, length-addr_bytes value))
     ∙ addr_is value small
 
--- a number of bytes is below its bound
-pub word_at-lt : (b : List ℕ) (at : ℕ) → AreBytes b → word_at b at < 65536
-unfolding word_at
-word_at-lt b at bytes = omega (arith, bytes at, bytes (at + 1))
-
-pub long_at-lt : (b : List ℕ) (at : ℕ) → AreBytes b → long_at b at < 4294967296
-unfolding long_at
-long_at-lt b at bytes = omega (arith, word_at-lt b at bytes, word_at-lt b (at + 2) bytes)
-
-pub addr_at-lt : (b : List ℕ) (at : ℕ) → AreBytes b → addr_at b at < 16777216
-unfolding addr_at
-addr_at-lt b at bytes = omega (arith, bytes at, word_at-lt b (at + 1) bytes)
-
 -- what was read, written where it stood, changes nothing
 pub word_unchanged : (b : List ℕ) (at : ℕ) → AreBytes b → at + 2 ≤ length b → put_at b at (word_bytes (word_at b at)) ≡ b
 word_unchanged b at bytes fits = sym (put_at_own b at (word_bytes (word_at b at)) (omega (arith, length-word_bytes (word_at b at))) (own_word b at bytes))
