@@ -1,6 +1,6 @@
 -- Blocks of a volume in which only fields of inodes changed that lead to no block: the addresses, the free
 -- chain and what the nodes hold stay.
-use Rattle.std.proofs.Common.{ℕ, zero, suc, ◌≡◌, ◌+◌, ◌*◌, ◌/◌, ◌%◌, ◌<◌, ◌≤◌, inl, inr, ◌↔◌, Bool, true, false, cond, nat_lt, List, length, map, Option, Some, None, IsSome, unwrap_or, refl, sym, ap, subst, ◌∙◌, arith}
+use Rattle.std.proofs.Common.{ℕ, ◌≡◌, ◌+◌, ◌*◌, ◌/◌, ◌%◌, ◌<◌, ◌≤◌, inl, inr, ◌↔◌, true, false, cond, nat_lt, List, length, map, Option, None, IsSome, unwrap_or, refl, sym, ap, subst, ◌∙◌, arith}
 use Rattle.std.specs.FinMap as fin
 use Rattle.std.specs.List.{range_with_len}
 use Rattle.std.proofs.Math.Path.{fun_ext}
@@ -8,7 +8,7 @@ use Rattle.std.proofs.lemmas.Bool.{cases_lt}
 use Rattle.std.proofs.lemmas.Bool.Decides.{nat_tests}
 use Rattle.std.proofs.lemmas.List.Elements.{All-weaker}
 use Rattle.mb_kinds.specs.Image.{Image, zeros}
-use Rattle.mb_word.specs.Fields.{isize_of, nfree_of, free_of, inode_block, inode_place, size_of, area_of, address_of, index_entry, chain_count, chain_entry}
+use Rattle.mb_word.specs.Fields.{isize_of, nfree_of, free_of, inode_block, inode_place, size_of, area_of, address_of, chain_count, chain_entry}
 use Rattle.mb_word.specs.Numbers.{SameFrom}
 use Rattle.mb_word.proofs.Parts.{part_same}
 use Rattle.mb_word.proofs.Values.{long_at-same, addr_at-same}
@@ -16,14 +16,12 @@ use Rattle.mb_tree.specs.Blocks.{entry_in, pointers, bytes_at, part_in, slot_of,
 use Rattle.mb_tree.specs.Chain.{Listed, IsChain}
 use Rattle.mb_tree.specs.Cost.{most_parts}
 use Rattle.mb_tree.specs.Places.{Place, Top, Under, at, IsPlace, place_of}
-use Rattle.mb_tree.specs.Trees.{IsSound}
-use Rattle.mb_tree.specs.Volume.{last_inode, HasBody, body_has_addresses, node_has_addresses, has_addresses, IsOpenToFiles, IsVolume}
+use Rattle.mb_tree.specs.Volume.{last_inode, HasBody, body_has_addresses, has_addresses, IsOpenToFiles, IsVolume}
 use Rattle.mb_tree.specs.declared.nodes.Body.{Body}
 use Rattle.mb_tree.specs.declared.nodes.Body.TheVariants.{Regular, Directory, Special}
-use Rattle.mb_tree.specs.declared.nodes.Node.{Node}
 use Rattle.mb_tree.specs.declared.trees.Tree.{Tree}
 use Rattle.mb_tree.proofs.Chains.{chain_once}
-use Rattle.mb_attrs.proofs.Chains.{chain_alike}
+use Rattle.mb_tree.proofs.VolumeBlocks.{part_place, chain_alike, entry_same, bytes_same, holder_in}
 
 -- block 0, the super-block and the blocks past the i-list stay, and so do the sizes and the areas of the inodes
 pub record Framed (old new : ℕ → List ℕ) : Type 0 where
@@ -32,46 +30,6 @@ pub record Framed (old new : ℕ → List ℕ) : Type 0 where
   pub beyond : (block : ℕ) → isize_of (old 1) ≤ block → new block ≡ old block
   pub sized : (block : ℕ) → length (new block) ≡ 512
   pub inodes : (ino : ℕ) → 0 < ino → ino ≤ last_inode old → SameFrom (new (inode_block ino)) (old (inode_block ino)) (64 * inode_place ino + 8) 44
-
--- the part of a file stands at one of its places
-pub part_place : (has : ℕ → Bool) (ino part : ℕ) → has ino ≡ true → part < most_parts → IsPlace has (place_of ino part)
-unfolding place_of
-part_place has ino part is below = elim (cases_lt part 10) [
-  | inl direct ↦
-      let e : nat_lt part 10 ≡ true = grind (arith, nat_tests) in
-      rw e (is, omega arith)
-  | inr past ↦
-      let e : nat_lt part 10 ≡ false = grind (arith, nat_tests) in
-      rw e (elim (cases_lt part 138) [
-        | inl single ↦
-            let f : nat_lt part 138 ≡ true = grind (arith, nat_tests) in
-            rw f ((is, omega arith), omega arith, omega arith)
-        | inr further ↦
-            let f : nat_lt part 138 ≡ false = grind (arith, nat_tests) in
-            rw f (elim (cases_lt part 16522) [
-              | inl double ↦
-                  let g : nat_lt part 16522 ≡ true = grind (arith, nat_tests) in
-                  rw g (((is, omega arith), omega arith, omega arith), omega arith, omega arith)
-              | inr last ↦
-                  let g : nat_lt part 16522 ≡ false = grind (arith, nat_tests) in
-                  rw g ((((is, omega arith), omega arith, omega arith), omega arith, omega arith), omega arith, omega arith)
-            ])
-      ])
-]
-
-entry_same : (old new : ℕ → List ℕ) (block place : ℕ) → (0 < block → new block ≡ old block) → entry_in new block place ≡ entry_in old block place
-unfolding entry_in
-entry_same old new zero place same = refl
-entry_same old new (suc block) place same = ap (λ bytes. index_entry bytes place) (same (omega arith))
-
-bytes_same : (old new : ℕ → List ℕ) (block : ℕ) → (0 < block → new block ≡ old block) → bytes_at new block ≡ bytes_at old block
-bytes_same old new zero same = refl
-bytes_same old new (suc block) same = ap (λ bytes. Some bytes) (same (omega arith))
-
--- an inode that holds addresses is in the tree
-holder_in : (tree : Tree) (ino : ℕ) (found : Option Node) → IsSound tree → fin.get tree.nodes ino ≡ found → node_has_addresses found ≡ true → (1 ≤ ino) × (ino ≤ tree.last)
-holder_in tree ino None sound is has = cc
-holder_in tree ino (Some node) sound is has = sound.numbers ino node is
 
 module _ (image : Image) (tree : Tree) (new : ℕ → List ℕ) (volume : IsVolume image tree) (frame : Framed image.at new) where
   -- the body of an inode stays

@@ -21,7 +21,7 @@ use Rattle.mb_tree.specs.declared.seats.PlainFile.{PlainFile}
 use Rattle.mb_tree.specs.declared.seats.Seat.{Seat}
 use Rattle.mb_tree.specs.declared.trees.Tree.{Tree}
 use Rattle.mb_tree.proofs.Sums.{sum_nothing}
-use Rattle.mb_attrs.proofs.Keeping.{kept_same}
+use Rattle.mb_tree.proofs.KeptVolumes.{kept_same}
 use Rattle.mb_core.specs.Begun.{IsBegun}
 use Rattle.mb_core.specs.Holds.{AreOrdinary, HasNames, Holds, IsCheckpointed, IsHeldBy, IsLegalSoFar, IsOrdinary, ReplaysToNow, ViewIsCurrent}
 use Rattle.mb_core.specs.Holds as core

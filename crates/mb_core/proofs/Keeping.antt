@@ -19,7 +19,7 @@ use Rattle.mb_tree.specs.Volume.{IsVolume}
 use Rattle.mb_tree.specs.declared.machines.Machine.{Machine}
 use Rattle.mb_tree.specs.declared.seats.Seat.{Seat}
 use Rattle.mb_tree.specs.declared.trees.Tree.{Tree}
-use Rattle.mb_attrs.proofs.Keeping.{kept_composes}
+use Rattle.mb_tree.proofs.KeptVolumes.{kept_composes}
 use Rattle.mb_core.specs.Events.{ended, entering, entry_for, leaving, logging, resumed, sealing, striking, unwound, waiting}
 use Rattle.mb_core.specs.Holds.{AreOrdinary, HasNames, Holds, IsHeldBy, IsLegalSoFar, ReplaysToNow, ViewIsCurrent, held_by}
 use Rattle.mb_core.specs.Journal.{IsLoggable, ops_of}

@@ -26,7 +26,7 @@ use Rattle.mb_tree.proofs.Always.{same_ok}
 use Rattle.mb_tree.proofs.CountsFollow.{counts_follow, held_opens, opens_of}
 use Rattle.mb_tree.proofs.BytesOrAttributesValid.{acted, bytes_or_attributes_valid}
 use Rattle.mb_tree.proofs.ReleaseValid.{release_valid}
-use Rattle.mb_attrs.proofs.Keeping.{kept_same}
+use Rattle.mb_tree.proofs.KeptVolumes.{kept_same}
 use Rattle.mb_core.specs.Events.{entry_for}
 use Rattle.mb_core.specs.Holds.{AreOrdinary, HasNames, held_by}
 use Rattle.mb_core.specs.Journal.{AreRedoable, IsLoggable, IsRedoable, effects, if_done, logged_op, op_with, planned_op, redone}

@@ -19,7 +19,7 @@ use Rattle.mb_tree.specs.declared.operations.FsOp.TheVariants.{Create, Empty, Ma
 use Rattle.mb_tree.specs.declared.seats.Seat.{Seat}
 use Rattle.mb_tree.specs.declared.trees.Tree.{Tree}
 use Rattle.mb_attrs.specs.Modes.{mode_set, replaced, with_mode_set}
-use Rattle.mb_attrs.proofs.Keeping.{kept_composes}
+use Rattle.mb_tree.proofs.KeptVolumes.{kept_composes}
 use Rattle.mb_attrs.proofs.ModeLemmas.{set_mode_keeps}
 use Rattle.mb_core.specs.Holds.{HasNames, IsCheckpointed, IsHeldBy, held_by}
 use Rattle.mb_core.specs.Journal.{AreRedoable, IsLoggable, IsRedoable, effects, redone}

@@ -24,7 +24,7 @@ use Rattle.mb_tree.specs.declared.seats.Seat.{Seat}
 use Rattle.mb_tree.specs.declared.seats.SessionChange.{SessionChange}
 use Rattle.mb_tree.specs.declared.seats.SessionChange.TheVariants.{Same}
 use Rattle.mb_tree.specs.declared.trees.Tree.{Tree}
-use Rattle.mb_attrs.proofs.Keeping.{kept_same}
+use Rattle.mb_tree.proofs.KeptVolumes.{kept_same}
 use Rattle.mb_core.specs.Pages.{PageList, applied}
 use Rattle.mb_core.specs.Ready.{IsAnsweredBy, IsServedBy}
 use Rattle.mb_core.specs.declared.ready.Ready.{Ready}
