@@ -1,10 +1,10 @@
 -- One inode of a block written: its fields and addresses, and those of the seven others.
-use Rattle.std.proofs.Common.{ℕ, ◌≡◌, ◌≢◌, ◌+◌, ◌*◌, ◌<◌, ◌≤◌, inl, inr, List, length, get_or, ap, sym, ◌∙◌, arith}
+use Rattle.std.proofs.Common.{ℕ, ◌≡◌, ◌+◌, ◌*◌, ◌≤◌, inl, inr, List, length, get_or, ap, sym, ◌∙◌, arith}
 use Rattle.std.proofs.lemmas.Bool.{cases_lt}
 use Rattle.mb_word.specs.Numbers.{put_at, SameFrom}
 use Rattle.mb_word.proofs.Parts.{get_or-part}
 use Rattle.mb_word.proofs.Writes.{put_at_same, length-put_at}
-use Rattle.mb_layout.specs.Inode.{dinode_at, dinode_bytes, address_in, FitsDinode}
+use Rattle.mb_layout.specs.Inode.{dinode_at, dinode_bytes, address_in}
 use Rattle.mb_layout.specs.InodeWrites.{HasDinode, KeepsDinode}
 use Rattle.mb_layout.specs.LayoutLaws.{DinodeWritten}
 use Rattle.mb_layout.specs.declared.dinodes.Dinode.{Dinode}
