@@ -1,6 +1,8 @@
 pub mod CacheWrites
 pub mod Erasing
 pub mod Filling
+pub mod FreshTrees
+pub mod FreshVolumes
 pub mod GrownDirectories
 pub mod KeptFrom
 pub mod Making
@@ -10,5 +12,6 @@ pub mod OneInode
 pub mod Setting
 pub mod SlotRanges
 pub mod SlotSetting
+pub mod SlotWrites
 pub mod Underway
 pub mod Volumes

@@ -3,6 +3,7 @@ use Rattle.std.specs.Prelude.{List, [], ℕ, ◌+◌, ◌*◌, ◌<◌, ◌≤�
 use Rattle.std.specs.List.{range_with_len}
 use Rattle.mb_word.specs.Fields.{ninode_of, inode_block, inode_place, size_of, area_of}
 use Rattle.mb_word.specs.Numbers.{SameFrom}
+use Rattle.mb_layout.specs.declared.slots.Slot.{Slot}
 use Rattle.mb_tree.specs.Blocks.{pointers, part_in, slot_of, slot_in}
 use Rattle.mb_tree.specs.Cost.{most_parts}
 use Rattle.mb_tree.specs.Volume.{body_has_addresses}
@@ -36,6 +37,10 @@ pub record HasWritten (one two : ℕ → List ℕ) (block from : ℕ) (more : Li
 pub data LetsGo (blocks : ℕ → List ℕ) (ino : ℕ) : Body → List ℕ → Type 0 where
   listed : (body : Body) (list : List ℕ) → body_has_addresses body ≡ true → Enumerates blocks ino list → LetsGo blocks ino body list
   special : (body : Body) → body_has_addresses body ≡ false → LetsGo blocks ino body []
+
+-- the slot of the model that a slot's value stands for
+abbrev pub plain : Slot → PlainSlot
+plain slot = record { ino = slot.ino; name = slot.name }
 
 -- one slot of a part's block written
 pub record IsSlotSet (old new : ℕ → List ℕ) (block place : ℕ) (slot : PlainSlot) : Type 0 where

@@ -1,10 +1,13 @@
 -- The laws of the steps of operations, each the contract of a function without a body. From blocks that store a tree
 -- they lead to blocks that store the next one and keep what a volume keeps (Follows). The premises are the relations
 -- of blocks that the contracts of code promise, in the order of the writes.
-use Rattle.std.specs.Prelude.{List, ◌++◌, ℕ, ◌+◌, ◌*◌, ◌/◌, ◌%◌, ◌<◌, ◌≤◌, ◌≡◌, ◌≢◌, Some, None, length}
+use Rattle.std.specs.Prelude.{List, ◌++◌, ℕ, ◌+◌, ◌*◌, ◌/◌, ◌%◌, ◌<◌, ◌≤◌, ◌≡◌, ◌≢◌, Some, None, length, slice_set, ◌∷◌, []}
 use Rattle.std.specs.FinMap as fin
 use Rattle.mb_kinds.specs.Image.{Image, zeros}
 use Rattle.mb_word.specs.Fields.{inode_block, inode_place, mode_of, size_of}
+use Rattle.mb_word.specs.Numbers.{put_at}
+use Rattle.mb_layout.specs.SlotEntry.{FitsSlot, slot_bytes}
+use Rattle.mb_layout.specs.declared.slots.Slot.{Slot}
 use Rattle.mb_tree.specs.Blocks.{pointers, part_address}
 use Rattle.mb_tree.specs.Cost.{cost, most_parts}
 use Rattle.mb_tree.specs.Maps.{Numbered}
@@ -18,7 +21,8 @@ use Rattle.mb_tree.specs.declared.trees.Tree.{Tree}
 use Rattle.mb_blocks.specs.FreeLists.{AreFreed, onto}
 use Rattle.mb_blocks.specs.Growing.{Reaches, missing}
 use Rattle.mb_blocks.specs.Inodes.{HasFields, IsRewritten}
-use Rattle.mb_nodes.specs.Bodies.{KeepsBody, HasWritten, LetsGo}
+use Rattle.mb_nodes.specs.Bodies.{KeepsBody, HasWritten, IsCacheWritten, IsSlotSet, LetsGo, plain}
+use Rattle.mb_nodes.specs.Fresh.{IsFresh, fresh_tree}
 use Rattle.mb_nodes.specs.Stored.{IsStored, Follows, with_node, without_node}
 
 -- a volume stores its tree, and a stored tree that is sound is a volume
@@ -98,3 +102,39 @@ Erased = (image : Image) (tree : Tree) (chain : List ℕ) → IsStored image tre
     → (mid new : ℕ → List ℕ) (list : List ℕ) → LetsGo image.at ino node.body list → IsRewritten image.at mid ino → AreFreed mid new list
     → mode_of (mid (inode_block ino)) (inode_place ino) ≡ 0
     → Follows image tree new (without_node tree ino) (onto list chain)
+
+-- the size of a file set, with its other fields
+abbrev pub SizeSet : Type 0
+SizeSet = (image : Image) (tree : Tree) (chain : List ℕ) → IsStored image tree chain → (ino : ℕ) (node changed : Node) → fin.get tree.nodes ino ≡ Some node
+    → (size more : ℕ) (parts : Numbered (List ℕ)) → node.body ≡ Regular size parts → changed.body ≡ Regular more parts
+    → (new : ℕ → List ℕ) → IsRewritten image.at new ino → ((p : ℕ) → p < 13 → (pointers new).top ino p ≡ (pointers image.at).top ino p)
+    → HasFields new ino changed → size_of (new (inode_block ino)) (inode_place ino) ≡ more
+    → Follows image tree new (with_node tree ino changed) chain
+
+-- a slot of a directory written where it stands
+abbrev pub SlotSet : Type 0
+SlotSet = (image : Image) (tree : Tree) (chain : List ℕ) → IsStored image tree chain → (ino : ℕ) (node : Node) → fin.get tree.nodes ino ≡ Some node
+    → (slots : List PlainSlot) → node.body ≡ Directory slots → (at : ℕ) → at < length slots → (slot : PlainSlot) (new : ℕ → List ℕ)
+    → IsSlotSet image.at new (part_address image.at ino (at / 32)) (at % 32) slot
+    → Follows image tree new (with_node tree ino (record node { body = Directory (slice_set slots at slot) })) chain
+
+-- the cache of free inode numbers written: the tree stays
+abbrev pub CacheWritten : Type 0
+CacheWritten = (image : Image) (tree : Tree) (chain : List ℕ) → IsStored image tree chain → (new : ℕ → List ℕ) → IsCacheWritten image.at new
+    → Follows image tree new tree chain
+
+-- a slot's bytes written in a block set the slot
+abbrev pub SlotBytesSet : Type 0
+SlotBytesSet = (old new : ℕ → List ℕ) (block place : ℕ) (slot : Slot) → place < 32 → FitsSlot slot → length (old block) ≡ 512
+    → new block ≡ put_at (old block) (16 * place) (slot_bytes slot) → ((other : ℕ) → other ≢ block → new other ≡ old other)
+    → IsSlotSet old new block place (plain slot)
+
+-- one slot set is slots written, and so are slots behind slots
+abbrev pub SlotsJoin : Type 0
+SlotsJoin = ((old new : ℕ → List ℕ) (block place : ℕ) (slot : PlainSlot) → place < 32 → IsSlotSet old new block place slot → HasWritten old new block place (slot ∷ []))
+    × ((one mid two : ℕ → List ℕ) (block from : ℕ) (xs ys : List PlainSlot) → HasWritten one mid block from xs → HasWritten mid two block (from + length xs) ys
+    → HasWritten one two block from (xs ++ ys))
+
+-- a fresh image is a volume of the fresh tree
+abbrev pub FreshIsVolume : Type 0
+FreshIsVolume = (image : Image) (isize fsize : ℕ) → IsFresh image isize fsize → IsVolume image (fresh_tree isize fsize)

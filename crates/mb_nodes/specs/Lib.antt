@@ -1,4 +1,5 @@
 pub mod Bodies
+pub mod Fresh
 pub mod Laws
 pub mod Stored
 pub mod Underway

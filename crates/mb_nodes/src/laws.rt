@@ -1,4 +1,4 @@
-ghost use Rattle.mb_nodes.specs.Laws.{StoredOf, VolumeOf, FieldsSet, PartPut, HoleFilled, FillRefused, DirectoryGrown, FileMade, DirectoryMade, Cleared, Erased};
+ghost use Rattle.mb_nodes.specs.Laws.{StoredOf, VolumeOf, FieldsSet, PartPut, HoleFilled, FillRefused, DirectoryGrown, FileMade, DirectoryMade, Cleared, Erased, SizeSet, SlotSet, CacheWritten, SlotBytesSet, SlotsJoin, FreshIsVolume};
 
 /// A volume stores its tree, and a stored tree that is sound is a volume.
 pub fn volume_is_stored()
@@ -45,4 +45,30 @@ pub fn cleared()
 /// A node is gone.
 pub fn erased()
     ensures { Erased }
+{}
+
+/// A file's size is set.
+pub fn size_set()
+    ensures { SizeSet }
+{}
+
+/// A slot of a directory is written where it stands.
+pub fn slot_set()
+    ensures { SlotSet }
+{}
+
+/// The cache of free inode numbers is written, and the tree stays.
+pub fn cache_written()
+    ensures { CacheWritten }
+{}
+
+/// The bytes of slots, written in a block, are the slots.
+pub fn slot_bytes()
+    ensures one { SlotBytesSet }
+    ensures many { SlotsJoin }
+{}
+
+/// A fresh image is a volume of the fresh tree.
+pub fn fresh_is_volume()
+    ensures { FreshIsVolume }
 {}
