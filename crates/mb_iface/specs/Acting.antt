@@ -7,11 +7,11 @@ use Rattle.mb_kinds.specs.Image.{Image}
 use Rattle.mb_kinds.specs.declared.errors.Errno.{Errno}
 use Rattle.mb_tree.specs.Effect.{TreeAndOpens, effect}
 use Rattle.mb_tree.specs.Fits.{Fits}
+use Rattle.mb_tree.specs.PickLaws.{makes_inode}
 use Rattle.mb_tree.specs.Step.{IsFreeNumber}
 use Rattle.mb_tree.specs.Views.{over, Kept}
 use Rattle.mb_tree.specs.Volume.{IsVolume}
 use Rattle.mb_tree.specs.declared.operations.FsOp.{FsOp}
-use Rattle.mb_tree.specs.declared.operations.FsOp.TheVariants.{Create, MakeDir}
 use Rattle.mb_tree.specs.declared.trees.Tree.{Tree}
 use Rattle.mb_iface.specs.declared.replies.Acted.{Acted}
 use Rattle.mb_iface.specs.declared.replies.Acted.TheVariants as acted
@@ -22,12 +22,6 @@ use Rattle.mb_iface.specs.OpenCounts.{count_of}
 -- an image with changes over it
 abbrev pub with_changes : Image → ChangeList → Image
 with_changes image changes = record image { at = over image.at (changed changes) }
-
--- the operations that make an inode
-abbrev pub makes_inode : FsOp → Bool
-makes_inode (Create dir name mode uid gid moment) = true
-makes_inode (MakeDir dir name mode uid gid moment) = true
-makes_inode _ = false
 
 -- the number with which an operation is done: where it makes an inode the demanded one, else a free
 -- one, as long as there is one
