@@ -115,9 +115,9 @@ module _ (isize fsize : ℕ) (some : 3 ≤ isize) (room : isize < fsize) where
 
   root_links : links tree 2 ≡ 2
   root_links =
-      let moved = sum_but (λ k. 0) (λ k. links_at 2 (fin.get tree.nodes k)) 2 (tree.last + 1) (omega (arith, some)) (λ k apart. ap (links_at 2) (no_other k apart)) in
+      let moved = sum_but (λ k. 0) (λ k. links_at 0 2 (fin.get tree.nodes k)) 2 (tree.last + 1) (omega (arith, some)) (λ k apart. ap (links_at 0 2) (no_other k apart)) in
       let none = sum_nothing (λ k. 0) (tree.last + 1) (λ k low. refl) in
-      let here : links_at 2 (fin.get tree.nodes 2) ≡ 2 = ap (links_at 2) root_at in
+      let here : links_at 0 2 (fin.get tree.nodes 2) ≡ 2 = ap (links_at 0 2) root_at in
       omega (arith, moved, none, here)
 
   there : IsThere tree.nodes 2
