@@ -2,6 +2,7 @@ pub mod Answers
 pub mod Blocks
 pub mod Cells
 pub mod Chain
+pub mod Changes
 pub mod Cost
 pub mod Counting
 pub mod Effect

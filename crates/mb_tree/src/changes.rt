@@ -2,6 +2,7 @@ ghost use Rattle.std.specs.Prelude.{◌≡◌, IfOk, IfSome, not, position};
 ghost use Rattle.mb_tree.specs.Lookup.{is_used, is_named};
 ghost use Rattle.mb_tree.specs.Effect.{touched, linked, unlinked, made, entered, emptied, with_name, without_name, on_slots, with_link, without_link, wrote, blanked, with_mode, with_owner, with_times, first_slots, cleared, written};
 ghost use Rattle.std.specs.Prelude.{◌<◌, ◌≤◌, ◌+◌, ◌^◌, length};
+ghost use Rattle.mb_tree.specs.Changes.{changed_by, HasLinkRoom};
 
 use crate::contents::put_bytes;
 use crate::inodes::{KIND, is_used};
@@ -10,6 +11,29 @@ use crate::maps::Map;
 use crate::nodes::{Body, Node, PlainSlot, PlainSlots};
 use mb_kinds::{Name, Seq};
 use std::alloc::{AllocError, Global};
+
+/// What an operation does to one inode, but for bytes that are written.
+#[derive(Clone, Copy)]
+pub enum Change {
+    /// A name entered in a directory.
+    Enter { name: Name, ino: u16 },
+    /// A directory's name entered in a directory, whose link count grows by the new one's `..`.
+    EnterDir { name: Name, ino: u16 },
+    /// The slot of a name emptied.
+    Leave { name: Name },
+    /// The slot of a directory's name emptied.
+    LeaveDir { name: Name },
+    /// One name more.
+    Link,
+    /// The bytes dropped.
+    Blank,
+    /// The mode set, but for the kind.
+    Mode { mode: u16 },
+    /// The owner set.
+    Owner { uid: u16, gid: u16 },
+    /// The times of access and content set.
+    Times { atime: u32, mtime: u32 },
+}
 
 /// `.` as a slot's name.
 pub const DOT: Name = [46, 0, 0, 0, 0, 0, 0, 0, 0, 0, 0, 0, 0, 0];
@@ -112,7 +136,7 @@ pub fn made(mode: u16, nlink: u16, uid: u16, gid: u16, moment: u32, body: Body) 
 }
 
 /// A directory with a name entered.
-pub fn with_name(node: Node, moment: u32, name: Name, ino: u16) -> Result<Node, AllocError>
+fn with_name(node: Node, moment: u32, name: Name, ino: u16) -> Result<Node, AllocError>
     ensures { IfOk result (λ next. next ≡ with_name moment name ino node) }
 {
     Ok(Node {
@@ -124,7 +148,7 @@ pub fn with_name(node: Node, moment: u32, name: Name, ino: u16) -> Result<Node, 
 }
 
 /// A directory with the slot of a name emptied.
-pub fn without_name(node: Node, moment: u32, name: &Name) -> Node
+fn without_name(node: Node, moment: u32, name: &Name) -> Node
     ensures { result ≡ without_name moment name.now node }
 {
     Node {
@@ -136,7 +160,7 @@ pub fn without_name(node: Node, moment: u32, name: &Name) -> Node
 }
 
 /// The same with one link more, for a name of a directory.
-pub fn with_link(node: Node, moment: u32, name: Name, ino: u16) -> Result<Node, AllocError>
+fn with_link(node: Node, moment: u32, name: Name, ino: u16) -> Result<Node, AllocError>
     requires { node.nlink < 65535 }
     ensures { IfOk result (λ next. next ≡ with_link moment name ino node) }
 {
@@ -148,7 +172,7 @@ pub fn with_link(node: Node, moment: u32, name: Name, ino: u16) -> Result<Node, 
 }
 
 /// The same with one link less, for a name of a directory.
-pub fn without_link(node: Node, moment: u32, name: &Name) -> Node
+fn without_link(node: Node, moment: u32, name: &Name) -> Node
     ensures { result ≡ without_link moment name.now node }
 {
     let nlink = node.nlink.saturating_sub(1);
@@ -159,7 +183,7 @@ pub fn without_link(node: Node, moment: u32, name: &Name) -> Node
 }
 
 /// An inode with one name more.
-pub fn linked(node: Node, moment: u32) -> Node
+fn linked(node: Node, moment: u32) -> Node
     requires { node.nlink < 65535 }
     ensures { result ≡ linked moment node }
 {
@@ -212,7 +236,7 @@ fn written(body: Body, offset: u32, bytes: &[u8]) -> Result<Body, AllocError>
 }
 
 /// A file with its bytes dropped.
-pub fn blanked(alloc: Global, node: Node, moment: u32) -> Node
+fn blanked(alloc: Global, node: Node, moment: u32) -> Node
     ensures { result ≡ blanked moment node }
 {
     Node {
@@ -237,7 +261,7 @@ pub fn wrote(node: Node, moment: u32, offset: u32, bytes: &[u8]) -> Result<Node,
 }
 
 /// An inode with a mode of its kind.
-pub fn with_mode(node: Node, mode: u16, moment: u32) -> Node
+fn with_mode(node: Node, mode: u16, moment: u32) -> Node
     ensures { result ≡ with_mode mode moment node }
 {
     Node {
@@ -248,7 +272,7 @@ pub fn with_mode(node: Node, mode: u16, moment: u32) -> Node
 }
 
 /// An inode with an owner.
-pub fn with_owner(node: Node, uid: u16, gid: u16, moment: u32) -> Node
+fn with_owner(node: Node, uid: u16, gid: u16, moment: u32) -> Node
     ensures { result ≡ with_owner uid gid moment node }
 {
     Node {
@@ -260,7 +284,7 @@ pub fn with_owner(node: Node, uid: u16, gid: u16, moment: u32) -> Node
 }
 
 /// An inode with times.
-pub fn with_times(node: Node, atime: u32, mtime: u32, moment: u32) -> Node
+fn with_times(node: Node, atime: u32, mtime: u32, moment: u32) -> Node
     ensures { result ≡ with_times atime mtime moment node }
 {
     Node {
@@ -268,5 +292,23 @@ pub fn with_times(node: Node, atime: u32, mtime: u32, moment: u32) -> Node
         mtime,
         ctime: moment,
         ..node
+    }
+}
+
+/// An inode after a change, at a moment.
+pub fn changed(alloc: Global, node: Node, change: Change, moment: u32) -> Result<Node, AllocError>
+    requires { HasLinkRoom change node.nlink }
+    ensures { IfOk result (λ next. next ≡ changed_by change moment node) }
+{
+    match change {
+        Change::Enter { name, ino } => with_name(node, moment, name, ino),
+        Change::EnterDir { name, ino } => with_link(node, moment, name, ino),
+        Change::Leave { name } => Ok(without_name(node, moment, &name)),
+        Change::LeaveDir { name } => Ok(without_link(node, moment, &name)),
+        Change::Link => Ok(linked(node, moment)),
+        Change::Blank => Ok(blanked(alloc, node, moment)),
+        Change::Mode { mode } => Ok(with_mode(node, mode, moment)),
+        Change::Owner { uid, gid } => Ok(with_owner(node, uid, gid, moment)),
+        Change::Times { atime, mtime } => Ok(with_times(node, atime, mtime, moment)),
     }
 }

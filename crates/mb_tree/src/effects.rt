@@ -5,9 +5,10 @@ ghost use Rattle.mb_tree.specs.Results.{Gives, GivesTree};
 ghost use Rattle.mb_tree.specs.Step.{effect_of};
 ghost use Rattle.mb_tree.specs.Lookup.{number_in};
 ghost use Rattle.mb_tree.specs.Sessions.{counts};
-ghost use Rattle.mb_tree.specs.Effect.{linked, with_name, without_name, with_link, without_link, wrote, blanked, with_mode, with_owner, with_times, nlink_in, fitting, is_lost, less_name, less_open, release, create, empty, make_dir, remove_dir, enlink, delink, put, set_mode, set_owner, set_times, tree_after};
+ghost use Rattle.mb_tree.specs.Changes.{changed_by, HasLinkRoom};
+ghost use Rattle.mb_tree.specs.Effect.{wrote, nlink_in, fitting, is_lost, less_name, less_open, release, create, empty, make_dir, remove_dir, enlink, delink, put, set_mode, set_owner, set_times, tree_after};
 
-use crate::changes;
+use crate::changes::{self, Change};
 use crate::costs::cost;
 use crate::inodes::{DIRECTORY, REGULAR};
 use crate::lookups::number_in;
@@ -46,68 +47,41 @@ fn fitting(alloc: Global, tree: &Tree, nodes: Nodes) -> Result<Nodes, Stop>
     Ok(nodes)
 }
 
+/// One inode changed, where it is there.
 #[tactic(auto, using(crate::proofs::Changed::rechanged, crate::proofs::Changed::unchanged))]
-fn enter_name(
+fn change(
+    alloc: Global,
     nodes: &mut Nodes,
-    dir: u16,
-    moment: u32,
-    name: Name,
     ino: u16,
-) -> Result<(), AllocError>
-    ensures { OnOk result (nodes.new ≡ changed_at nodes.old dir (with_name moment name ino)) }
-{
-    let Some(node) = nodes.remove(u32::from(dir)) else {
-        return Ok(());
-    };
-    nodes.insert(u32::from(dir), changes::with_name(node, moment, name, ino)?)
-}
-
-#[tactic(auto, using(crate::proofs::Changed::rechanged, crate::proofs::Changed::unchanged))]
-fn enter_link(
-    nodes: &mut Nodes,
-    dir: u16,
+    change: Change,
     moment: u32,
-    name: Name,
-    ino: u16,
 ) -> Result<(), AllocError>
-    requires { nlink_in nodes.old dir < 65535 }
-    ensures { OnOk result (nodes.new ≡ changed_at nodes.old dir (with_link moment name ino)) }
-{
-    let Some(node) = nodes.remove(u32::from(dir)) else {
-        return Ok(());
-    };
-    nodes.insert(u32::from(dir), changes::with_link(node, moment, name, ino)?)
-}
-
-#[tactic(auto, using(crate::proofs::Changed::rechanged, crate::proofs::Changed::unchanged))]
-fn leave_name(nodes: &mut Nodes, dir: u16, moment: u32, name: &Name) -> Result<(), AllocError>
-    ensures { OnOk result (nodes.new ≡ changed_at nodes.old dir (without_name moment name.now)) }
-{
-    let Some(node) = nodes.remove(u32::from(dir)) else {
-        return Ok(());
-    };
-    nodes.insert(u32::from(dir), changes::without_name(node, moment, name))
-}
-
-#[tactic(auto, using(crate::proofs::Changed::rechanged, crate::proofs::Changed::unchanged))]
-fn leave_link(nodes: &mut Nodes, dir: u16, moment: u32, name: &Name) -> Result<(), AllocError>
-    ensures { OnOk result (nodes.new ≡ changed_at nodes.old dir (without_link moment name.now)) }
-{
-    let Some(node) = nodes.remove(u32::from(dir)) else {
-        return Ok(());
-    };
-    nodes.insert(u32::from(dir), changes::without_link(node, moment, name))
-}
-
-#[tactic(auto, using(crate::proofs::Changed::rechanged, crate::proofs::Changed::unchanged))]
-fn link(nodes: &mut Nodes, ino: u16, moment: u32) -> Result<(), AllocError>
-    requires { nlink_in nodes.old ino < 65535 }
-    ensures { OnOk result (nodes.new ≡ changed_at nodes.old ino (linked moment)) }
+    requires { HasLinkRoom change (nlink_in nodes.old ino) }
+    ensures { OnOk result (nodes.new ≡ changed_at nodes.old ino (changed_by change moment)) }
 {
     let Some(node) = nodes.remove(u32::from(ino)) else {
         return Ok(());
     };
-    nodes.insert(u32::from(ino), changes::linked(node, moment))
+    nodes.insert(
+        u32::from(ino),
+        changes::changed(alloc, node, change, moment)?,
+    )
+}
+
+/// The nodes with one inode changed.
+fn with_change(
+    alloc: Global,
+    tree: &Tree,
+    ino: u16,
+    made: Change,
+    moment: u32,
+) -> Result<Nodes, AllocError>
+    requires { HasLinkRoom made (nlink_in tree.now.nodes ino) }
+    ensures { IfOk result (λ nodes. nodes ≡ changed_at tree.now.nodes ino (changed_by made moment)) }
+{
+    let mut nodes = tree.nodes.copied(alloc)?;
+    change(alloc, &mut nodes, ino, made, moment)?;
+    Ok(nodes)
 }
 
 /// Whether an inode is nameless and not open.
@@ -150,61 +124,6 @@ fn write(
     nodes.insert(u32::from(ino), changes::wrote(node, moment, offset, bytes)?)
 }
 
-#[tactic(auto, using(crate::proofs::Changed::rechanged, crate::proofs::Changed::unchanged))]
-fn blank(alloc: Global, nodes: &mut Nodes, ino: u16, moment: u32) -> Result<(), AllocError>
-    ensures { OnOk result (nodes.new ≡ changed_at nodes.old ino (blanked moment)) }
-{
-    let Some(node) = nodes.remove(u32::from(ino)) else {
-        return Ok(());
-    };
-    nodes.insert(u32::from(ino), changes::blanked(alloc, node, moment))
-}
-
-#[tactic(auto, using(crate::proofs::Changed::rechanged, crate::proofs::Changed::unchanged))]
-fn change_mode(nodes: &mut Nodes, ino: u16, mode: u16, moment: u32) -> Result<(), AllocError>
-    ensures { OnOk result (nodes.new ≡ changed_at nodes.old ino (with_mode mode moment)) }
-{
-    let Some(node) = nodes.remove(u32::from(ino)) else {
-        return Ok(());
-    };
-    nodes.insert(u32::from(ino), changes::with_mode(node, mode, moment))
-}
-
-#[tactic(auto, using(crate::proofs::Changed::rechanged, crate::proofs::Changed::unchanged))]
-fn change_owner(
-    nodes: &mut Nodes,
-    ino: u16,
-    uid: u16,
-    gid: u16,
-    moment: u32,
-) -> Result<(), AllocError>
-    ensures { OnOk result (nodes.new ≡ changed_at nodes.old ino (with_owner uid gid moment)) }
-{
-    let Some(node) = nodes.remove(u32::from(ino)) else {
-        return Ok(());
-    };
-    nodes.insert(u32::from(ino), changes::with_owner(node, uid, gid, moment))
-}
-
-#[tactic(auto, using(crate::proofs::Changed::rechanged, crate::proofs::Changed::unchanged))]
-fn change_times(
-    nodes: &mut Nodes,
-    ino: u16,
-    atime: u32,
-    mtime: u32,
-    moment: u32,
-) -> Result<(), AllocError>
-    ensures { OnOk result (nodes.new ≡ changed_at nodes.old ino (with_times atime mtime moment)) }
-{
-    let Some(node) = nodes.remove(u32::from(ino)) else {
-        return Ok(());
-    };
-    nodes.insert(
-        u32::from(ino),
-        changes::with_times(node, atime, mtime, moment),
-    )
-}
-
 fn create(
     alloc: Global,
     tree: &Tree,
@@ -225,8 +144,7 @@ fn create(
         size: 0,
         parts: Map::new(alloc),
     };
-    let mut nodes = tree.nodes.copied(alloc)?;
-    enter_name(&mut nodes, dir, moment, name, ino)?;
+    let mut nodes = with_change(alloc, tree, dir, Change::Enter { name, ino }, moment)?;
     nodes.insert(
         u32::from(ino),
         changes::made(REGULAR | mode, 1, uid, gid, moment, body),
@@ -256,8 +174,7 @@ fn make_dir(
     let body = Body::Directory {
         slots: changes::first_slots(alloc, ino, dir)?,
     };
-    let mut nodes = tree.nodes.copied(alloc)?;
-    enter_link(&mut nodes, dir, moment, name, ino)?;
+    let mut nodes = with_change(alloc, tree, dir, Change::EnterDir { name, ino }, moment)?;
     nodes.insert(
         u32::from(ino),
         changes::made(DIRECTORY | mode, 2, uid, gid, moment, body),
@@ -279,7 +196,13 @@ fn remove_dir(
         return Ok(nodes);
     };
     let _node = nodes.remove(u32::from(ino));
-    leave_link(&mut nodes, dir, moment, name)?;
+    change(
+        alloc,
+        &mut nodes,
+        dir,
+        Change::LeaveDir { name: *name },
+        moment,
+    )?;
     Ok(nodes)
 }
 
@@ -296,9 +219,8 @@ fn enlink(
     if nlink_in(&tree.nodes, ino) >= LINKS {
         return Err(Stop::Refused(Errno::EMLINK));
     }
-    let mut nodes = tree.nodes.copied(alloc)?;
-    link(&mut nodes, ino, moment)?;
-    enter_name(&mut nodes, dir, moment, name, ino)?;
+    let mut nodes = with_change(alloc, tree, ino, Change::Link, moment)?;
+    change(alloc, &mut nodes, dir, Change::Enter { name, ino }, moment)?;
     fitting(alloc, tree, nodes)
 }
 
@@ -316,7 +238,13 @@ fn delink(
     let Some(ino) = number_in(&tree.nodes, dir, name) else {
         return Ok(nodes);
     };
-    leave_name(&mut nodes, dir, moment, name)?;
+    change(
+        alloc,
+        &mut nodes,
+        dir,
+        Change::Leave { name: *name },
+        moment,
+    )?;
     less_name(&mut nodes, seats, moment, ino)?;
     Ok(nodes)
 }
@@ -391,8 +319,7 @@ fn nodes_after(
             moment,
         } => create(alloc, tree, *dir, *name, *mode, *uid, *gid, *moment, pick),
         FsOp::Empty { ino, moment } => {
-            let mut nodes = tree.nodes.copied(alloc)?;
-            blank(alloc, &mut nodes, *ino, *moment)?;
+            let nodes = with_change(alloc, tree, *ino, Change::Blank, *moment)?;
             Ok(nodes)
         }
         FsOp::MakeDir {
@@ -424,8 +351,7 @@ fn nodes_after(
             moment,
         } => put(alloc, tree, *ino, *offset, bytes.as_slice(), *moment),
         FsOp::SetMode { ino, mode, moment } => {
-            let mut nodes = tree.nodes.copied(alloc)?;
-            change_mode(&mut nodes, *ino, *mode, *moment)?;
+            let nodes = with_change(alloc, tree, *ino, Change::Mode { mode: *mode }, *moment)?;
             Ok(nodes)
         }
         FsOp::SetOwner {
@@ -434,8 +360,11 @@ fn nodes_after(
             gid,
             moment,
         } => {
-            let mut nodes = tree.nodes.copied(alloc)?;
-            change_owner(&mut nodes, *ino, *uid, *gid, *moment)?;
+            let owner = Change::Owner {
+                uid: *uid,
+                gid: *gid,
+            };
+            let nodes = with_change(alloc, tree, *ino, owner, *moment)?;
             Ok(nodes)
         }
         FsOp::SetTimes {
@@ -444,8 +373,11 @@ fn nodes_after(
             mtime,
             moment,
         } => {
-            let mut nodes = tree.nodes.copied(alloc)?;
-            change_times(&mut nodes, *ino, *atime, *mtime, *moment)?;
+            let times = Change::Times {
+                atime: *atime,
+                mtime: *mtime,
+            };
+            let nodes = with_change(alloc, tree, *ino, times, *moment)?;
             Ok(nodes)
         }
         FsOp::Hold { .. } => {
