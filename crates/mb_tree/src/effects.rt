@@ -1,11 +1,11 @@
-ghost use Rattle.std.specs.Prelude.{◌≡◌, ◌<◌, ◌≤◌, ◌+◌, ◌^◌, ◌-◌, ◌&&◌, IfOk, OnOk, length, count_by, nat_eq, Some, None};
+ghost use Rattle.std.specs.Prelude.{◌≡◌, ◌<◌, ◌≤◌, ◌+◌, ◌^◌, ◌-◌, ◌&&◌, IfOk, OnOk, length, count_by, nat_eq, Some, None, Ok};
 ghost use Rattle.std.specs.FinMap as fin;
 ghost use Rattle.mb_tree.specs.Maps.{changed_at};
 ghost use Rattle.mb_tree.specs.Results.{Gives, GivesTree};
 ghost use Rattle.mb_tree.specs.Step.{effect_of};
 ghost use Rattle.mb_tree.specs.Lookup.{number_in};
 ghost use Rattle.mb_tree.specs.Sessions.{counts};
-ghost use Rattle.mb_tree.specs.Changes.{changed_by, HasLinkRoom};
+ghost use Rattle.mb_tree.specs.Changes.{changed_by, HasLinkRoom, fields_after};
 ghost use Rattle.mb_tree.specs.Effect.{wrote, nlink_in, fitting, is_lost, less_name, less_open, release, create, empty, make_dir, remove_dir, enlink, delink, put, set_mode, set_owner, set_times, tree_after};
 
 use crate::changes::{self, Change};
@@ -299,57 +299,15 @@ fn less_open(alloc: Global, tree: &Tree, seats: &[Seat], inos: &[u16]) -> Result
     Ok(nodes)
 }
 
-/// The nodes after an operation.
-fn nodes_after(
-    alloc: Global,
-    tree: &Tree,
-    seats: &[Seat],
-    op: &FsOp,
-    pick: Option<u16>,
-) -> Result<Nodes, Stop>
-    ensures { Gives (λ nodes. record tree.now { nodes = nodes }) result (tree_after tree.now (counts seats.now) op.now pick) }
+/// The nodes after an operation that drops bytes or sets fields of one inode; another one leaves them.
+fn fields_after(alloc: Global, tree: &Tree, op: &FsOp) -> Result<Nodes, Stop>
+    ensures { Gives (λ nodes. record tree.now { nodes = nodes }) result (Ok (fields_after tree.now op.now)) }
 {
     match op {
-        FsOp::Create {
-            dir,
-            name,
-            mode,
-            uid,
-            gid,
-            moment,
-        } => create(alloc, tree, *dir, *name, *mode, *uid, *gid, *moment, pick),
         FsOp::Empty { ino, moment } => {
             let nodes = with_change(alloc, tree, *ino, Change::Blank, *moment)?;
             Ok(nodes)
         }
-        FsOp::MakeDir {
-            dir,
-            name,
-            mode,
-            uid,
-            gid,
-            moment,
-        } => make_dir(alloc, tree, *dir, *name, *mode, *uid, *gid, *moment, pick),
-        FsOp::RemoveDir { dir, name, moment } => {
-            let nodes = remove_dir(alloc, tree, *dir, name, *moment)?;
-            Ok(nodes)
-        }
-        FsOp::Enlink {
-            dir,
-            name,
-            ino,
-            moment,
-        } => enlink(alloc, tree, *dir, *name, *ino, *moment),
-        FsOp::Delink { dir, name, moment } => {
-            let nodes = delink(alloc, tree, seats, *dir, name, *moment)?;
-            Ok(nodes)
-        }
-        FsOp::Put {
-            ino,
-            offset,
-            bytes,
-            moment,
-        } => put(alloc, tree, *ino, *offset, bytes.as_slice(), *moment),
         FsOp::SetMode { ino, mode, moment } => {
             let nodes = with_change(alloc, tree, *ino, Change::Mode { mode: *mode }, *moment)?;
             Ok(nodes)
@@ -380,10 +338,65 @@ fn nodes_after(
             let nodes = with_change(alloc, tree, *ino, times, *moment)?;
             Ok(nodes)
         }
-        FsOp::Hold { .. } => {
+        _ => {
             let nodes = tree.nodes.copied(alloc)?;
             Ok(nodes)
         }
+    }
+}
+
+/// The nodes after an operation.
+fn nodes_after(
+    alloc: Global,
+    tree: &Tree,
+    seats: &[Seat],
+    op: &FsOp,
+    pick: Option<u16>,
+) -> Result<Nodes, Stop>
+    ensures { Gives (λ nodes. record tree.now { nodes = nodes }) result (tree_after tree.now (counts seats.now) op.now pick) }
+{
+    match op {
+        FsOp::Create {
+            dir,
+            name,
+            mode,
+            uid,
+            gid,
+            moment,
+        } => create(alloc, tree, *dir, *name, *mode, *uid, *gid, *moment, pick),
+        FsOp::Empty { .. } => fields_after(alloc, tree, op),
+        FsOp::MakeDir {
+            dir,
+            name,
+            mode,
+            uid,
+            gid,
+            moment,
+        } => make_dir(alloc, tree, *dir, *name, *mode, *uid, *gid, *moment, pick),
+        FsOp::RemoveDir { dir, name, moment } => {
+            let nodes = remove_dir(alloc, tree, *dir, name, *moment)?;
+            Ok(nodes)
+        }
+        FsOp::Enlink {
+            dir,
+            name,
+            ino,
+            moment,
+        } => enlink(alloc, tree, *dir, *name, *ino, *moment),
+        FsOp::Delink { dir, name, moment } => {
+            let nodes = delink(alloc, tree, seats, *dir, name, *moment)?;
+            Ok(nodes)
+        }
+        FsOp::Put {
+            ino,
+            offset,
+            bytes,
+            moment,
+        } => put(alloc, tree, *ino, *offset, bytes.as_slice(), *moment),
+        FsOp::SetMode { .. } => fields_after(alloc, tree, op),
+        FsOp::SetOwner { .. } => fields_after(alloc, tree, op),
+        FsOp::SetTimes { .. } => fields_after(alloc, tree, op),
+        FsOp::Hold { .. } => fields_after(alloc, tree, op),
         FsOp::Release { inos } => {
             let nodes = less_open(alloc, tree, seats, inos.as_slice())?;
             Ok(nodes)
