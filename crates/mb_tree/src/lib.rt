@@ -52,52 +52,138 @@ mod valid_laws;
 mod volume_laws;
 
 pub use calls::call_allowed;
-pub use changes::{DOT, DOT_DOT};
-pub use decisions::{
-    access_found, bits_of, chdir_found, chmod_found, chown_found, creat_found, creat_under,
-    descriptor, is_current, is_dots, is_owner, link_under, lseek_from, masked, mkdir_under, need,
-    offset_from, open_file, open_found, read_found, stat_found, stored, unlink_found, utime_found,
-};
-pub use file_rows::{close_row, dup_row, exit_row, write_row};
-pub use history_laws::{
-    callers_stay, carried_out_appends, carried_out_goes_on, carried_out_once, carried_out_splits,
-    few_opens, history_carries_out, history_finds_few_opens, nothing_to_sweep, operations_append,
-    sweep_is_release, worked_operations,
-};
-pub use inodes::{is_directory, is_regular, is_special, is_used, may};
-pub use laws::{
-    after_appends, bytes_or_attributes_kept, cost_kept, drop_kept, legal_appends, legal_grows,
-    legal_splits, refused_stays, release_kept, served_by_effect, session_kept,
-    slots_and_links_kept,
-};
-pub use local_laws::{acted_alike, free_of_counts, place_known, planned_alike};
-pub use lookups::{Placed, components, number_of, start_of};
+pub use changes::DOT;
+pub use changes::DOT_DOT;
+pub use decisions::access_found;
+pub use decisions::bits_of;
+pub use decisions::chdir_found;
+pub use decisions::chmod_found;
+pub use decisions::chown_found;
+pub use decisions::creat_found;
+pub use decisions::creat_under;
+pub use decisions::descriptor;
+pub use decisions::is_current;
+pub use decisions::is_dots;
+pub use decisions::is_owner;
+pub use decisions::link_under;
+pub use decisions::lseek_from;
+pub use decisions::masked;
+pub use decisions::mkdir_under;
+pub use decisions::need;
+pub use decisions::offset_from;
+pub use decisions::open_file;
+pub use decisions::open_found;
+pub use decisions::read_found;
+pub use decisions::stat_found;
+pub use decisions::stored;
+pub use decisions::unlink_found;
+pub use decisions::utime_found;
+pub use file_rows::close_row;
+pub use file_rows::dup_row;
+pub use file_rows::exit_row;
+pub use file_rows::write_row;
+pub use history_laws::callers_stay;
+pub use history_laws::carried_out_appends;
+pub use history_laws::carried_out_goes_on;
+pub use history_laws::carried_out_once;
+pub use history_laws::carried_out_splits;
+pub use history_laws::few_opens;
+pub use history_laws::history_carries_out;
+pub use history_laws::history_finds_few_opens;
+pub use history_laws::nothing_to_sweep;
+pub use history_laws::operations_append;
+pub use history_laws::sweep_is_release;
+pub use history_laws::worked_operations;
+pub use inodes::is_directory;
+pub use inodes::is_regular;
+pub use inodes::is_special;
+pub use inodes::is_used;
+pub use inodes::may;
+pub use laws::after_appends;
+pub use laws::bytes_or_attributes_kept;
+pub use laws::cost_kept;
+pub use laws::drop_kept;
+pub use laws::legal_appends;
+pub use laws::legal_grows;
+pub use laws::legal_splits;
+pub use laws::refused_stays;
+pub use laws::release_kept;
+pub use laws::served_by_effect;
+pub use laws::session_kept;
+pub use laws::slots_and_links_kept;
+pub use local_laws::acted_alike;
+pub use local_laws::free_of_counts;
+pub use local_laws::place_known;
+pub use local_laws::planned_alike;
+pub use lookups::Placed;
+pub use lookups::components;
+pub use lookups::number_of;
+pub use lookups::start_of;
 pub use machines::Machine;
-pub use maps::{Copied, Map};
-pub use name_laws::{
-    create_kept, delink_kept, enlink_kept, make_dir_kept, operation_kept, remove_dir_kept,
-};
-pub use nodes::{Body, Node, Nodes, Parts, PlainSlot, PlainSlots};
-pub use operations::{FsOp, Inos};
-pub use part_laws::{
-    parts_after_put, parts_stand_after_put, parts_stay_whole, put_splits, put_within_part,
-    worked_parts,
-};
-pub use pick_laws::{
-    adds_none, adds_one, effect_unpicked, lawful_made, lawful_refused, lawful_unmade,
-    lawful_unplanned, makes_by_number, plan_repicked, refusal_repicked, refused_alike,
-    refused_unpicked, refused_with_all, unpicked_fits,
-};
-pub use plans::{CallPlan, acting, answered, both, changing};
-pub use seats::{PlainFile, Seat, Seats, SessionChange, change_session, reads, writes};
-pub use session_laws::{
-    bytes_or_attributes_valid, counts_follow, operations_fit, release_valid, valid_kept,
-    valid_stays,
-};
-pub use stops::{NoMemory, Stop};
-pub use tables::{Fds, Files};
+pub use maps::Copied;
+pub use maps::Map;
+pub use name_laws::create_kept;
+pub use name_laws::delink_kept;
+pub use name_laws::enlink_kept;
+pub use name_laws::make_dir_kept;
+pub use name_laws::operation_kept;
+pub use name_laws::remove_dir_kept;
+pub use nodes::Body;
+pub use nodes::Node;
+pub use nodes::Nodes;
+pub use nodes::Parts;
+pub use nodes::PlainSlot;
+pub use nodes::PlainSlots;
+pub use operations::FsOp;
+pub use operations::Inos;
+pub use part_laws::parts_after_put;
+pub use part_laws::parts_stand_after_put;
+pub use part_laws::parts_stay_whole;
+pub use part_laws::put_splits;
+pub use part_laws::put_within_part;
+pub use part_laws::worked_parts;
+pub use pick_laws::adds_none;
+pub use pick_laws::adds_one;
+pub use pick_laws::effect_unpicked;
+pub use pick_laws::lawful_made;
+pub use pick_laws::lawful_refused;
+pub use pick_laws::lawful_unmade;
+pub use pick_laws::lawful_unplanned;
+pub use pick_laws::makes_by_number;
+pub use pick_laws::plan_repicked;
+pub use pick_laws::refusal_repicked;
+pub use pick_laws::refused_alike;
+pub use pick_laws::refused_unpicked;
+pub use pick_laws::refused_with_all;
+pub use pick_laws::unpicked_fits;
+pub use plans::CallPlan;
+pub use plans::acting;
+pub use plans::answered;
+pub use plans::both;
+pub use plans::changing;
+pub use seats::PlainFile;
+pub use seats::Seat;
+pub use seats::Seats;
+pub use seats::SessionChange;
+pub use seats::change_session;
+pub use seats::reads;
+pub use seats::writes;
+pub use session_laws::bytes_or_attributes_valid;
+pub use session_laws::counts_follow;
+pub use session_laws::operations_fit;
+pub use session_laws::release_valid;
+pub use session_laws::valid_kept;
+pub use session_laws::valid_stays;
+pub use stops::NoMemory;
+pub use stops::Stop;
+pub use tables::Fds;
+pub use tables::Files;
 pub use trees::Tree;
-pub use valid_laws::{history_valid, one_tree, opening_valid};
-pub use volume_laws::{
-    kept_composes, kept_resized, kept_same, volume_by_its_blocks, volume_resized,
-};
+pub use valid_laws::history_valid;
+pub use valid_laws::one_tree;
+pub use valid_laws::opening_valid;
+pub use volume_laws::kept_composes;
+pub use volume_laws::kept_resized;
+pub use volume_laws::kept_same;
+pub use volume_laws::volume_by_its_blocks;
+pub use volume_laws::volume_resized;
