@@ -1,4 +1,5 @@
 pub mod CacheWrites
+pub mod CostGrows
 pub mod Erasing
 pub mod Filling
 pub mod FreshTrees

@@ -1,4 +1,4 @@
-ghost use Rattle.mb_nodes.specs.Laws.{StoredOf, VolumeOf, FieldsSet, PartPut, HoleFilled, FillRefused, DirectoryGrown, FileMade, DirectoryMade, Cleared, Erased, SizeSet, SlotSet, CacheWritten, SlotBytesSet, SlotsJoin, FreshIsVolume};
+ghost use Rattle.mb_nodes.specs.Laws.{StoredOf, VolumeOf, FieldsSet, PartPut, HoleFilled, FillRefused, DirectoryGrown, FileMade, DirectoryMade, Cleared, Erased, SizeSet, SlotSet, CacheWritten, SlotBytesSet, SlotsJoin, FreshIsVolume, WantedRefused};
 
 /// A volume stores its tree, and a stored tree that is sound is a volume.
 pub fn volume_is_stored()
@@ -20,6 +20,7 @@ pub fn part_put()
 pub fn hole_filled()
     ensures filled { HoleFilled }
     ensures refused { FillRefused }
+    ensures wanted { WantedRefused }
 {}
 
 /// A directory grows by slots.
