@@ -4,6 +4,7 @@ pub mod Erasing
 pub mod Filling
 pub mod FreshTrees
 pub mod FreshVolumes
+pub mod GrowRefused
 pub mod GrownDirectories
 pub mod KeptFrom
 pub mod Making

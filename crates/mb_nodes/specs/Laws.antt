@@ -150,3 +150,16 @@ WantedRefused = (image : Image) (tree : Tree) (chain : List ℕ) → IsStored im
     → (wanted : Node) (other : ℕ) (more : Numbered (List ℕ)) → wanted.body ≡ Regular other more → is_some (fin.get more part) ≡ true
     → ((k : ℕ) → is_some (fin.get parts k) ≡ true → is_some (fin.get more k) ≡ true)
     → fitting tree (fin.insert tree.nodes ino wanted) ≡ Err ENOSPC
+
+-- where the part for a directory's new slots cannot be made for want of blocks, the directory with them is refused
+abbrev pub GrowRefused : Type 0
+GrowRefused = (image : Image) (tree : Tree) (chain : List ℕ) → IsStored image tree chain → (ino : ℕ) (node : Node) → fin.get tree.nodes ino ≡ Some node
+    → (slots more : List PlainSlot) → node.body ≡ Directory slots → 0 < length more → length slots % 32 + length more ≤ 32
+    → length chain < missing (pointers image.at) (place_of ino (length slots / 32))
+    → (wanted : Node) → wanted.body ≡ Directory (slots ++ more) → fitting tree (fin.insert tree.nodes ino wanted) ≡ Err ENOSPC
+
+-- where no block is free, a new directory is refused
+abbrev pub MakeRefused : Type 0
+MakeRefused = (image : Image) (tree : Tree) (chain : List ℕ) → IsStored image tree chain → (ino : ℕ) → (1 ≤ ino) × (ino ≤ tree.last) → fin.get tree.nodes ino ≡ None
+    → chain ≡ [] → (wanted : Node) (slots : List PlainSlot) → wanted.body ≡ Directory slots → 0 < length slots
+    → fitting tree (fin.insert tree.nodes ino wanted) ≡ Err ENOSPC
