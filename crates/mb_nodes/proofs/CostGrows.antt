@@ -21,7 +21,7 @@ use Rattle.mb_tree.proofs.Sums.{sum_but}
 use Rattle.mb_blocks.specs.Growing.{missing}
 use Rattle.mb_blocks.specs.Laid.{AreOnce}
 use Rattle.mb_blocks.proofs.Groupings.{keys_once}
-use Rattle.mb_blocks.proofs.Keys.{index_grows, key_in, keys_more}
+use Rattle.mb_blocks.proofs.Keys.{index_grows, key_in}
 use Rattle.mb_blocks.proofs.Shares.{is_in, touched_same}
 use Rattle.mb_nodes.specs.Stored.{IsStored, with_node}
 use Rattle.mb_nodes.proofs.Filling.{refused}

@@ -1,5 +1,5 @@
 -- Worked examples of a fresh volume: 8 blocks, of which block 2 has the inodes.
-use Rattle.std.specs.Prelude.{List, [], ◌∷◌, ℕ, ◌-◌, ◌+◌, ◌≡◌}
+use Rattle.std.specs.Prelude.{[], ◌∷◌, ◌-◌, ◌+◌, ◌≡◌}
 use Rattle.mb_nodes.specs.Fresh.{falling, fresh_tree}
 
 -- blocks 7 to 4 are put back, the tree has inodes 1 to 8, and its files may have 5 blocks, the root's among them
