@@ -1,7 +1,7 @@
 -- An inode's 64 bytes written.
 use Rattle.std.proofs.Common.{ℕ, ◌≡◌, ◌≢◌, inl, inr, ◌+◌, ◌*◌, ◌<◌, ◌≤◌, List, length, slice_index, sym, ap, subst, ◌∙◌, arith}
 use Rattle.std.proofs.lemmas.Bool.{cases_eq, cases_lt}
-use Rattle.mb_word.specs.Fields.{inode_block, inode_place, address_of, area_of}
+use Rattle.mb_word.specs.Fields.{inode_block, inode_place}
 use Rattle.mb_word.specs.Numbers.{SameFrom}
 use Rattle.mb_word.proofs.Parts.{get_or-part}
 use Rattle.mb_word.proofs.Writes.{length-put_at, put_at_same}

@@ -1,15 +1,16 @@
 -- Laid blocks keep rules 2 to 4.
 use Rattle.std.proofs.Common.{ℕ, zero, suc, ◌≡◌, ◌≢◌, ◌↔◌, ◌⊎◌, inl, inr, ◌-◌, ◌<◌, ◌≤◌, Bool, true, false, cond, nat_eq, List, [], ◌∷◌, All, refl, sym, ap, subst, ◌∙◌, arith}
+use Rattle.std.specs.List.{Contains}
 use Rattle.std.proofs.lemmas.Bool.{cases_eq}
 use Rattle.std.proofs.lemmas.Bool.Decides.{nat_tests}
 use Rattle.std.proofs.lemmas.List.Elements.{All-head, All-tail}
 use Rattle.mb_word.specs.Fields.{isize_of, fsize_of, ninode_of}
 use Rattle.mb_tree.specs.Blocks.{first_list, list_in}
-use Rattle.mb_tree.specs.Chain.{Listed, after_taking, IsChain}
+use Rattle.mb_tree.specs.Chain.{Listed, after_taking, IsChain, IsNext}
 use Rattle.mb_tree.specs.Volume.{IsOpenToFiles}
 use Rattle.mb_blocks.specs.Laid.{IsLaid}
 use Rattle.mb_blocks.proofs.Listing.{chain_few}
-use Rattle.mb_blocks.proofs.Rearranged.{all_right}
+use Rattle.mb_blocks.proofs.Rearranged.{all_right, own}
 use Rattle.mb_blocks.specs.Rules.{nth_list, LeadsTo, KeepsRules, IsOut}
 
 -- a list from which a chain is taken whose blocks are open to files
@@ -85,3 +86,16 @@ out_at_end has blocks loose chain laid = (λ out. at_end chain laid.free out, λ
     end_out [] (inl none) e = inl none
     end_out [] (inr last) e = inr (ap (λ n. (first_list blocks).entry (n - 1)) last.0 ∙ last.1)
     end_out (x ∷ xs) free e = cc
+
+-- the next block that is taken is the chain's first
+pub next_in_chain : (has : ℕ → Bool) (blocks : ℕ → List ℕ) (loose chain : List ℕ) (block : ℕ) → IsLaid has blocks loose chain → IsNext (first_list blocks) block → Contains chain block
+next_in_chain has blocks loose chain block laid next = among chain laid.free
+  where
+    among : (xs : List ℕ) → IsChain (list_in blocks) (first_list blocks) xs → Contains xs block
+    among [] (inl none) = absurd (let some = next.some in omega (arith, some, none))
+    among [] (inr last) =
+        (let here = next.here in
+        let real = next.real in
+        let e : (first_list blocks).entry ((first_list blocks).count - 1) ≡ (first_list blocks).entry 0 = ap (λ n. (first_list blocks).entry (n - 1)) last.0 in
+        absurd (omega (arith, real, sym here ∙ e ∙ last.1)))
+    among (x ∷ xs) free = subst (Contains (x ∷ xs)) (sym free.0.here ∙ next.here) (own x xs)

@@ -7,6 +7,7 @@ use Rattle.mb_word.specs.Numbers.{put_at, long_bytes, addr_bytes}
 use Rattle.mb_layout.specs.Inode.{dinode_at, address_in}
 use Rattle.mb_layout.specs.declared.dinodes.Dinode.{Dinode}
 use Rattle.mb_tree.specs.Blocks.{pointers, first_list, IsFreeChain}
+use Rattle.mb_tree.specs.Chain.{IsNext}
 use Rattle.mb_tree.specs.Cost.{most_parts, index_blocks}
 use Rattle.mb_tree.specs.Places.{Place, Pointers, at, level, IsPlace, place_of}
 use Rattle.mb_tree.specs.declared.nodes.Node.{Node}
@@ -134,3 +135,8 @@ InodeBytes = (old new : ℕ → List ℕ) (ino : ℕ) (d : Dinode) → 0 < ino �
 abbrev pub InodeFields : Type 0
 InodeFields = (old new : ℕ → List ℕ) (ino : ℕ) (d : Dinode) (node : Node) → 0 < ino → length (old (inode_block ino)) ≡ 512 → IsDinodeWritten old new ino d
     → HasValues d node → HasFields new ino node
+
+-- the block that is taken next is in the chain
+abbrev pub NextInChain : Type 0
+NextInChain = (has : ℕ → Bool) (blocks : ℕ → List ℕ) (loose chain : List ℕ) (block : ℕ) → IsLaid has blocks loose chain → IsNext (first_list blocks) block
+    → Contains chain block

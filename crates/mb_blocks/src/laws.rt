@@ -1,4 +1,4 @@
-ghost use Rattle.mb_blocks.specs.Laws.{Taken, Written, Rewritten, Hung, Freed, LetGo, Joined, LaidForFewer, Dropped, WayMade, WayMadeForFewer, WalkEnumerates, CostEnumerated, CostMissing, LaidKeepsRules, OutAtEnd, EntryBytes, TopBytes, InodeBytes, InodeFields};
+ghost use Rattle.mb_blocks.specs.Laws.{Taken, Written, Rewritten, Hung, Freed, LetGo, Joined, LaidForFewer, Dropped, WayMade, WayMadeForFewer, WalkEnumerates, CostEnumerated, CostMissing, LaidKeepsRules, OutAtEnd, NextInChain, EntryBytes, TopBytes, InodeBytes, InodeFields};
 ghost use Rattle.mb_blocks.specs.Worked.{PutBack, FreshChain, SmallFile};
 
 /// A block that is taken was the free chain's first, and is in hand then.
@@ -67,6 +67,11 @@ pub fn keeps_rules()
 /// No block can be taken where the free chain is at its end, and there alone.
 pub fn out_at_end()
     ensures { OutAtEnd }
+{}
+
+/// The block that is taken next is in the free chain.
+pub fn next_in_chain()
+    ensures { NextInChain }
 {}
 
 /// The bytes of an address, written in an index block or in an inode, set it.

@@ -16,5 +16,5 @@ mod laws;
 
 pub use laws::{
     address_bytes, costs, dropped, freed, hung, inode_bytes, joined, keeps_rules, laid_for_fewer,
-    let_go, out_at_end, taken, walk_enumerates, way_made, worked_numbers, written,
+    let_go, next_in_chain, out_at_end, taken, walk_enumerates, way_made, worked_numbers, written,
 };

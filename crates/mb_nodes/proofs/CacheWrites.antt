@@ -1,5 +1,5 @@
 -- The cache of free inode numbers written: the tree and all blocks that are held or free stay.
-use Rattle.std.proofs.Common.{ℕ, ◌≡◌, inl, inr, ◌+◌, ◌-◌, ◌*◌, ◌<◌, ◌≤◌, true, List, [], length, slice_index, refl, sym, ap, subst, ◌∙◌, arith}
+use Rattle.std.proofs.Common.{ℕ, ◌≡◌, inl, inr, ◌+◌, ◌-◌, ◌*◌, ◌<◌, ◌≤◌, List, [], length, slice_index, sym, ap, subst, ◌∙◌, arith}
 use Rattle.std.specs.FinMap as fin
 use Rattle.std.proofs.lemmas.Bool.{cases_eq}
 use Rattle.std.proofs.lemmas.List.Elements.{All-weaker}
@@ -9,12 +9,11 @@ use Rattle.mb_word.specs.Numbers.{SameFrom}
 use Rattle.mb_word.proofs.Values.{word_at-same, long_at-same}
 use Rattle.mb_tree.specs.Blocks.{pointers, first_list, list_in, IsFreeChain}
 use Rattle.mb_tree.specs.Places.{at}
-use Rattle.mb_tree.specs.Views.{Kept}
-use Rattle.mb_tree.specs.Volume.{HasInode, IsOpenToFiles, has_addresses}
+use Rattle.mb_tree.specs.Volume.{IsOpenToFiles, has_addresses}
 use Rattle.mb_tree.specs.declared.trees.Tree.{Tree}
 use Rattle.mb_blocks.specs.Conserved.{Conserves}
 use Rattle.mb_blocks.specs.FreeLists.{IsSameList}
-use Rattle.mb_blocks.specs.Laid.{IndexesLeadOn, IsLaid}
+use Rattle.mb_blocks.specs.Laid.{IsLaid}
 use Rattle.mb_blocks.specs.Pointing.{KeepsHeld}
 use Rattle.mb_blocks.proofs.Conserving.{conserved_by}
 use Rattle.mb_blocks.proofs.Freeing.{same_list}

@@ -1,8 +1,10 @@
 pub mod CacheWrites
+pub mod CostGrows
 pub mod Erasing
 pub mod Filling
 pub mod FreshTrees
 pub mod FreshVolumes
+pub mod GrowRefused
 pub mod GrownDirectories
 pub mod KeptFrom
 pub mod Making

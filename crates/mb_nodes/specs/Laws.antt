@@ -1,15 +1,17 @@
 -- The laws of the steps of operations, each the contract of a function without a body. From blocks that store a tree
 -- they lead to blocks that store the next one and keep what a volume keeps (Follows). The premises are the relations
 -- of blocks that the contracts of code promise, in the order of the writes.
-use Rattle.std.specs.Prelude.{List, ◌++◌, ℕ, ◌+◌, ◌*◌, ◌/◌, ◌%◌, ◌<◌, ◌≤◌, ◌≡◌, ◌≢◌, Some, None, length, slice_set, ◌∷◌, []}
+use Rattle.std.specs.Prelude.{List, ◌++◌, ℕ, ◌+◌, ◌*◌, ◌/◌, ◌%◌, ◌<◌, ◌≤◌, ◌≡◌, ◌≢◌, Some, None, length, slice_set, ◌∷◌, [], is_some, true, Err}
 use Rattle.std.specs.FinMap as fin
 use Rattle.mb_kinds.specs.Image.{Image, zeros}
+use Rattle.mb_kinds.specs.declared.errors.Errno.TheVariants.{ENOSPC}
 use Rattle.mb_word.specs.Fields.{inode_block, inode_place, mode_of, size_of}
 use Rattle.mb_word.specs.Numbers.{put_at}
 use Rattle.mb_layout.specs.SlotEntry.{FitsSlot, slot_bytes}
 use Rattle.mb_layout.specs.declared.slots.Slot.{Slot}
 use Rattle.mb_tree.specs.Blocks.{pointers, part_address}
 use Rattle.mb_tree.specs.Cost.{cost, most_parts}
+use Rattle.mb_tree.specs.Effect.{fitting}
 use Rattle.mb_tree.specs.Maps.{Numbered}
 use Rattle.mb_tree.specs.Places.{place_of}
 use Rattle.mb_tree.specs.Trees.{IsSound}
@@ -138,3 +140,26 @@ SlotsJoin = ((old new : ℕ → List ℕ) (block place : ℕ) (slot : PlainSlot)
 -- a fresh image is a volume of the fresh tree
 abbrev pub FreshIsVolume : Type 0
 FreshIsVolume = (image : Image) (isize fsize : ℕ) → IsFresh image isize fsize → IsVolume image (fresh_tree isize fsize)
+
+-- where a hole of a file cannot be filled for want of blocks, any file with that part and the parts that are there
+-- costs more than the volume has: what an operation wanted is refused, whichever of its holes is the first
+abbrev pub WantedRefused : Type 0
+WantedRefused = (image : Image) (tree : Tree) (chain : List ℕ) → IsStored image tree chain → (ino : ℕ) (node : Node) → fin.get tree.nodes ino ≡ Some node
+    → (size : ℕ) (parts : Numbered (List ℕ)) (part : ℕ) → node.body ≡ Regular size parts → fin.get parts part ≡ None → part < most_parts
+    → length chain < missing (pointers image.at) (place_of ino part)
+    → (wanted : Node) (other : ℕ) (more : Numbered (List ℕ)) → wanted.body ≡ Regular other more → is_some (fin.get more part) ≡ true
+    → ((k : ℕ) → is_some (fin.get parts k) ≡ true → is_some (fin.get more k) ≡ true)
+    → fitting tree (fin.insert tree.nodes ino wanted) ≡ Err ENOSPC
+
+-- where the part for a directory's new slots cannot be made for want of blocks, the directory with them is refused
+abbrev pub GrowRefused : Type 0
+GrowRefused = (image : Image) (tree : Tree) (chain : List ℕ) → IsStored image tree chain → (ino : ℕ) (node : Node) → fin.get tree.nodes ino ≡ Some node
+    → (slots more : List PlainSlot) → node.body ≡ Directory slots → 0 < length more → length slots % 32 + length more ≤ 32
+    → length chain < missing (pointers image.at) (place_of ino (length slots / 32))
+    → (wanted : Node) → wanted.body ≡ Directory (slots ++ more) → fitting tree (fin.insert tree.nodes ino wanted) ≡ Err ENOSPC
+
+-- where no block is free, a new directory is refused
+abbrev pub MakeRefused : Type 0
+MakeRefused = (image : Image) (tree : Tree) (chain : List ℕ) → IsStored image tree chain → (ino : ℕ) → (1 ≤ ino) × (ino ≤ tree.last) → fin.get tree.nodes ino ≡ None
+    → chain ≡ [] → (wanted : Node) (slots : List PlainSlot) → wanted.body ≡ Directory slots → 0 < length slots
+    → fitting tree (fin.insert tree.nodes ino wanted) ≡ Err ENOSPC

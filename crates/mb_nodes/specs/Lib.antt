@@ -3,3 +3,4 @@ pub mod Fresh
 pub mod Laws
 pub mod Stored
 pub mod Underway
+pub mod Worked

@@ -1,4 +1,5 @@
-ghost use Rattle.mb_nodes.specs.Laws.{StoredOf, VolumeOf, FieldsSet, PartPut, HoleFilled, FillRefused, DirectoryGrown, FileMade, DirectoryMade, Cleared, Erased, SizeSet, SlotSet, CacheWritten, SlotBytesSet, SlotsJoin, FreshIsVolume};
+ghost use Rattle.mb_nodes.specs.Laws.{StoredOf, VolumeOf, FieldsSet, PartPut, HoleFilled, FillRefused, DirectoryGrown, FileMade, DirectoryMade, Cleared, Erased, SizeSet, SlotSet, CacheWritten, SlotBytesSet, SlotsJoin, FreshIsVolume, WantedRefused, GrowRefused, MakeRefused};
+ghost use Rattle.mb_nodes.specs.Worked.{SmallVolume};
 
 /// A volume stores its tree, and a stored tree that is sound is a volume.
 pub fn volume_is_stored()
@@ -20,6 +21,7 @@ pub fn part_put()
 pub fn hole_filled()
     ensures filled { HoleFilled }
     ensures refused { FillRefused }
+    ensures wanted { WantedRefused }
 {}
 
 /// A directory grows by slots.
@@ -71,4 +73,15 @@ pub fn slot_bytes()
 /// A fresh image is a volume of the fresh tree.
 pub fn fresh_is_volume()
     ensures { FreshIsVolume }
+{}
+
+/// A directory that cannot grow or be made for want of blocks is refused with ENOSPC.
+pub fn directory_refused()
+    ensures grown { GrowRefused }
+    ensures made { MakeRefused }
+{}
+
+/// The free blocks, the inodes and the capacity of a fresh volume of 8 blocks.
+pub fn worked_numbers()
+    ensures { SmallVolume }
 {}

@@ -13,6 +13,7 @@
 mod laws;
 
 pub use laws::{
-    cache_written, cleared, directory_grown, directory_made, erased, fields_set, file_made,
-    fresh_is_volume, hole_filled, part_put, size_set, slot_bytes, slot_set, volume_is_stored,
+    cache_written, cleared, directory_grown, directory_made, directory_refused, erased, fields_set,
+    file_made, fresh_is_volume, hole_filled, part_put, size_set, slot_bytes, slot_set,
+    volume_is_stored, worked_numbers,
 };
