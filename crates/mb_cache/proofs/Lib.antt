@@ -1,0 +1,6 @@
+pub mod Flushing
+pub mod Layers
+pub mod Looks
+pub mod PageLoops
+pub mod Raising
+pub mod Strokes

@@ -1,0 +1,4 @@
+pub mod CacheLaws
+pub mod Pages
+pub mod Stamps
+pub mod State

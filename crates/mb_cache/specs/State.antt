@@ -1,0 +1,64 @@
+-- What contracts see of a cache, and what is read through it.
+use Rattle.std.specs.Prelude.{List, [], ◌∷◌, ◌++◌, ℕ, ◌≡◌, ◌≤◌, ⊤, Option, None, Some, option_map, Result, Ok, Err, IfErr}
+use Rattle.mb_kinds.specs.Image.{Image}
+use Rattle.mb_edge.specs.Blocks.{WritesBlock}
+use Rattle.mb_edge.specs.Causes.{HasCause, Rose}
+use Rattle.mb_edge.specs.declared.faults.Failed.{Failed}
+use Rattle.mb_cache.specs.Pages.{PageList, under}
+use Rattle.mb_cache.specs.Stamps.{Stamps}
+use Rattle.mb_cache.specs.declared.answers.Flushed.{Flushed}
+use Rattle.mb_cache.specs.declared.answers.Flushed.TheVariants as flushed
+use Rattle.mb_cache.specs.declared.answers.ReadFault.{ReadFault}
+use Rattle.mb_cache.specs.declared.answers.ReadFault.TheVariants as fault
+
+-- what is taken without memory: so many changed blocks, and so many pins
+pub record CacheRoom : Type 0 where
+  pub pages : ℕ
+  pub pins : ℕ
+
+-- the disk, the checkpointed pages that wait to be written back, the pages of the current epoch, how often each block
+-- was installed, and how many calls in flight pin it
+pub record CacheState (D : Type 0) : Type 0 where
+  pub disk : D
+  pub sealed : PageList
+  pub current : PageList
+  pub stamps : Stamps
+  pub pins : Stamps
+  pub room : CacheRoom
+
+-- what is seen: the disk under the checkpointed and the current pages
+abbrev pub seen : {D : Type 0} → (D → Option Image) → CacheState D → Option Image
+seen told cache = option_map (λ image. under (under image cache.sealed) cache.current) (told cache.disk)
+
+-- a read blames the device only where its count of faults rose
+abbrev pub IsBlamed : ℕ → ℕ → ReadFault → Type 0
+IsBlamed before now fault.Device = Rose before now
+IsBlamed before now fault.NoMemory = Unit {0}
+
+-- the count of faults never falls, and a fault has its cause in it
+pub record ReadHasCause {T : Type 0} (before now : ℕ) (result : Result T ReadFault) : Type 0 where
+  pub later : before ≤ now
+  pub failed : IfErr result (IsBlamed before now)
+
+-- under its pages the image that a disk tells now reads as the one that it told before under the pages of then
+abbrev pub ReadsAlike : Option Image → PageList → Option Image → PageList → Type 0
+ReadsAlike None pages after left = ⊤
+ReadsAlike (Some was) pages None left = ⊥
+ReadsAlike (Some was) pages (Some image) left = under image left ≡ under was pages
+
+-- a write of one checkpointed page: which page it is, which stand before and behind it, and what the disk then holds
+pub record WritesPage {D : Type 0} (told : D → Option Image) (faults : D → ℕ) (old new : CacheState D) (result : Result (Unit {0}) Failed) : Type 0 where
+  pub before : PageList
+  pub page : ℕ × List ℕ
+  pub behind : PageList
+  pub waits : old.sealed ≡ before ++ (page ∷ behind)
+  pub written : WritesBlock (told old.disk) (told new.disk) result page.0 page.1
+  pub cause : HasCause (faults old.disk) (faults new.disk) result
+  pub alike : ReadsAlike (told old.disk) old.sealed (told new.disk) new.sealed
+
+-- no checkpointed page waits; one was written and no longer waits; or the write failed, and the page waits on
+abbrev pub Flushes : {D : Type 0} → (D → Option Image) → (D → ℕ) → CacheState D → CacheState D → Flushed → Type 0
+Flushes told faults old new flushed.Clean = (old.sealed ≡ []) × (new ≡ old)
+Flushes told faults old new flushed.One =
+    (back : WritesPage told faults old new (Ok tt)) × (new ≡ record old { disk = new.disk; sealed = back.before ++ back.behind; room = new.room })
+Flushes told faults old new flushed.Device = WritesPage told faults old new (Err record {}) × (new ≡ record old { disk = new.disk }) × Rose (faults old.disk) (faults new.disk)

@@ -1,0 +1,251 @@
+ghost use Rattle.std.specs.Prelude.{◌≡◌, ◌≤◌, ◌<◌, ◌+◌, ◌-◌, [], ℕ, Ok, Err, cond, nat_eq, length, OnOk, OnErr, IfOk, IfSome, IsOk};
+ghost use Rattle.mb_edge.specs.Causes.{HasCause};
+ghost use Rattle.mb_kinds.specs.Image.{Image};
+ghost use Rattle.mb_cache.specs.Pages.{under, installed, page_stroke, pages_damaged};
+ghost use Rattle.mb_cache.specs.Stamps.{stamp_of, raised_by};
+ghost use Rattle.mb_cache.specs.State.{seen, Flushes, ReadHasCause};
+
+use crate::answers::{Flushed, ReadFault};
+use crate::page_maps::PageMap;
+use crate::pins::PinMap;
+use crate::stamps::StampMap;
+use mb_edge::{Damage, Disk, Failed, NoMemory, Stroke};
+use mb_iface::Changes;
+use std::alloc::Global;
+use std::marker::Model;
+
+/// A disk under its checkpointed pages, which wait to be written back, and its current pages, those of the present
+/// epoch, with how often each block was installed and how many calls in flight pin it. A contract sees those parts,
+/// and the room: how many changed blocks and how many pins are taken without memory. The room for a changed block
+/// serves for its install and for the checkpoint after it.
+pub struct Cache<D: Disk> {
+    disk: D,
+    sealed: PageMap,
+    current: PageMap,
+    stamps: StampMap,
+    pins: PinMap,
+}
+
+impl<D: Disk> Model for Cache<D> {
+    ghost use Rattle.std.specs.Coded.{codes, coded_ℕ};
+    ghost use Rattle.std.specs.Prelude.{length, min, ◌-◌, ◌≤◌};
+    ghost use Rattle.mb_cache.specs.State.{CacheState};
+
+    ghost Value = { CacheState D };
+
+    ghost view = { λ c. record {
+      disk = c.disk;
+      sealed = c.sealed.items;
+      current = c.current.items;
+      stamps = c.stamps.items;
+      pins = c.pins.items;
+      room = record { pages = min (min c.current.spare c.stamps.spare) (c.sealed.spare - length c.current.items); pins = c.pins.spare };
+    } };
+
+    ghost invariant = { λ c. length c.current.items ≤ c.sealed.spare };
+}
+
+impl<D: Disk> Cache<D> {
+    /// No page and no pin, and every stamp 0; needs no memory.
+    pub fn new(alloc: Global, disk: D) -> Cache<D>
+        ensures { result ≡ record { disk = disk; sealed = []; current = []; stamps = []; pins = []; room = result.room } }
+    {
+        Cache {
+            disk,
+            sealed: PageMap::new(alloc),
+            current: PageMap::new(alloc),
+            stamps: StampMap::new(alloc),
+            pins: PinMap::new(alloc),
+        }
+    }
+
+    /// Gives the disk back. The pages are dropped.
+    pub fn into_disk(self) -> D
+        ensures { result ≡ self.disk }
+    {
+        let Cache {
+            disk,
+            sealed: _,
+            current: _,
+            stamps: _,
+            pins: _,
+        } = self;
+        disk
+    }
+
+    /// A block as it is seen: its current page, else its checkpointed one, else the disk's block. `Device` comes only
+    /// where the disk's count of faults rose.
+    pub fn read(&mut self, block: u32) -> Result<[u8; 512], ReadFault>
+        ensures bytes { IfOk result (λ bytes. IfSome (seen D.told self.old) (λ view. bytes ≡ view.at block)) }
+        ensures size { IfOk result (λ bytes. length bytes ≡ 512) }
+        ensures rest { self.new ≡ record self.old { disk = self.new.disk } }
+        ensures told { D.told self.new.disk ≡ D.told self.old.disk }
+        ensures cause { ReadHasCause (D.faults self.old.disk) (D.faults self.new.disk) result }
+    {
+        match self.look(block) {
+            Ok(bytes) => Ok(bytes),
+            Err(_) => Err(ReadFault::Device),
+        }
+    }
+
+    fn look(&mut self, block: u32) -> Result<[u8; 512], Failed>
+        ensures bytes { IfOk result (λ bytes. IfSome (seen D.told self.old) (λ view. bytes ≡ view.at block)) }
+        ensures size { IfOk result (λ bytes. length bytes ≡ 512) }
+        ensures rest { self.new ≡ record self.old { disk = self.new.disk } }
+        ensures told { D.told self.new.disk ≡ D.told self.old.disk }
+        ensures cause { HasCause (D.faults self.old.disk) (D.faults self.new.disk) result }
+    {
+        if let Some(bytes) = self.current.get(block) {
+            return Ok(bytes);
+        }
+        if let Some(bytes) = self.sealed.get(block) {
+            return Ok(bytes);
+        }
+        let mut bytes = [0; 512];
+        self.disk.read(block, &mut bytes)?;
+        Ok(bytes)
+    }
+
+    /// Makes room for an install of so many blocks and for the checkpoint after it. The only error is want of memory,
+    /// and it does not come where there is room already.
+    pub fn reserve(&mut self, blocks: usize) -> Result<(), NoMemory>
+        ensures same { self.new ≡ record self.old { room = record self.old.room { pages = self.new.room.pages } } }
+        ensures ok { OnOk result (blocks ≤ self.new.room.pages) }
+        ensures kept { self.old.room.pages ≤ self.new.room.pages }
+        ensures sure { blocks ≤ self.old.room.pages → IsOk result }
+    {
+        if self.sealed.room() - self.current.len() < blocks {
+            let Some(pages) = blocks.checked_add(self.current.len()) else {
+                return Err(NoMemory);
+            };
+            self.sealed.reserve(pages)?;
+        }
+        self.current.reserve(blocks)?;
+        self.stamps.reserve(blocks)?;
+        Ok(())
+    }
+
+    /// Makes each changed block a current page and raises its stamp by one; a stamp of 2^64 - 1 stays. A block that is
+    /// current keeps its place in the list, and another one is appended, in the order of `changes`. Needs no memory.
+    pub fn install(&mut self, changes: &Changes)
+        requires { length changes.now ≤ self.old.room.pages }
+        ensures installed { self.new ≡ record self.old { current = installed self.old.current changes.now; stamps = raised_by self.old.stamps changes.now; room = self.new.room } }
+        ensures pages { self.old.room.pages ≤ self.new.room.pages + length changes.now }
+        ensures pins { self.new.room.pins ≡ self.old.room.pins }
+    {
+        self.current.install(changes);
+        self.stamps.raise_all(changes);
+    }
+
+    /// The stamp of a block: how often it was installed.
+    pub fn stamp(&self, block: u32) -> u64
+        ensures { result ≡ stamp_of self.now.stamps block }
+    {
+        self.stamps.of(block)
+    }
+
+    /// Makes room for so many more pins. The only error is want of memory, and it does not come where there is room
+    /// already.
+    pub fn reserve_pins(&mut self, more: usize) -> Result<(), NoMemory>
+        ensures same { self.new ≡ record self.old { room = record self.old.room { pins = self.new.room.pins } } }
+        ensures ok { OnOk result (more ≤ self.new.room.pins) }
+        ensures kept { self.old.room.pins ≤ self.new.room.pins }
+        ensures sure { more ≤ self.old.room.pins → IsOk result }
+    {
+        self.pins.reserve(more)
+    }
+
+    /// One pin more on a block. The only error is want of memory, which does not come where there is room; the pins are
+    /// then as before.
+    pub fn pin(&mut self, block: u32) -> Result<(), NoMemory>
+        ensures same { self.new ≡ record self.old { pins = self.new.pins; room = record self.old.room { pins = self.new.room.pins } } }
+        ensures ok { OnOk result ((other : ℕ) → stamp_of self.new.pins other ≡ cond (nat_eq block other) (stamp_of self.old.pins other + 1) (stamp_of self.old.pins other)) }
+        ensures err { OnErr result (self.new.pins ≡ self.old.pins) }
+        ensures sure { 0 < self.old.room.pins → IsOk result }
+        ensures spare { self.old.room.pins ≤ self.new.room.pins + 1 }
+    {
+        self.pins.pin(block)
+    }
+
+    /// One pin less on a block that is pinned; needs no memory.
+    pub fn unpin(&mut self, block: u32)
+        requires { 0 < stamp_of self.old.pins block }
+        ensures same { self.new ≡ record self.old { pins = self.new.pins; room = record self.old.room { pins = self.new.room.pins } } }
+        ensures pins { (other : ℕ) → stamp_of self.new.pins other ≡ cond (nat_eq block other) (stamp_of self.old.pins other - 1) (stamp_of self.old.pins other) }
+        ensures spare { self.old.room.pins ≤ self.new.room.pins }
+    {
+        self.pins.unpin(block);
+    }
+
+    /// Makes all current pages checkpointed ones, in the place of a block's older page where it has one; needs no memory.
+    pub fn seal(&mut self)
+        ensures rest { self.new ≡ record self.old { sealed = self.new.sealed; current = []; room = record self.old.room { pages = self.new.room.pages } } }
+        ensures view { (image : Image) → under image self.new.sealed ≡ under (under image self.old.sealed) self.old.current }
+        ensures kept { self.old.room.pages ≤ self.new.room.pages }
+    {
+        self.sealed.append(&mut self.current);
+    }
+
+    /// Drops all current pages; needs no memory.
+    pub fn drop_current(&mut self)
+        ensures dropped { self.new ≡ record self.old { current = []; room = record self.old.room { pages = self.new.room.pages } } }
+        ensures kept { self.old.room.pages ≤ self.new.room.pages }
+    {
+        self.current.clear();
+    }
+
+    /// Empties the clean cache. There is none: each block that has no page is read from the disk.
+    pub fn forget_clean(&mut self)
+        ensures { self.new ≡ self.old }
+    {}
+
+    /// Writes one checkpointed page back: `Clean` exactly where none waits, and `Device` only where the disk's count of
+    /// faults rose, with the page still waiting. Needs no memory.
+    pub fn flush_one(&mut self) -> Flushed
+        ensures flushes { Flushes D.told D.faults self.old self.new result }
+        ensures kept { self.old.room.pages ≤ self.new.room.pages }
+        ensures pins { self.new.room.pins ≡ self.old.room.pins }
+    {
+        let Some((block, bytes)) = self.sealed.last() else {
+            return Flushed::Clean;
+        };
+        match self.disk.write(block, bytes) {
+            Ok(()) => {
+                self.sealed.drop_last();
+                Flushed::One
+            }
+            Err(_) => Flushed::Device,
+        }
+    }
+
+    /// Does the strokes of a fault, in order, to the current pages. It changes bytes alone: not which blocks are current,
+    /// in which order, nor any stamp. Needs no memory.
+    pub fn damage(&mut self, damage: &Damage)
+        ensures { self.new ≡ record self.old { current = pages_damaged self.old.current damage.now } }
+    {
+        damage_pages(&mut self.current, damage);
+    }
+}
+
+/// Does the strokes of a fault, in order, to pages.
+fn damage_pages(pages: &mut PageMap, damage: &Damage)
+    ensures items { pages.new.items ≡ pages_damaged pages.old.items damage.now }
+    ensures count { length pages.new.items ≡ length pages.old.items }
+    ensures spare { pages.new.spare ≡ pages.old.spare }
+{
+    for stroke in damage.as_slice() {
+        do_stroke(pages, stroke);
+    }
+}
+
+fn do_stroke(pages: &mut PageMap, stroke: &Stroke)
+    ensures items { pages.new.items ≡ page_stroke pages.old.items stroke.now }
+    ensures count { length pages.new.items ≡ length pages.old.items }
+    ensures spare { pages.new.spare ≡ pages.old.spare }
+{
+    match stroke {
+        Stroke::Wipe(byte) => pages.wipe(*byte),
+        Stroke::Page { nth, bytes } => pages.replace(*nth, bytes),
+        Stroke::Count { ino: _, count: _ } => {}
+    }
+}

@@ -1,0 +1,26 @@
+//! The page cache over a disk: the checkpointed and the current pages, how often each block was installed, and how
+//! many calls in flight pin it.
+//!
+//! A contract sees a `Cache` as a `CacheState` (`specs/State.antt`): lists of pages over a disk. What is seen of a block
+//! is its current page, else its checkpointed page, else the disk's block: `seen`, and the law `seen_in_layers`. The
+//! current pages are an exact list. Of the checkpointed pages contracts say what is read under them and which page a
+//! write-back takes. What a fault leaves of pages is `pages_damaged` (`specs/Pages.antt`), what a stamp is `stamp_of`
+//! (`specs/Stamps.antt`), and the laws by which a caller reasons stand in `specs/CacheLaws.antt`.
+//!
+//! `reserve` and `reserve_pins` take the memory of what follows; no other call but `pin` may want any.
+//!
+//! `ReadFault` and `Flushed` stand in `mb_core` too, under the same names, until the core for one caller goes.
+#![tactic(auto)]
+
+mod answers;
+mod caches;
+mod laws;
+mod page_maps;
+mod pins;
+mod stamps;
+#[cfg(test)]
+mod tests;
+
+pub use answers::{Flushed, ReadFault};
+pub use caches::Cache;
+pub use laws::{damage_of_pages, installs, seen_in_layers};

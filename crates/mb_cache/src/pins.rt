@@ -1,0 +1,91 @@
+ghost use Rattle.std.specs.Prelude.{◌≡◌, ◌≤◌, ◌<◌, ◌+◌, ◌-◌, [], ℕ, cond, nat_eq, OnOk, OnErr, IsOk};
+ghost use Rattle.mb_cache.specs.Stamps.{stamp_of};
+
+use indexmap::IndexMap;
+use mb_edge::NoMemory;
+use std::alloc::Global;
+use std::marker::Model;
+
+/// How many calls in flight pin each block. A contract sees the list and the room.
+#[derive(Drop)]
+pub(crate) struct PinMap {
+    map: IndexMap<u32, u64>,
+    // how often a block was pinned, since the beginning
+    total: u64,
+}
+
+impl Model for PinMap {
+    ghost use Rattle.std.specs.Prelude.{ℕ, List, ◌^◌, ◌-◌, ◌≤◌, min};
+    ghost use Rattle.indexmap.specs.IndexMap.{spare};
+    ghost use Rattle.mb_room.specs.Room.{Roomy};
+    ghost use Rattle.mb_cache.specs.Stamps.{stamp_of};
+
+    ghost Value = { Roomy (ℕ × ℕ) };
+
+    ghost view = { λ s. record { items = s.map.entries; spare = min (spare s.map) (2 ^ 64 - 1 - s.total) } };
+
+    ghost invariant = { λ s. (block : ℕ) → stamp_of s.map.entries block ≤ s.total };
+}
+
+impl PinMap {
+    /// No pin; needs no memory.
+    pub fn new(alloc: Global) -> PinMap
+        ensures { result.items ≡ [] }
+    {
+        PinMap {
+            map: IndexMap::new(alloc),
+            total: 0,
+        }
+    }
+
+    /// The number of pins on a block.
+    pub fn of(&self, block: u32) -> u64
+        ensures { result ≡ stamp_of self.now.items block }
+    {
+        match self.map.get(&block) {
+            Some(count) => *count,
+            None => 0,
+        }
+    }
+
+    /// Makes room for pins on so many more blocks. Nothing else changes.
+    pub fn reserve(&mut self, more: usize) -> Result<(), NoMemory>
+        ensures ok { OnOk result (more ≤ self.new.spare) }
+        ensures same { self.new.items ≡ self.old.items }
+        ensures kept { self.old.spare ≤ self.new.spare }
+        ensures sure { more ≤ self.old.spare → IsOk result }
+    {
+        if (u64::MAX - self.total) < more as u64 {
+            return Err(NoMemory);
+        }
+        self.map.reserve(more)?;
+        Ok(())
+    }
+
+    /// One pin more on a block.
+    pub fn pin(&mut self, block: u32) -> Result<(), NoMemory>
+        ensures ok { OnOk result ((other : ℕ) → stamp_of self.new.items other ≡ cond (nat_eq block other) (stamp_of self.old.items other + 1) (stamp_of self.old.items other)) }
+        ensures err { OnErr result (self.new.items ≡ self.old.items) }
+        ensures sure { 0 < self.old.spare → IsOk result }
+        ensures spare { self.old.spare ≤ self.new.spare + 1 }
+    {
+        if self.total == u64::MAX {
+            return Err(NoMemory);
+        }
+        let count = self.of(block) + 1;
+        self.map.insert(block, count)?;
+        self.total += 1;
+        Ok(())
+    }
+
+    /// One pin less on a block; needs no memory.
+    pub fn unpin(&mut self, block: u32)
+        requires { 0 < stamp_of self.old.items block }
+        ensures pins { (other : ℕ) → stamp_of self.new.items other ≡ cond (nat_eq block other) (stamp_of self.old.items other - 1) (stamp_of self.old.items other) }
+        ensures spare { self.old.spare ≤ self.new.spare }
+    {
+        if let Some(count) = self.map.get_mut(&block) {
+            *count = count.saturating_sub(1);
+        }
+    }
+}

@@ -1,0 +1,144 @@
+use super::*;
+use mb_edge::{Bytes, Damage, Fails, MemDisk, NoMemory, Stroke};
+use mb_iface::Changes;
+use std::alloc::Global;
+use std::process::Abort;
+use std::test::Fail;
+
+// A disk of four blocks of ones, with room for twelve; of its writes the one with that number fails, none where it is 0.
+fn disk(alloc: Global, failing: u64) -> Result<MemDisk, Fail> {
+    let image = Bytes::from_vec(vec![in alloc; 1; 2048]?);
+    let writes = Fails::from_vec([failing].to_vec(alloc)?);
+    Ok(MemDisk::new(
+        alloc,
+        image,
+        12,
+        Fails::new(alloc),
+        Fails::new(alloc),
+        writes,
+    )?)
+}
+
+// Installs two blocks, each filled with one byte.
+fn install(
+    alloc: Global,
+    cache: &mut Cache<MemDisk>,
+    first: (u16, u8),
+    second: (u16, u8),
+) -> Result<(), Fail> {
+    let mut changes = Changes::new(alloc);
+    changes.put(u32::from(first.0), &[first.1; 512])?;
+    changes.put(u32::from(second.0), &[second.1; 512])?;
+    cache.reserve(changes.len())?;
+    cache.install(&changes);
+    Ok(())
+}
+
+fn layers(rt: &impl Abort, alloc: Global, cache: &mut Cache<MemDisk>) -> Result<(), Fail> {
+    assert!(rt; cache.read(2) == Ok([1; 512]));
+    assert!(rt; cache.read(9) == Ok([0; 512]));
+    install(alloc, cache, (2, 22), (9, 99))?;
+    assert!(rt; cache.read(2) == Ok([22; 512]));
+    assert!(rt; cache.read(9) == Ok([99; 512]));
+    assert!(rt; cache.flush_one() == Flushed::Clean);
+    cache.seal();
+    install(alloc, cache, (9, 98), (3, 33))?;
+    cache.forget_clean();
+    assert!(rt; cache.read(2) == Ok([22; 512]));
+    assert!(rt; cache.read(3) == Ok([33; 512]));
+    assert!(rt; cache.read(9) == Ok([98; 512]));
+    for (block, stamp) in [(2, 1), (3, 1), (9, 2), (4, 0)] {
+        assert_eq!(rt; cache.stamp(block), stamp, "of block {block}");
+    }
+    cache.drop_current();
+    assert!(rt; cache.read(3) == Ok([1; 512]));
+    assert!(rt; cache.read(9) == Ok([99; 512]));
+    assert_eq!(rt; cache.stamp(9), 2);
+    assert!(rt; cache.flush_one() == Flushed::One);
+    assert!(rt; cache.flush_one() == Flushed::One);
+    assert!(rt; cache.flush_one() == Flushed::Clean);
+    assert!(rt; cache.read(9) == Ok([99; 512]));
+    Ok(())
+}
+
+#[test]
+fn a_block_is_seen_through_its_layers(rt: HostRuntime) -> Result<(), Fail> {
+    let mut cache = Cache::new(rt.alloc(), disk(rt.alloc(), 0)?);
+    let seen = layers(&rt, rt.alloc(), &mut cache);
+    let disk = cache.into_disk();
+    seen?;
+    assert_eq!(rt; disk.bytes().len(), 10 * 512);
+    assert_eq!(rt; disk.bytes().get(1024), Some(&22));
+    Ok(())
+}
+
+fn failing(rt: &impl Abort, alloc: Global, cache: &mut Cache<MemDisk>) -> Result<(), Fail> {
+    install(alloc, cache, (1, 11), (2, 22))?;
+    cache.seal();
+    assert!(rt; cache.flush_one() == Flushed::One);
+    assert!(rt; cache.flush_one() == Flushed::Device);
+    assert!(rt; cache.read(1) == Ok([11; 512]));
+    assert!(rt; cache.read(2) == Ok([22; 512]));
+    assert!(rt; cache.flush_one() == Flushed::One);
+    assert!(rt; cache.flush_one() == Flushed::Clean);
+    Ok(())
+}
+
+#[test]
+fn a_page_whose_write_back_failed_waits_on(rt: HostRuntime) -> Result<(), Fail> {
+    let mut cache = Cache::new(rt.alloc(), disk(rt.alloc(), 2)?);
+    let seen = failing(&rt, rt.alloc(), &mut cache);
+    let disk = cache.into_disk();
+    seen?;
+    assert_eq!(rt; disk.bytes().get(512), Some(&11));
+    assert_eq!(rt; disk.bytes().get(1024), Some(&22));
+    Ok(())
+}
+
+fn strokes(rt: &impl Abort, alloc: Global, cache: &mut Cache<MemDisk>) -> Result<(), Fail> {
+    install(alloc, cache, (1, 11), (2, 22))?;
+    cache.seal();
+    install(alloc, cache, (2, 23), (3, 33))?;
+    let mut damage = Damage::new(alloc);
+    damage.push(Stroke::Wipe(5))?;
+    damage.push(Stroke::Page {
+        nth: 1,
+        bytes: [6; 512],
+    })?;
+    damage.push(Stroke::Page {
+        nth: 2,
+        bytes: [7; 512],
+    })?;
+    damage.push(Stroke::Count { ino: 3, count: 0 })?;
+    cache.damage(&damage);
+    assert!(rt; cache.read(1) == Ok([11; 512]));
+    assert!(rt; cache.read(2) == Ok([5; 512]));
+    assert!(rt; cache.read(3) == Ok([6; 512]));
+    cache.drop_current();
+    assert!(rt; cache.read(2) == Ok([22; 512]));
+    Ok(())
+}
+
+#[test]
+fn a_fault_changes_current_pages_alone(rt: HostRuntime) -> Result<(), Fail> {
+    let mut cache = Cache::new(rt.alloc(), disk(rt.alloc(), 0)?);
+    let seen = strokes(&rt, rt.alloc(), &mut cache);
+    let _disk = cache.into_disk();
+    seen
+}
+
+fn pinned(cache: &mut Cache<MemDisk>) -> Result<(), NoMemory> {
+    cache.reserve_pins(1)?;
+    cache.pin(7)?;
+    cache.pin(7)?;
+    cache.unpin(7);
+    Ok(())
+}
+
+#[test]
+fn a_block_is_pinned_more_than_once(rt: HostRuntime) -> Result<(), Fail> {
+    let mut cache = Cache::new(rt.alloc(), disk(rt.alloc(), 0)?);
+    let done = pinned(&mut cache);
+    let _disk = cache.into_disk();
+    Ok(done?)
+}
