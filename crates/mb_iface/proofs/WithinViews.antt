@@ -25,4 +25,3 @@ within_put shown old new block bytes each found within other some =
     (λ same. let e : block ≡ other = grind (arith, nat_tests) in subst (λ k. IsSome (shown k)) e (found_within shown old block within found))
     (within other)
     (subst IsSome (each other) some)
-
