@@ -13,9 +13,9 @@ use crate::path_rows::{
 };
 use crate::plans::{CallPlan, answered, changing};
 use crate::seats::{Seat, Seats, SessionChange, change_session};
-use crate::stops::{NoMemory, Stop};
+use crate::stops::Stop;
 use crate::trees::Tree;
-use mb_kinds::{Call, Reply};
+use mb_kinds::{Call, NoMemory, Reply};
 use std::alloc::Global;
 
 /// The reference model: a tree and the callers' sessions.

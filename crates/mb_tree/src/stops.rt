@@ -1,11 +1,7 @@
 ghost use Rattle.std.specs.Prelude.{◌≡◌};
 
 use mb_kinds::Errno;
-use std::alloc::{AllocError, AllocFailed};
-
-/// Want of memory, as an error of its own. It says nothing of the values at hand.
-#[derive(Clone, Copy, Debug, PartialEq, Eq, Drop)]
-pub struct NoMemory;
+use std::alloc::AllocError;
 
 /// Why a function of the model gives no value.
 #[derive(Clone, Copy, Debug, Drop)]
