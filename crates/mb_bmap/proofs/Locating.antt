@@ -8,9 +8,11 @@ use Rattle.mb_tree.specs.Views.{over, IsPart}
 use Rattle.mb_iface.specs.Changed.{ChangeList, changed}
 use Rattle.mb_blocks.proofs.PartBytes.{entry_is}
 use Rattle.mb_bmap.specs.declared.routes.Route.{Route}
-use Rattle.mb_bmap.specs.Ways.{way}
-use Rattle.mb_bmap.specs.Locating.{IsBounded}
-use Rattle.mb_bmap.proofs.Walking.{IsRoute}
+use Rattle.mb_bmap.specs.Ways.{route_of, way}
+use Rattle.mb_bmap.specs.Locating.{address_on, IsBounded, IsFirstHole, IsOnWayTo, OnWay, Locates, LocatesAt}
+use Rattle.mb_bmap.specs.declared.addresses.Located.{Located}
+use Rattle.mb_bmap.specs.declared.addresses.Located.TheVariants as located
+use Rattle.mb_bmap.proofs.Walking.{route_is}
 
 pub record HasFollowed (shown : ℕ → Option (List ℕ)) (changes : ChangeList) (ino : ℕ) (r : Route) (level here : ℕ) : Type 0 where
   pub followed : (blocks : ℕ → List ℕ) → IsPart shown blocks → IsBounded (over blocks (changed changes)) ino r
@@ -46,15 +48,27 @@ module _ (shown : ℕ → Option (List ℕ)) (changes : ChangeList) (ino : ℕ) 
         ));
   }
 
-  pub missing_here : (level here : ℕ) → HasFollowed shown changes ino r level here → here ≡ 0 → (blocks : ℕ → List ℕ) → IsPart shown blocks → IsBounded (over blocks (changed changes)) ino r
-      → (at (pointers (over blocks (changed changes))) (way ino r.places level) ≡ 0) × ((l : ℕ) → l < level → 0 < at (pointers (over blocks (changed changes))) (way ino r.places l))
-  missing_here level here was none blocks part bounded = (let w = was.followed blocks part bounded in (w.0 ∙ none, w.1))
+  pub missing_here : (level here : ℕ) → HasFollowed shown changes ino r level here → here ≡ 0 → OnWay shown changes ino r (λ blocks. IsFirstHole blocks ino r level)
+  missing_here level here was none blocks part bounded = (let w = was.followed blocks part bounded in record { hole = w.0 ∙ none; before = w.1 })
 
-  pub far_here : (level here : ℕ) → level ≤ r.depth → HasFollowed shown changes ino r level here → 262144 ≤ here → (blocks : ℕ → List ℕ) → IsPart shown blocks → IsBounded (over blocks (changed changes)) ino r
-      → (at (pointers (over blocks (changed changes))) (way ino r.places level) ≡ 0) × ((l : ℕ) → l < level → 0 < at (pointers (over blocks (changed changes))) (way ino r.places l))
+  pub far_here : (level here : ℕ) → level ≤ r.depth → HasFollowed shown changes ino r level here → 262144 ≤ here → OnWay shown changes ino r (λ blocks. IsFirstHole blocks ino r level)
   far_here level here low was far blocks part bounded = (let w = (was.followed blocks part bounded).0 in let b = bounded level low in absurd (omega (arith, w, b, far)))
 
-  pub found_here : (part level here : ℕ) → IsRoute part r → level ≡ r.depth → HasFollowed shown changes ino r level here → (blocks : ℕ → List ℕ) → IsPart shown blocks → IsBounded (over blocks (changed changes)) ino r
-      → part_address (over blocks (changed changes)) ino part ≡ here
-  found_here part level here is end was blocks is_part bounded =
-      (let w = (was.followed blocks is_part bounded).0 in ap (λ q. at (pointers (over blocks (changed changes))) q) (sym (is.leads ino) ∙ ap (way ino r.places) (sym end)) ∙ w)
+  pub asked_here : (level here last : ℕ) → level < last → HasFollowed shown changes ino r level here → OnWay shown changes ino r (λ blocks. IsOnWayTo blocks ino r last here)
+  asked_here level here last low was blocks part bounded = inr (level, low, sym (was.followed blocks part bounded).0)
+
+  pub found_here : (level here last : ℕ) → level ≡ last → HasFollowed shown changes ino r level here → OnWay shown changes ino r (λ blocks. address_on blocks ino r last ≡ here)
+  found_here level here last end was blocks part bounded = ap (address_on (over blocks (changed changes)) ino r) (sym end) ∙ (was.followed blocks part bounded).0
+
+-- the address at the end of a part's way is the part's
+pub address_is : (shown : ℕ → Option (List ℕ)) (changes : ChangeList) (ino part block : ℕ) → part < 2113674 → OnWay shown changes ino (route_of part) (λ blocks. address_on blocks ino (route_of part) (route_of part).depth ≡ block)
+    → OnWay shown changes ino (route_of part) (λ blocks. part_address blocks ino part ≡ block)
+address_is shown changes ino part block low found blocks is_part bounded =
+    ap (λ q. at (pointers (over blocks (changed changes))) q) (sym ((route_is part low).leads ino)) ∙ found blocks is_part bounded
+
+pub located_part : (shown : ℕ → Option (List ℕ)) (changes : ChangeList) (ino part last : ℕ) (result : Located) → part < 2113674 → last ≡ (route_of part).depth
+    → LocatesAt shown changes ino (route_of part) last result → Locates shown changes ino part result
+located_part shown changes ino part last (located.At block) low is at_last =
+    (at_last.0, address_is shown changes ino part block low (subst (λ n. OnWay shown changes ino (route_of part) (λ blocks. address_on blocks ino (route_of part) n ≡ block)) is at_last.1))
+located_part shown changes ino part last (located.Missing level) low is at_last = subst (λ n. LocatesAt shown changes ino (route_of part) n (located.Missing level)) is at_last
+located_part shown changes ino part last (located.Need need) low is at_last = subst (λ n. LocatesAt shown changes ino (route_of part) n (located.Need need)) is at_last
