@@ -1,17 +1,17 @@
 -- A block hung at a level of the way to a part.
-use Rattle.std.proofs.Common.{ℕ, zero, suc, ◌≡◌, ◌≢◌, ◌⊎◌, inl, inr, ◌+◌, ◌-◌, ◌*◌, ◌<◌, ◌≤◌, Bool, true, false, cond, nat_eq, nat_lt, Option, Some, None, IsSome, MatchOption, List, length, slice_index, replicate, refl, sym, ap, subst, ◌∙◌, arith}
+use Rattle.std.proofs.Common.{ℕ, zero, suc, ◌≡◌, ◌≢◌, inl, inr, ◌+◌, ◌*◌, ◌<◌, ◌≤◌, Bool, true, false, cond, nat_eq, nat_lt, Option, Some, IsSome, MatchOption, List, length, slice_index, replicate, refl, sym, ap, subst, ◌∙◌, arith}
 use Rattle.std.specs.Option.{option_or}
-use Rattle.std.proofs.lemmas.Bool.{cases_eq, cases_lt}
+use Rattle.std.proofs.lemmas.Bool.{cases_lt}
 use Rattle.std.proofs.lemmas.Bool.Decides.{nat_tests}
 use mathlib.Core.Path.{fun_ext}
 use Rattle.mb_kinds.specs.Image.{zeros}
 use Rattle.mb_word.specs.Fields.{inode_block, inode_place, address_of}
 use Rattle.mb_word.specs.Numbers.{put_at, long_bytes, addr_bytes}
-use Rattle.mb_tree.specs.Blocks.{pointers, entry_in}
+use Rattle.mb_tree.specs.Blocks.{entry_in}
 use Rattle.mb_tree.specs.Places.{at}
 use Rattle.mb_tree.specs.Views.{over, IsPart}
 use Rattle.mb_iface.specs.Changed.{ChangeList, changed, put_block, shown_over, IsWithinView}
-use Rattle.mb_iface.proofs.ChangedBlocks.{over_put, over_both, put_block_same, put_block_other, shown_part}
+use Rattle.mb_iface.proofs.ChangedBlocks.{over_put, over_both, put_block_same, put_block_other}
 use Rattle.mb_iface.proofs.WithinViews.{within_put}
 use Rattle.mb_blocks.specs.Growing.{IsZeroed, IsEntrySet, SetsPlace}
 use Rattle.mb_blocks.proofs.Pointing.{entry_same}

@@ -1,8 +1,8 @@
 -- One step on the way to a part: an address read, or a block taken, zeroed and written there.
-use Rattle.std.proofs.Common.{ℕ, ◌≡◌, ◌≢◌, ◌⊎◌, inl, inr, ◌+◌, ◌*◌, ◌<◌, ◌≤◌, List, [], ◌++◌, length, get_or, refl, sym, ap, subst, ◌∙◌, arith}
+use Rattle.std.proofs.Common.{ℕ, ◌≡◌, inl, inr, ◌+◌, ◌*◌, ◌<◌, List, ◌++◌, length, sym, ap, ◌∙◌, arith}
 use Rattle.std.proofs.lemmas.Bool.{cases_eq}
 use Rattle.std.proofs.lemmas.List.{drop_all, append-nil}
-use Rattle.mb_word.specs.Fields.{inode_block, inode_place, address_of, index_entry}
+use Rattle.mb_word.specs.Fields.{inode_block, inode_place}
 use Rattle.mb_word.specs.Numbers.{put_at, long_bytes, addr_bytes}
 use Rattle.mb_word.proofs.Values.{length-long_bytes, length-addr_bytes}
 use Rattle.mb_iface.specs.Changed.{put_block}

@@ -1,11 +1,10 @@
 -- The way to a part, step by step: each missing block taken, zeroed and hung.
-use Rattle.std.proofs.Common.{ℕ, zero, suc, ◌≡◌, ◌≢◌, ◌⊎◌, inl, inr, ◌+◌, ◌-◌, ◌*◌, ◌/◌, ◌%◌, ◌<◌, ◌≤◌, Bool, true, false, cond, nat_lt, Option, List, [], ◌∷◌, length, slice_index, refl, sym, ap, subst, ◌∙◌, arith}
+use Rattle.std.proofs.Common.{ℕ, zero, suc, ◌≡◌, inl, inr, ◌-◌, ◌/◌, ◌%◌, ◌<◌, ◌≤◌, Bool, true, false, cond, nat_lt, Option, List, [], ◌∷◌, length, slice_index, refl, sym, ap, subst, ◌∙◌, arith}
 use Rattle.std.proofs.lemmas.Bool.{cases_eq, cases_lt}
 use Rattle.std.proofs.lemmas.Bool.Decides.{nat_tests}
-use Rattle.mb_word.specs.Fields.{isize_of, fsize_of, ninode_of, inode_block, inode_place, address_of, index_entry}
-use Rattle.mb_word.specs.Numbers.{SameFrom}
+use Rattle.mb_word.specs.Fields.{ninode_of, inode_block, inode_place, address_of, index_entry}
 use Rattle.mb_word.proofs.Values.{word_at-same}
-use Rattle.mb_tree.specs.Blocks.{pointers, entry_in, first_list, list_in}
+use Rattle.mb_tree.specs.Blocks.{pointers, first_list, list_in}
 use Rattle.std.specs.List.{Contains}
 use Rattle.std.proofs.lemmas.List.Elements.{Contains-get_or}
 use Rattle.mb_iface.specs.declared.replies.Need.{Need}
@@ -14,7 +13,6 @@ use Rattle.mb_tree.specs.Places.{Place, Pointers, at, level, IsPlace, place_of}
 use Rattle.mb_tree.specs.Places.Place.{Top, Under}
 use Rattle.mb_tree.specs.Views.{over, IsPart}
 use Rattle.mb_iface.specs.Changed.{ChangeList, changed, IsWithinView}
-use Rattle.mb_blocks.specs.Laid.{IsLaid, IsHad}
 use Rattle.mb_blocks.specs.Laid.IsHad.{by_place, by_none}
 use Rattle.mb_blocks.specs.Growing.{IsEntrySet, IsTopSet, Reaches, Grows, hole, missing}
 use Rattle.mb_blocks.proofs.Frames.{not_on_own_way}
@@ -27,7 +25,6 @@ use Rattle.mb_blocks.proofs.Growing.{grown}
 use Rattle.mb_blocks.proofs.Reaching as reaching
 use Rattle.mb_blocks.specs.Reached.{HasReached}
 use Rattle.mb_blocks.specs.Rules.{KeepsRules, IsOut}
-use Rattle.mb_alloc.specs.Taking.{IsTakenZeroed}
 use Rattle.mb_bmap.specs.declared.routes.Route.{Route}
 use Rattle.mb_bmap.specs.Ways.{route_of, way}
 use Rattle.mb_bmap.specs.Reaching.{GrowsBy, IsReady, StepsTop, StepsUnder, ReachesPart}

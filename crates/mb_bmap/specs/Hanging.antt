@@ -1,7 +1,6 @@
 -- A block hung at a level of the way to a part.
-use Rattle.std.specs.Prelude.{List, ℕ, ◌<◌, ◌≤◌, ◌≡◌, ◌≢◌, ◌⊎◌, Bool, cond, Option, IsSome, length}
+use Rattle.std.specs.Prelude.{List, ℕ, ◌<◌, ◌≡◌, ◌⊎◌, Bool, cond, Option, IsSome, length}
 use Rattle.mb_kinds.specs.Image.{zeros}
-use Rattle.mb_word.specs.Fields.{inode_block}
 use Rattle.mb_word.specs.Numbers.{put_at}
 use Rattle.mb_tree.specs.Views.{over, IsPart}
 use Rattle.mb_iface.specs.Changed.{ChangeList, changed, put_block, IsWithinView}

@@ -1,9 +1,9 @@
 -- The block of a part, taken, zeroed and hung where it is missing, and the index blocks on the way to it.
-use Rattle.std.specs.Prelude.{List, [], ℕ, ◌+◌, ◌<◌, ◌≤◌, ◌≡◌, ◌≢◌, ◌⊎◌, Bool, true, Option, length}
+use Rattle.std.specs.Prelude.{List, [], ℕ, ◌<◌, ◌≤◌, ◌≡◌, ◌⊎◌, Bool, true, Option, length}
 use Rattle.mb_word.specs.Fields.{fsize_of, isize_of, ninode_of, inode_block, inode_place, address_of, index_entry}
 use Rattle.mb_tree.specs.Blocks.{pointers, first_list}
 use Rattle.mb_tree.specs.Chain.{IsNext}
-use Rattle.mb_tree.specs.Places.{Place, at, place_of}
+use Rattle.mb_tree.specs.Places.{at, place_of}
 use Rattle.mb_tree.specs.Views.{over, IsPart}
 use Rattle.mb_iface.specs.Changed.{ChangeList, changed, IsWithinView}
 use Rattle.mb_iface.specs.Needs.{IsNeed}

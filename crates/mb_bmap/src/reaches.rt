@@ -7,13 +7,15 @@ use mb_iface::{Changes, Edited, Need, View, edit, seen};
 use mb_layout::{inode_block, inode_place};
 use mb_word::{addr_at, long_at, put_addr, put_long};
 
-/// The block of a part.
+/// The block of a part, once its way is made.
+#[derive(Clone, Copy, Debug, PartialEq, Drop)]
 pub enum Reached {
-    /// This block.
+    /// This block, which is not 0.
     At(u32),
-    /// No free block is left for it.
+    /// The free chain has fewer blocks than are missing on the way.
     NoneLeft,
-    /// The view lacks these blocks.
+    /// The view lacks block 1, the inode's block, an index block on the way, or a block of the free
+    /// chain.
     Need(Need),
     /// Memory was wanted and not given.
     NoMemory,
@@ -27,10 +29,7 @@ fn step_top<V: View>(view: &V, changes: &mut Changes, ino: u16, place: u16) -> R
     let holder = inode_block(ino);
     let at = 64 * inode_place(ino) as usize + 12 + 3 * place as usize;
     let Some(bytes) = seen(view, changes, holder) else {
-        return Reached::Need(Need {
-            first: holder,
-            count: 1,
-        });
+        return Reached::Need(Need::one(holder));
     };
     let address = addr_at(bytes, at);
     if address != 0 {
@@ -42,10 +41,7 @@ fn step_top<V: View>(view: &V, changes: &mut Changes, ino: u16, place: u16) -> R
             put_addr(&mut value, 0, block);
             match edit(view, changes, holder, at, &value) {
                 Edited::Done => Reached::At(block),
-                Edited::Lacking => Reached::Need(Need {
-                    first: holder,
-                    count: 1,
-                }),
+                Edited::Lacking => Reached::Need(Need::one(holder)),
                 Edited::NoMemory => Reached::NoMemory,
             }
         }
@@ -66,10 +62,7 @@ fn step_under<V: View>(view: &V, changes: &mut Changes, index: u32, place: u16) 
     }
     let at = 4 * place as usize;
     let Some(bytes) = seen(view, changes, index) else {
-        return Reached::Need(Need {
-            first: index,
-            count: 1,
-        });
+        return Reached::Need(Need::one(index));
     };
     let address = long_at(bytes, at);
     if address != 0 {
@@ -81,10 +74,7 @@ fn step_under<V: View>(view: &V, changes: &mut Changes, index: u32, place: u16) 
             put_long(&mut value, 0, block);
             match edit(view, changes, index, at, &value) {
                 Edited::Done => Reached::At(block),
-                Edited::Lacking => Reached::Need(Need {
-                    first: index,
-                    count: 1,
-                }),
+                Edited::Lacking => Reached::Need(Need::one(index)),
                 Edited::NoMemory => Reached::NoMemory,
             }
         }
@@ -94,9 +84,10 @@ fn step_under<V: View>(view: &V, changes: &mut Changes, index: u32, place: u16) 
     }
 }
 
-/// The block of a part of a file, with the index blocks on the way to it: what is missing is taken
-/// from the free chain, filled with zeros and hung. Where it is not `At`, the changes are for letting
-/// go.
+/// The block of a part of a file, with the index blocks on the way to it (V7 filsys(5)): what is
+/// missing is taken from the free chain, filled with zeros and hung, from the inode down. On any other
+/// answer than `At` the changes may hold a part of that, and are for letting go: an operation makes
+/// them on changes of its own.
 pub fn reach<V: View>(view: &V, changes: &mut Changes, ino: u16, part: u32) -> Reached
     requires { part < 2113674 }
     ensures { ReachesPart (V.shown view.now) changes.old changes.new ino part result }

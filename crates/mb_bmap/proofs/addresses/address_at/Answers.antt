@@ -1,4 +1,4 @@
-use Rattle.std.proofs.Common.{suc, ◌+◌, sym, subst, refl, ap, slice_index, arith}
+use Rattle.std.proofs.Common.{◌+◌, subst, ap, slice_index, arith}
 use Rattle.mb_bmap.proofs.Locating.{HasFollowed, follow_next, found_here}
 use Rattle.mb_bmap.specs.Ways.{route_of}
 use Rattle.mb_bmap.proofs.addresses.address_at.Goals as goal

@@ -1,4 +1,4 @@
-use Rattle.std.proofs.Common.{◌≡◌, ◌≤◌, ◌+◌, ◌-◌, ◌*◌, nat_lt, slice_index, sym, subst, refl, ap, ◌∙◌, arith}
+use Rattle.std.proofs.Common.{◌≡◌, ◌≤◌, ◌+◌, ◌-◌, ◌*◌, nat_lt, slice_index, sym, subst, refl, ap, arith}
 use Rattle.mb_bmap.specs.Hanging.{HangsAt, SetsBytes}
 use Rattle.mb_bmap.specs.Locating.{address_on, OnWay}
 use Rattle.mb_bmap.proofs.Hanging.{hung_first, hung_next}

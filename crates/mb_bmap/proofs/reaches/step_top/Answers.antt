@@ -1,5 +1,4 @@
-use Rattle.std.proofs.Common.{refl, sym, ap, inr, ◌∙◌, ◌*◌, ◌+◌, arith}
-use Rattle.mb_word.specs.Numbers.{addr_at}
+use Rattle.std.proofs.Common.{refl, sym, ap, inr, ◌∙◌}
 use Rattle.mb_word.specs.Fields.{inode_block, inode_place, address_of}
 use Rattle.mb_tree.specs.Views.{over}
 use Rattle.mb_iface.specs.Changed.{changed}

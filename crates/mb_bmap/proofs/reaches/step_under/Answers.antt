@@ -1,4 +1,4 @@
-use Rattle.std.proofs.Common.{refl, sym, ap, inr, ◌∙◌, ◌*◌, arith}
+use Rattle.std.proofs.Common.{refl, sym, ap, inr, ◌∙◌, ◌*◌}
 use Rattle.mb_word.specs.Numbers.{long_at}
 use Rattle.mb_tree.specs.Views.{over}
 use Rattle.mb_iface.specs.Changed.{changed}
