@@ -1,0 +1,5 @@
+pub mod Erasings
+pub mod Freeings
+pub mod Picking
+pub mod Takings
+pub mod Within

@@ -1,0 +1,52 @@
+use Rattle.std.proofs.Common.{refl, sym, ap, subst, IsSome, ◌∙◌, ◌+◌, ◌*◌, ◌-◌, ◌/◌, ◌%◌, ◌∷◌, [], take, drop, length, ℕ, replicate, arith}
+use Rattle.std.proofs.lemmas.List.{length-replicate}
+use Rattle.mb_word.specs.Numbers.{word_at, long_at, put_at, word_bytes}
+use Rattle.mb_tree.specs.Views.{over}
+use Rattle.mb_iface.specs.Changed.{changed}
+use Rattle.mb_alloc.proofs.Takings.{too_many}
+use Rattle.mb_alloc.proofs.Freeings.{freed_none, freed_some, freed_full}
+use Rattle.mb_alloc.proofs.Within.{in_view_both, length-take_drop}
+use Rattle.mb_alloc.proofs.frees.free_block.Goals as goal
+
+pub returns-then-count-gt50 : goal.returns-then-count-gt50
+returns-then-count-gt50 g c = (
+  λ handed within. within,
+  λ blocks part keeps real.
+      absurd (let bytes = c.in-Some.ensures.found blocks part in
+      too_many (over blocks (changed c.args.changes.now)) c.word_at-count.result keeps (c.word_at-count.ensures ∙ ap (λ b. word_at b 6) (sym bytes)) c.if-count-gt50.true),
+)
+
+pub returns-in-Ok : goal.returns-in-Ok
+returns-in-Ok g c = (
+  λ handed within.
+      in_view_both (g.V.View.shown c.args.view.now) c.args.changes.now c.put_both.new.self c.args.block _ 1 _ c.in-Ok.ensures.each
+      (subst (λ o. IsSome o) (sym c.in-Some.ensures.there) refl) handed within,
+  λ blocks part keeps real.
+      (let bytes = c.in-Some.ensures.found blocks part in
+      freed_full (over blocks (changed c.args.changes.now)) (over blocks (changed c.put_both.new.self)) c.word_at-count.result c.args.block (replicate {A = ℕ} 512 0) c.write_at.new.into c.put_word.new.b c.put_long.new.b keeps
+      (c.word_at-count.ensures ∙ ap (λ b. word_at b 6) (sym bytes)) c.if-count-eq50.true real c.requires (length-replicate {A = ℕ} 512 0)
+      (c.write_at.ensures.bytes ∙ ap (λ b. put_at (replicate {A = ℕ} 512 0) 0 (take 202 (drop 6 b))) (sym bytes))
+      (length-take_drop (over blocks (changed c.args.changes.now) 1) 202 6 (let l = keeps.sized 1 in omega (arith, l)))
+      (c.put_word.ensures ∙ ap (λ b. put_at b 6 (word_bytes 1)) (sym bytes)) c.put_long.ensures
+      (c.in-Ok.ensures.ok blocks)),
+)
+
+pub returns-in-Done : goal.returns-in-Done
+returns-in-Done g c = (
+  λ handed. c.in-Done.ensures.within,
+  λ blocks part keeps real.
+      (let bytes = c.in-Some.ensures.found blocks part in
+      freed_none (over blocks (changed c.args.changes.now)) (over blocks (changed c.edit.new.changes)) c.word_at-count.result c.args.block _ _ _ _ keeps
+      (c.word_at-count.ensures ∙ ap (λ b. word_at b 6) (sym bytes)) c.if-count-eq0.true real c.requires refl
+      c.put_word-then-count-eq0.ensures c.put_long-then-count-eq0.ensures c.put_long-then-count-eq0-2.ensures (c.in-Done.ensures.wrote blocks part)),
+)
+
+pub returns-in-Done-edit_both : goal.returns-in-Done-edit_both
+returns-in-Done-edit_both g c = (
+  λ handed. c.in-Done-edit_both.ensures.within,
+  λ blocks part keeps real.
+      (let bytes = c.in-Some.ensures.found blocks part in
+      freed_some (over blocks (changed c.args.changes.now)) (over blocks (changed c.edit_both.new.changes)) c.word_at-count.result c.args.block _ _ _ keeps
+      (c.word_at-count.ensures ∙ ap (λ b. word_at b 6) (sym bytes)) c.if-count-eq0.false (omega (arith, c.if-count-gt50.false, c.if-count-eq50.false)) real c.requires refl
+      c.put_long-2.ensures refl (c.in-Done-edit_both.ensures.wrote blocks part)),
+)

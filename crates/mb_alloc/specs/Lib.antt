@@ -1,0 +1,4 @@
+pub mod Freeing
+pub mod Inodes
+pub mod Numbers
+pub mod Taking

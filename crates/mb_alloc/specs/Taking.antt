@@ -1,0 +1,34 @@
+-- A block taken from the free chain.
+use Rattle.std.specs.Prelude.{List, ℕ, ◌≡◌, ◌<◌, ◌⊎◌, Option}
+use Rattle.mb_tree.specs.Blocks.{first_list}
+use Rattle.mb_tree.specs.Chain.{IsNext}
+use Rattle.mb_tree.specs.Views.{over, IsPart}
+use Rattle.mb_iface.specs.Changed.{ChangeList, changed, IsWithinView}
+use Rattle.mb_iface.specs.Needs.{IsNeed}
+use Rattle.mb_blocks.specs.FreeLists.{IsTaken}
+use Rattle.mb_blocks.specs.Growing.{IsZeroed}
+use Rattle.mb_blocks.specs.Rules.{KeepsRules, IsOut}
+use Rattle.mb_alloc.specs.declared.takes.Taken.{Taken}
+use Rattle.mb_alloc.specs.declared.takes.Taken.TheVariants as taken
+
+abbrev pub Takes : (ℕ → Option (List ℕ)) → ChangeList → ChangeList → Taken → Type 0
+Takes shown old new (taken.Block b) = (0 < b) × (b < 262144) × (IsWithinView shown old → IsWithinView shown new)
+    × ((blocks : ℕ → List ℕ) → IsPart shown blocks → KeepsRules (over blocks (changed old)) → IsTaken (over blocks (changed old)) (over blocks (changed new)) b)
+Takes shown old new taken.NoneLeft = (new ≡ old) × ((blocks : ℕ → List ℕ) → IsPart shown blocks → KeepsRules (over blocks (changed old)) → IsOut (first_list (over blocks (changed old))))
+Takes shown old new (taken.Need need) = (new ≡ old) × IsNeed shown need
+    × ((blocks : ℕ → List ℕ) → IsPart shown blocks → KeepsRules (over blocks (changed old)) → (need.first ≡ 1) ⊎ IsNext (first_list (over blocks (changed old))) need.first)
+Takes shown old new taken.NoMemory = new ≡ old
+
+-- a block taken and filled with zeros
+pub record IsTakenZeroed (old new : ℕ → List ℕ) (block : ℕ) : Type 0 where
+  pub between : ℕ → List ℕ
+  pub taken : IsTaken old between block
+  pub zeroed : IsZeroed between new block
+
+abbrev pub TakesZeroed : (ℕ → Option (List ℕ)) → ChangeList → ChangeList → Taken → Type 0
+TakesZeroed shown old new (taken.Block b) = (0 < b) × (b < 262144) × (IsWithinView shown old → IsWithinView shown new)
+    × ((blocks : ℕ → List ℕ) → IsPart shown blocks → KeepsRules (over blocks (changed old)) → IsTakenZeroed (over blocks (changed old)) (over blocks (changed new)) b)
+TakesZeroed shown old new taken.NoneLeft = (blocks : ℕ → List ℕ) → IsPart shown blocks → KeepsRules (over blocks (changed old)) → IsOut (first_list (over blocks (changed old)))
+TakesZeroed shown old new (taken.Need need) = IsNeed shown need
+    × ((blocks : ℕ → List ℕ) → IsPart shown blocks → KeepsRules (over blocks (changed old)) → (need.first ≡ 1) ⊎ IsNext (first_list (over blocks (changed old))) need.first)
+TakesZeroed shown old new taken.NoMemory = Unit {0}

@@ -1,0 +1,61 @@
+ghost use Rattle.std.specs.Prelude.{◌<◌};
+ghost use Rattle.mb_alloc.specs.Freeing.{Frees};
+
+use crate::writes::write_at;
+use mb_iface::{Changes, Edited, Need, View, edit, edit_both, seen};
+use mb_word::{put_long, put_word, word_at};
+
+/// What became of a change.
+pub enum Hung {
+    /// It is made.
+    Done,
+    /// The view lacks these blocks.
+    Need(Need),
+    /// Memory was wanted and not given.
+    NoMemory,
+}
+
+/// Puts a block back on the free chain (V7 filsys(5)): its address becomes the last of the
+/// super-block's list; a full list moves into the block first.
+pub fn free_block<V: View>(view: &V, changes: &mut Changes, block: u32) -> Hung
+    requires { block < 262144 }
+    ensures { Frees (V.shown view.now) changes.old changes.new block result }
+{
+    let Some(bytes) = seen(view, changes, 1) else {
+        return Hung::Need(Need { first: 1, count: 1 });
+    };
+    let count = word_at(bytes, 6);
+    if count > 50 {
+        return Hung::Done;
+    }
+    if count == 50 {
+        let mut first = *bytes;
+        let mut held = [0; 512];
+        write_at(&mut held, 0, &first[6..208]);
+        put_word(&mut first, 6, 1);
+        put_long(&mut first, 8, block);
+        return match changes.put_both(block, &held, 1, &first) {
+            Ok(()) => Hung::Done,
+            Err(_) => Hung::NoMemory,
+        };
+    }
+    if count == 0 {
+        let mut list = [0; 10];
+        put_word(&mut list, 0, 2);
+        put_long(&mut list, 2, 0);
+        put_long(&mut list, 6, block);
+        return match edit(view, changes, 1, 6, &list) {
+            Edited::Done => Hung::Done,
+            Edited::Lacking => Hung::Need(Need { first: 1, count: 1 }),
+            Edited::NoMemory => Hung::NoMemory,
+        };
+    }
+    let mut address = [0; 4];
+    put_long(&mut address, 0, block);
+    let more = [(count + 1) as u8, 0];
+    match edit_both(view, changes, 1, 8 + 4 * count as usize, &address, 6, &more) {
+        Edited::Done => Hung::Done,
+        Edited::Lacking => Hung::Need(Need { first: 1, count: 1 }),
+        Edited::NoMemory => Hung::NoMemory,
+    }
+}

@@ -1,0 +1,4 @@
+pub mod Hanging
+pub mod Locating
+pub mod Stepping
+pub mod Walking
