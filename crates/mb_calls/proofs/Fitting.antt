@@ -1,0 +1,94 @@
+-- On every view a call ends with a plain reply and a change that the sessions can make.
+use Rattle.std.proofs.Common.{◌≡◌, ℕ, Bool, List, [], Option, Some, None, refl, sym, subst}
+use Rattle.std.specs.Prelude.{IsSome}
+use Rattle.mb_kinds.specs.Image.{Image}
+use Rattle.mb_iface.specs.Acting.{Acts}
+use Rattle.mb_iface.specs.Changed.{IsWithinView, changed}
+use Rattle.mb_iface.specs.Near.{IsNear, IsTouched}
+use Rattle.mb_iface.specs.OpenCounts.{count_of}
+use Rattle.mb_iface.specs.declared.replies.Acted.TheVariants as acted
+use Rattle.mb_iface.specs.declared.replies.Need.{Need}
+use Rattle.mb_tree.specs.Fits.{Fits}
+use Rattle.mb_tree.specs.Sessions.{free_descriptor}
+use Rattle.mb_tree.specs.declared.operations.FsOp.{FsOp}
+use Rattle.mb_tree.specs.declared.operations.FsOp.TheVariants as op
+use Rattle.mb_tree.specs.declared.plans.CallPlan.{CallPlan}
+use Rattle.mb_tree.specs.declared.seats.Seat.{Seat}
+use Rattle.mb_tree.specs.declared.seats.SessionChange.{SessionChange}
+use Rattle.mb_tree.specs.declared.seats.SessionChange.TheVariants.{Same, Fresh, Twin, Free, Move, Cwd, Mask, Clear}
+use Rattle.mb_tree.specs.declared.trees.Tree.{Tree}
+use Rattle.mb_tree.proofs.Descriptors.{free_above, free_unused, free_within}
+use Rattle.mb_kinds.specs.declared.replies.Reply.{Reply}
+use Rattle.mb_kinds.specs.declared.replies.Reply.TheVariants.{Num, Got, Info, Refused, Restart, Device, Failed}
+use Rattle.mb_tree.specs.Plans.{IsServedReply}
+use Rattle.mb_calls.specs.Performed.{IsPlainReply, CanApply, IsEndOf, IsFit, IsFreeDescriptor}
+use Rattle.mb_tree.specs.PickLaws.{fresh_on, on_number}
+use Rattle.mb_calls.specs.Performed.IsEndOf.{alone, done, refused}
+use Rattle.mb_tree.specs.Plans.{CanMake, IsPlanFor}
+use Rattle.mb_calls.specs.Continuing.{CountMap}
+use Rattle.mb_calls.specs.declared.performing.Ready.{Ready}
+
+-- what a file system says of a block that an operation asks for, where the operation fits
+pub near_acted : (shown : ℕ → Option (List ℕ)) (image : Image) (tree : Tree) (opens : CountMap) (op : FsOp) (need : Need) → Acts shown image tree opens op None (acted.Need need) → Fits tree (count_of opens) op None
+    → IsNear image tree (IsTouched tree op) need.first
+near_acted shown image tree opens op need h fits = h fits
+
+pub none_within : (shown : ℕ → Option (List ℕ)) → IsWithinView shown []
+none_within shown block some = absurd (let no : None ≡ Some tt = none_some (changed [] block) refl some in cc)
+  where
+    none_some : {X : Type 0} (o : Option X) → o ≡ None → IsSome o → ◌≡◌ {A = Option (Unit {0})} None (Some tt)
+    none_some None h s = cc
+    none_some (Some x) h s = cc
+
+-- the least free descriptor
+descriptor_fit : (seat : Seat) (fd : ℕ) → free_descriptor seat ≡ Some fd → IsFreeDescriptor seat fd
+descriptor_fit seat fd h = (free_above seat fd h, free_within seat fd h, free_unused seat fd h)
+
+can_apply : (seat : Seat) (change : SessionChange) → CanMake seat change → CanApply seat change
+can_apply seat Same h = tt
+can_apply seat (Fresh fd ino how) h = descriptor_fit seat fd h
+can_apply seat (Twin fd to) h = (descriptor_fit seat to h.0, h.1)
+can_apply seat (Free fd) h = h
+can_apply seat (Move fd offset) h = h
+can_apply seat (Cwd ino) h = tt
+can_apply seat (Mask mask) h = tt
+can_apply seat Clear h = tt
+
+numbered : (seat : Seat) (ino : ℕ) (change : SessionChange) → CanApply seat change → CanApply seat (on_number ino change)
+numbered seat ino Same h = tt
+numbered seat ino (Fresh fd old how) h = h
+numbered seat ino (Twin fd to) h = h
+numbered seat ino (Free fd) h = h
+numbered seat ino (Move fd offset) h = h
+numbered seat ino (Cwd dir) h = tt
+numbered seat ino (Mask mask) h = tt
+numbered seat ino Clear h = tt
+
+freshened : (seat : Seat) (op : FsOp) (pick : Option ℕ) (change : SessionChange) → CanApply seat change → CanApply seat (fresh_on op pick change)
+freshened seat (op.Create dir name mode uid gid moment) (Some ino) change h = numbered seat ino change h
+freshened seat (op.Create dir name mode uid gid moment) None change h = h
+freshened seat (op.Empty ino moment) pick change h = h
+freshened seat (op.MakeDir dir name mode uid gid moment) pick change h = h
+freshened seat (op.RemoveDir dir name moment) pick change h = h
+freshened seat (op.Enlink dir name ino moment) pick change h = h
+freshened seat (op.Delink dir name moment) pick change h = h
+freshened seat (op.Put ino offset bytes moment) pick change h = h
+freshened seat (op.SetMode ino mode moment) pick change h = h
+freshened seat (op.SetOwner ino uid gid moment) pick change h = h
+freshened seat (op.SetTimes ino atime mtime moment) pick change h = h
+freshened seat (op.Hold ino) pick change h = h
+freshened seat (op.Release inos) pick change h = h
+
+plain_reply : (reply : Reply) → IsServedReply reply → IsPlainReply reply
+plain_reply (Num number) h = tt
+plain_reply (Got bytes) h = tt
+plain_reply (Info stat) h = tt
+plain_reply (Refused e) h = tt
+plain_reply (Restart first second) h = h
+plain_reply Device h = h
+plain_reply (Failed faults) h = h
+
+pub fit_of : {shown : ℕ → Option (List ℕ)} {opens : CountMap} (seat : Seat) (shared : Bool) (planned : CallPlan) (ready : Ready) → IsPlanFor seat planned → IsEndOf shown opens shared planned ready → IsFit seat shared ready
+fit_of seat shared planned ready makes (alone none is) = subst (IsFit seat shared) (sym is) (record { plain = plain_reply planned.reply makes.1; session = can_apply seat planned.session makes.0; shared = refl })
+fit_of seat shared planned ready makes (done op changes pick acts has is) = subst (IsFit seat shared) (sym is) (record { plain = plain_reply planned.reply makes.1; session = freshened seat op pick planned.session (can_apply seat planned.session makes.0); shared = refl })
+fit_of seat shared planned ready makes (refused op e acts has is) = subst (IsFit seat shared) (sym is) (record { plain = tt; session = tt; shared = refl })

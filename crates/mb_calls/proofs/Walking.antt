@@ -1,0 +1,276 @@
+-- A path is found by its components one after another.
+use Rattle.std.proofs.Common.{◌≡◌, ◌≢◌, inl, inr, ℕ, zero, suc, ◌+◌, ◌<◌, ◌≤◌, Bool, true, false, cond, not, if◌then◌else◌, List, [], ◌∷◌, ◌++◌, append_assoc, length, map, filter, take, get_or, Option, Some, None, Ok, Err, refl, sym, ap, subst, ◌∙◌, arith}
+use Rattle.std.proofs.lemmas.Bool.Decides.{nat_tests}
+use Rattle.std.proofs.lemmas.List.{map-append}
+use Rattle.std.proofs.lemmas.List.Elements.{filter-append}
+use Rattle.std.proofs.Math.Seq.{take-append-add, take-append-le}
+use Rattle.std.specs.Prelude.{slice_index, ◌==◌, IfSome}
+use Rattle.std.specs.List.{slice_split, onto_first}
+use Rattle.mb_kinds.specs.declared.credentials.Cred.{Cred}
+use Rattle.mb_kinds.specs.declared.errors.Errno.{Errno}
+use Rattle.mb_kinds.specs.declared.errors.Errno.TheVariants.{ENOENT, ENOTDIR, EACCES}
+use Rattle.mb_kinds.specs.declared.replies.Stat.{Stat}
+use Rattle.mb_iface.specs.Near.{IsOnWay}
+use Rattle.mb_tree.specs.Answers.{Answer, ◌>>=◌, ◌>>◌, need, some}
+use Rattle.mb_tree.specs.Fits.{IsLeafAt}
+use Rattle.mb_tree.specs.Inodes.{is_directory, may, slots_of, stat_of}
+use Rattle.mb_tree.specs.Lookup.{components, enter, find_path, find_place, look, number_of, padded, place_under, slash, start_of, stat_in, walk}
+use Rattle.mb_tree.specs.Maps.{Numbered}
+use Rattle.mb_tree.specs.Trees.{IsDirectoryAt, IsSound, IsThere}
+use Rattle.mb_tree.specs.Views.{IsPart}
+use Rattle.mb_tree.specs.declared.lookups.Placed.TheVariants.{At}
+use Rattle.mb_tree.specs.declared.nodes.Node.{Node}
+use Rattle.mb_tree.specs.declared.nodes.PlainSlot.{PlainSlot}
+use Rattle.mb_tree.specs.declared.trees.Tree.{Tree}
+use Rattle.mb_tree.proofs.Always.{bind_ok, same_ok}
+use Rattle.mb_tree.proofs.PlacedNames.{IsLooked, look_ok, numbered}
+use Rattle.mb_tree.proofs.InodeKinds.{is_directory_at, is_leaf_at, path_ok}
+use Rattle.mb_calls.specs.Following.{ViewGrows, IsFollowed}
+use Rattle.mb_tree.proofs.KnownPlaces.{start_there}
+
+-- ---- the components of two pieces of a path
+
+abbrev pieces : List ℕ → List (List ℕ)
+pieces path = slice_split (λ byte. byte == slash) path
+
+abbrev kept : List ℕ → Bool
+kept piece = not (length piece == 0)
+
+onto_some : (x : ℕ) (parts : List (List ℕ)) → (part : List ℕ) × (more : List (List ℕ)) × (onto_first x parts ≡ (x ∷ part) ∷ more)
+onto_some x [] = ([], [], refl)
+onto_some x (part ∷ parts) = (part, parts, refl)
+
+some_piece : (path : List ℕ) → (part : List ℕ) × (parts : List (List ℕ)) × (pieces path ≡ part ∷ parts)
+some_piece [] = ([], [], refl)
+some_piece (x ∷ xs) = elim (x == slash) as (λ b. (part : List ℕ) × (parts : List (List ℕ)) × (cond b ([] ∷ pieces xs) (onto_first x (pieces xs)) ≡ part ∷ parts)) [
+  | true ↦ ([], pieces xs, refl)
+  | false ↦ let at = onto_some x (pieces xs) in (x ∷ at.0, at.1, at.2)
+]
+
+onto_append : (x : ℕ) (path : List ℕ) (more : List (List ℕ)) → onto_first x (pieces path ++ more) ≡ onto_first x (pieces path) ++ more
+onto_append x path more = let at = some_piece path in subst (λ ps. onto_first x (ps ++ more) ≡ onto_first x ps ++ more) (sym at.2) refl
+
+pieces_cut : (head tail : List ℕ) → pieces (head ++ slash ∷ tail) ≡ pieces head ++ pieces tail
+pieces_cut [] tail = refl
+pieces_cut (x ∷ xs) tail = elim (x == slash) as (λ b. cond b ([] ∷ pieces (xs ++ slash ∷ tail)) (onto_first x (pieces (xs ++ slash ∷ tail))) ≡ cond b ([] ∷ pieces xs) (onto_first x (pieces xs)) ++ pieces tail) [
+  | true ↦ ap (λ ps. [] ∷ ps) (pieces_cut xs tail)
+  | false ↦ ap (onto_first x) (pieces_cut xs tail) ∙ onto_append x xs (pieces tail)
+]
+
+pub components_cut : (head tail : List ℕ) → components (head ++ slash ∷ tail) ≡ components head ++ components tail
+components_cut head tail = ap (λ ps. map padded (filter kept ps)) (pieces_cut head tail) ∙ ap (map padded) (filter-append kept (pieces head) (pieces tail)) ∙ map-append padded (filter kept (pieces head)) (filter kept (pieces tail))
+
+kept_some : (x : ℕ) (piece : List ℕ) → kept (x ∷ piece) ≡ true
+kept_some x piece = let no : length (x ∷ piece) ≢ 0 = (λ e. omega (arith, e)) in grind (arith, nat_tests)
+
+pub some_component : (tail : List ℕ) → 0 < length tail → slice_index tail 0 ≢ slash → (name : List ℕ) × (names : List (List ℕ)) × (components tail ≡ name ∷ names)
+some_component [] some other = absurd (omega (arith, some))
+some_component (x ∷ xs) some other =
+    let at = onto_some x (pieces xs) in
+    let no : (x == slash) ≡ false = let h : x ≢ 47 = other in grind (arith, nat_tests) in
+    let yes : kept (x ∷ at.0) ≡ true = kept_some x at.0 in (
+      padded (x ∷ at.0),
+      map padded (filter kept at.1),
+      ap (λ b. map padded (filter kept (cond b ([] ∷ pieces xs) (onto_first x (pieces xs))))) no ∙ ap (λ ps. map padded (filter kept ps)) at.2
+          ∙ ap (λ b. map padded (cond b ((x ∷ at.0) ∷ filter kept at.1) (filter kept at.1))) yes,
+    )
+
+pub start_head : (cwd : ℕ) (head tail : List ℕ) → 0 < length head → start_of cwd (head ++ slash ∷ tail) ≡ start_of cwd head
+start_head cwd [] tail some = absurd (omega (arith, some))
+start_head cwd (x ∷ xs) tail some = refl
+
+pub start_tail : (dir : ℕ) (tail : List ℕ) → slice_index tail 0 ≢ slash → start_of dir tail ≡ dir
+start_tail dir tail other = let no : (slice_index tail 0 == slash) ≡ false = let h : slice_index tail 0 ≢ 47 = other in grind (arith, nat_tests) in ap (λ (b : Bool). if◌then◌else◌ {A = ℕ} b 2 dir) no
+
+-- ---- walks one after another
+
+module _ (nodes : Numbered Node) (cred : Cred) where
+  pub walk_append : (s : ℕ) (a b : List (List ℕ)) → walk nodes cred s (a ++ b) ≡ (walk nodes cred s a >>= λ m. walk nodes cred m b)
+  walk_append s [] b = refl
+  walk_append s (name ∷ a) b = go (λ next. walk_append next a b) (enter nodes cred s name)
+    where
+      go : ((next : ℕ) → walk nodes cred next (a ++ b) ≡ (walk nodes cred next a >>= λ m. walk nodes cred m b)) → (r : Answer ℕ) → (r >>= (λ next. walk nodes cred next (a ++ b))) ≡ ((r >>= (λ next. walk nodes cred next a)) >>= λ m. walk nodes cred m b)
+      go by (Ok next) = by next
+      go by (Err e) = refl
+
+  pub walk_past : (s m : ℕ) (a b : List (List ℕ)) → walk nodes cred s a ≡ Ok m → walk nodes cred s (a ++ b) ≡ walk nodes cred m b
+  walk_past s m a b h = walk_append s a b ∙ ap (λ (r : Answer ℕ). r >>= λ m. walk nodes cred m b) h
+
+  pub walk_stopped : (s : ℕ) (a b : List (List ℕ)) (e : Errno) → walk nodes cred s a ≡ Err e → walk nodes cred s (a ++ b) ≡ Err e
+  walk_stopped s a b e h = walk_append s a b ∙ ap (λ (r : Answer ℕ). r >>= λ m. walk nodes cred m b) h
+
+  place_step : (s : ℕ) (first name : List ℕ) (names : List (List ℕ)) → place_under nodes cred s (first ∷ name ∷ names) ≡ (enter nodes cred s first >>= λ next. place_under nodes cred next (name ∷ names))
+  place_step s first name names = go (enter nodes cred s first)
+    where
+      last : List ℕ
+      last = get_or (name ∷ names) (length names) []
+
+      go : (r : Answer ℕ) → ((r >>= λ next. walk nodes cred next (take (length names) (name ∷ names))) >>= λ dir. look nodes cred dir last >>= λ found. Ok (At dir last found)) ≡ (r >>= λ next. place_under nodes cred next (name ∷ names))
+      go (Ok next) = refl
+      go (Err e) = refl
+
+  place_steps : (s : ℕ) (first : List ℕ) (rest : List (List ℕ)) → 0 < length rest → place_under nodes cred s (first ∷ rest) ≡ (enter nodes cred s first >>= λ next. place_under nodes cred next rest)
+  place_steps s first [] some = absurd (omega (arith, some))
+  place_steps s first (name ∷ names) some = place_step s first name names
+
+  pub place_append : (s : ℕ) (a b : List (List ℕ)) → 0 < length b → place_under nodes cred s (a ++ b) ≡ (walk nodes cred s a >>= λ m. place_under nodes cred m b)
+  place_append s [] b some = refl
+  place_append s (name ∷ a) b some = place_steps s name (a ++ b) (longer a) ∙ go (λ next. place_append next a b some) (enter nodes cred s name)
+    where
+      longer : (a : List (List ℕ)) → 0 < length (a ++ b)
+      longer [] = some
+      longer (x ∷ xs) = omega arith
+
+      go : ((next : ℕ) → place_under nodes cred next (a ++ b) ≡ (walk nodes cred next a >>= λ m. place_under nodes cred m b)) → (r : Answer ℕ) → (r >>= (λ next. place_under nodes cred next (a ++ b))) ≡ ((r >>= (λ next. walk nodes cred next a)) >>= λ m. place_under nodes cred m b)
+      go by (Ok next) = by next
+      go by (Err e) = refl
+
+  -- ---- no walk goes on at an inode that is no directory
+  leaf_look : (ino : ℕ) (name : List ℕ) → IsLeafAt nodes ino → look nodes cred ino name ≡ Err ENOTDIR
+  leaf_look ino name leaf =
+      ap (λ (o : Option Node). some o ENOTDIR >>= (λ node. some (slots_of node.body) ENOTDIR >>= (λ slots. need (may cred (stat_of ino node) 1) EACCES >> Ok (number_of slots name)))) leaf.has
+      ∙ ap (λ (o : Option (List PlainSlot)). some o ENOTDIR >>= (λ slots. need (may cred (stat_of ino leaf.node) 1) EACCES >> Ok (number_of slots name))) leaf.body
+
+  leaf_enter : (ino : ℕ) (name : List ℕ) → IsLeafAt nodes ino → enter nodes cred ino name ≡ Err ENOTDIR
+  leaf_enter ino name leaf = ap (λ (r : Answer (Option ℕ)). r >>= λ found. some found ENOENT) (leaf_look ino name leaf)
+
+  pub leaf_walk : (ino : ℕ) (names : List (List ℕ)) → 0 < length names → IsLeafAt nodes ino → walk nodes cred ino names ≡ Err ENOTDIR
+  leaf_walk ino [] some leaf = absurd (omega (arith, some))
+  leaf_walk ino (name ∷ names) some leaf = ap (λ (r : Answer ℕ). r >>= λ next. walk nodes cred next names) (leaf_enter ino name leaf)
+
+  pub leaf_place : (ino : ℕ) (names : List (List ℕ)) → 0 < length names → IsLeafAt nodes ino → place_under nodes cred ino names ≡ Err ENOTDIR
+  leaf_place ino [] some leaf = absurd (omega (arith, some))
+  leaf_place ino (name ∷ []) some leaf = ap (λ (r : Answer (Option ℕ)). r >>= λ found. Ok (At ino name found)) (leaf_look ino name leaf)
+  leaf_place ino (name ∷ second ∷ names) some leaf = place_step ino name second names ∙ ap (λ (r : Answer ℕ). r >>= λ next. place_under nodes cred next (second ∷ names)) (leaf_enter ino name leaf)
+
+-- ---- a path followed
+
+pub begun : (nodes : Numbered Node) (cred : Cred) (cwd : ℕ) (path : List ℕ) → IsDirectoryAt nodes cwd → IsFollowed nodes cred cwd path cwd path
+begun nodes cred cwd path d = record { front = []; names = refl; walked = refl; directory = d; more = inl refl }
+
+module _ (nodes : Numbered Node) (cred : Cred) (cwd : ℕ) (path : List ℕ) (dir : ℕ) (rest : List ℕ) (at : IsFollowed nodes cred cwd path dir rest) where
+  -- what a path finds is what its rest finds
+  pub find_followed : find_path nodes cred cwd path ≡ find_path nodes cred dir rest
+  find_followed = ap (λ names. walk nodes cred (start_of cwd path) names >>= stat_in nodes) at.names
+      ∙ ap (λ (r : Answer ℕ). r >>= stat_in nodes) (walk_past nodes cred (start_of cwd path) (start_of dir rest) at.front (components rest) at.walked)
+
+  pub place_followed : find_place nodes cred cwd path ≡ find_place nodes cred dir rest
+  place_followed = ap (place_under nodes cred (start_of cwd path)) at.names ∙ elim at.more [
+    | inl none ↦
+        let same : start_of cwd path ≡ start_of dir rest = same_ok (start_of cwd path) (start_of dir rest) (sym (ap (walk nodes cred (start_of cwd path)) none) ∙ at.walked) in
+        ap (λ front. place_under nodes cred (start_of cwd path) (front ++ components rest)) none ∙ ap (λ s. place_under nodes cred s (components rest)) same
+    | inr some ↦ place_append nodes cred (start_of cwd path) at.front (components rest) some ∙ ap (λ (r : Answer ℕ). r >>= λ m. place_under nodes cred m (components rest)) at.walked
+  ]
+
+  -- what is on the way of the rest is on the way of the path
+  pub way_followed : (ino : ℕ) → IsOnWay nodes cred (start_of dir rest) (components rest) ino → IsOnWay nodes cred (start_of cwd path) (components path) ino
+  way_followed ino on = (
+    length at.front + on.0,
+    subst (λ names. length at.front + on.0 ≤ length names) (sym at.names) (shorter at.front on.0 (components rest) on.1),
+    ap (λ names. walk nodes cred (start_of cwd path) (take (length at.front + on.0) names)) at.names ∙ ap (walk nodes cred (start_of cwd path)) (take-append-add at.front (components rest) on.0)
+        ∙ walk_past nodes cred (start_of cwd path) (start_of dir rest) at.front (take on.0 (components rest)) at.walked ∙ on.2,
+  )
+    where
+      shorter : (front : List (List ℕ)) (n : ℕ) (names : List (List ℕ)) → n ≤ length names → length front + n ≤ length (front ++ names)
+      shorter [] n names h = omega (arith, h)
+      shorter (x ∷ xs) n names h = omega (arith, shorter xs n names h)
+
+module _ (tree : Tree) (sound : IsSound tree) (cred : Cred) (cwd : ℕ) (path : List ℕ) (dir : ℕ) (rest head tail : List ℕ) (at : IsFollowed tree.nodes cred cwd path dir rest)
+    (cut : rest ≡ head ++ slash ∷ tail) (filled : 0 < length head) (left : 0 < length tail) (other : slice_index tail 0 ≢ slash) where
+  names_left : 0 < length (components tail)
+  names_left = let c = some_component tail left other in subst (λ names. 0 < length names) (sym c.2) (omega arith)
+
+  start_is : start_of dir rest ≡ start_of dir head
+  start_is = ap (start_of dir) cut ∙ start_head dir head tail filled
+
+  rest_names : components rest ≡ components head ++ components tail
+  rest_names = ap components cut ∙ components_cut head tail
+
+  -- one component further
+  pub followed_on : (stat : Stat) → find_path tree.nodes cred dir head ≡ Ok stat → is_directory stat.mode ≡ true → IsFollowed tree.nodes cred cwd path stat.ino tail
+  followed_on stat found d =
+      let found_at = path_ok tree.nodes cred dir head stat found in
+      record {
+        front = at.front ++ components head;
+        names = at.names ∙ ap (λ names. at.front ++ names) rest_names ∙ sym (append_assoc at.front (components head) (components tail));
+        walked = walk_past tree.nodes cred (start_of cwd path) (start_of dir rest) at.front (components head) at.walked ∙ ap (λ s. walk tree.nodes cred s (components head)) start_is ∙ found_at.0
+            ∙ ap Ok (sym (start_tail stat.ino tail other));
+        directory = is_directory_at tree sound stat.ino stat found_at.1 d;
+        more = inr names_left;
+      }
+
+  -- a component that leads to no directory ends the walk
+  pub ended_find : (stat : Stat) → find_path tree.nodes cred dir head ≡ Ok stat → is_directory stat.mode ≡ false → find_path tree.nodes cred cwd path ≡ Err ENOTDIR
+  ended_find stat found d =
+      let found_at = path_ok tree.nodes cred dir head stat found in
+      find_followed tree.nodes cred cwd path dir rest at ∙ ap (λ names. walk tree.nodes cred (start_of dir rest) names >>= stat_in tree.nodes) rest_names
+      ∙ ap (λ (r : Answer ℕ). r >>= stat_in tree.nodes) (walk_past tree.nodes cred (start_of dir rest) stat.ino (components head) (components tail) (ap (λ s. walk tree.nodes cred s (components head)) start_is ∙ found_at.0)
+      ∙ leaf_walk tree.nodes cred stat.ino (components tail) names_left (is_leaf_at tree sound stat.ino stat found_at.1 d))
+
+  pub ended_place : (stat : Stat) → find_path tree.nodes cred dir head ≡ Ok stat → is_directory stat.mode ≡ false → find_place tree.nodes cred cwd path ≡ Err ENOTDIR
+  ended_place stat found d =
+      let found_at = path_ok tree.nodes cred dir head stat found in
+      place_followed tree.nodes cred cwd path dir rest at ∙ ap (place_under tree.nodes cred (start_of dir rest)) rest_names
+      ∙ place_append tree.nodes cred (start_of dir rest) (components head) (components tail) names_left
+      ∙ ap (λ (r : Answer ℕ). r >>= λ m. place_under tree.nodes cred m (components tail)) (ap (λ s. walk tree.nodes cred s (components head)) start_is ∙ found_at.0)
+      ∙ leaf_place tree.nodes cred stat.ino (components tail) names_left (is_leaf_at tree sound stat.ino stat found_at.1 d)
+
+  walk_there : (s : ℕ) (names : List (List ℕ)) (ino : ℕ) → IsThere tree.nodes s → walk tree.nodes cred s names ≡ Ok ino → IsThere tree.nodes ino
+  walk_there s [] ino there h = subst (IsThere tree.nodes) (same_ok s ino h) there
+  walk_there s (name ∷ names) ino there h =
+      let one = bind_ok (enter tree.nodes cred s name) _ ino h in
+      let two = bind_ok (look tree.nodes cred s name) _ one.0 one.1 in
+      walk_there one.0 names ino (entered two.0 two.1 one.0 two.2) one.2
+    where
+      led_there : (other : ℕ) → IsLooked tree.nodes s name (Some other) → IsThere tree.nodes other
+      led_there other looked =
+          let by = numbered looked.slots name other looked.number in
+          subst (IsThere tree.nodes) by.3 ((sound.slots s looked.node looked.slots looked.has looked.body).leads by.0 by.1 by.2).1
+
+      entered : (found : Option ℕ) → look tree.nodes cred s name ≡ Ok found → (next : ℕ) → some found ENOENT ≡ Ok next → IsThere tree.nodes next
+      entered None h next e = cc
+      entered (Some other) h next e = subst (IsThere tree.nodes) (same_ok other next e) (led_there other (look_ok tree.nodes cred s name (Some other) h))
+
+  -- a component that is refused refuses the walk
+  head_stopped : (e : Errno) → find_path tree.nodes cred dir head ≡ Err e → walk tree.nodes cred (start_of dir rest) (components head) ≡ Err e
+  head_stopped e h = ap (λ s. walk tree.nodes cred s (components head)) start_is ∙ go (walk tree.nodes cred (start_of dir head) (components head)) refl h
+    where
+      go : (r : Answer ℕ) → walk tree.nodes cred (start_of dir head) (components head) ≡ r → (r >>= stat_in tree.nodes) ≡ Err e → r ≡ Err e
+      go (Err d) is h = let same : d ≡ e = cc in ap Err same
+      go (Ok ino) is h =
+          let there = walk_there (start_of dir head) (components head) ino (start_there tree sound dir head at.directory) is in
+          let no : Ok (stat_of ino there.node) ≡ Err e = ap (λ (o : Option Node). some o ENOENT >>= (λ (node : Node). Ok (stat_of ino node))) (sym there.has) ∙ h in cc
+
+  pub stopped_find : (e : Errno) → find_path tree.nodes cred dir head ≡ Err e → find_path tree.nodes cred cwd path ≡ Err e
+  stopped_find e h =
+      find_followed tree.nodes cred cwd path dir rest at ∙ ap (λ names. walk tree.nodes cred (start_of dir rest) names >>= stat_in tree.nodes) rest_names
+      ∙ ap (λ (r : Answer ℕ). r >>= stat_in tree.nodes) (walk_stopped tree.nodes cred (start_of dir rest) (components head) (components tail) e (head_stopped e h))
+
+  pub stopped_place : (e : Errno) → find_path tree.nodes cred dir head ≡ Err e → find_place tree.nodes cred cwd path ≡ Err e
+  stopped_place e h =
+      place_followed tree.nodes cred cwd path dir rest at ∙ ap (place_under tree.nodes cred (start_of dir rest)) rest_names
+      ∙ place_append tree.nodes cred (start_of dir rest) (components head) (components tail) names_left
+      ∙ ap (λ (r : Answer ℕ). r >>= λ m. place_under tree.nodes cred m (components tail)) (head_stopped e h)
+
+  pub head_way : (ino : ℕ) → IsOnWay tree.nodes cred (start_of dir head) (components head) ino → IsOnWay tree.nodes cred (start_of cwd path) (components path) ino
+  head_way ino on = way_followed tree.nodes cred cwd path dir rest at ino (subst (λ s. IsOnWay tree.nodes cred s (components rest) ino) (sym start_is)
+      (subst (λ names. IsOnWay tree.nodes cred (start_of dir head) names ino) (sym rest_names) (longer_way (components head) on)))
+    where
+      longer_way : (names : List (List ℕ)) → IsOnWay tree.nodes cred (start_of dir head) names ino → IsOnWay tree.nodes cred (start_of dir head) (names ++ components tail) ino
+      longer_way names on = (on.0, farther names on.0 on.1, ap (walk tree.nodes cred (start_of dir head)) (shorter names on.0 on.1) ∙ on.2)
+        where
+          farther : (names : List (List ℕ)) (n : ℕ) → n ≤ length names → n ≤ length (names ++ components tail)
+          farther [] n h = omega (arith, h)
+          farther (x ∷ xs) zero h = omega arith
+          farther (x ∷ xs) (suc n) h = omega (arith, farther xs n (omega (arith, h)))
+
+          shorter : (names : List (List ℕ)) (n : ℕ) → n ≤ length names → take n (names ++ components tail) ≡ take n names
+          shorter names n h = take-append-le n names (components tail) h
+
+-- ---- a view that grew is a part of fewer images
+pub grown_part : (shown later : ℕ → Option (List ℕ)) (blocks : ℕ → List ℕ) → ViewGrows shown later → IsPart later blocks → IsPart shown blocks
+grown_part shown later blocks grows part = λ block. go block (shown block) (later block) (grows block) (part block)
+  where
+    go : (block : ℕ) (a b : Option (List ℕ)) → IfSome a (λ bytes. b ≡ Some bytes) → IfSome b (λ bytes. blocks block ≡ bytes) → IfSome a (λ bytes. blocks block ≡ bytes)
+    go block None b grows part = tt
+    go block (Some bytes) b is part = subst (λ (o : Option (List ℕ)). IfSome o (λ bytes. blocks block ≡ bytes)) is part

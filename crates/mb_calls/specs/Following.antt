@@ -1,0 +1,66 @@
+-- A path that is followed a component at a time, while the view grows.
+use Rattle.std.specs.Prelude.{List, [], ℕ, ◌++◌, ◌⊎◌, Some, ◌+◌, ◌-◌, ◌<◌, ◌≤◌, ◌≡◌, ◌≢◌, Option, IfSome, Result, Ok, Err, length, drop, slice_index}
+use Rattle.mb_kinds.specs.Image.{Image}
+use Rattle.mb_kinds.specs.declared.calls.Call.{Call}
+use Rattle.mb_kinds.specs.declared.credentials.Cred.{Cred}
+use Rattle.mb_iface.specs.Near.{IsNear, IsOnWay}
+use Rattle.mb_tree.specs.Answers.{Answer}
+use Rattle.mb_tree.specs.Lookup.{components, start_of, walk}
+use Rattle.mb_tree.specs.Maps.{Numbered}
+use Rattle.mb_tree.specs.Trees.{IsDirectoryAt}
+use Rattle.mb_tree.specs.declared.nodes.Node.{Node}
+use Rattle.mb_tree.specs.declared.seats.Seat.{Seat}
+use Rattle.mb_tree.specs.declared.trees.Tree.{Tree}
+use Rattle.mb_calls.specs.Halts.{HaltMatches, IsOver}
+use Rattle.mb_calls.specs.Looked.{IsFirst, IsSecond}
+use Rattle.mb_calls.specs.declared.halts.Halt.{Halt}
+use Rattle.mb_calls.specs.declared.halts.Halt.TheVariants as why
+use Rattle.mb_calls.specs.declared.walks.PathWalk.{PathWalk}
+use Rattle.mb_calls.specs.declared.walks.PathWalks.{PathWalks}
+
+-- a directory on the way of a path from which the rest of the path is still to be followed
+pub record IsFollowed (nodes : Numbered Node) (cred : Cred) (cwd : ℕ) (path : List ℕ) (dir : ℕ) (rest : List ℕ) : Type 0 where
+  pub front : List (List ℕ)
+  pub names : components path ≡ front ++ components rest
+  pub walked : walk nodes cred (start_of cwd path) front ≡ Ok (start_of dir rest)
+  pub directory : IsDirectoryAt nodes dir
+  -- so that the place of a path keeps its last component
+  pub more : (front ≡ []) ⊎ (0 < length (components rest))
+
+-- on each volume the walk is at a directory on the way of the path
+pub record IsKept (shown : ℕ → Option (List ℕ)) (seat : Seat) (path : List ℕ) (walk : PathWalk) : Type 0 where
+  pub within : walk.from ≤ length path
+  pub followed : (image : Image) (tree : Tree) → IsOver shown seat image tree → IsFollowed tree.nodes seat.cred seat.cwd path walk.dir (drop walk.from path)
+
+-- a component ends before the slash, and another begins after it
+pub record IsCut (path : List ℕ) (from : ℕ) (next : ℕ) : Type 0 where
+  pub some : from + 2 ≤ next
+  pub within : next < length path
+  pub ends : slice_index path (next - 1) ≡ 47
+  pub begins : slice_index path next ≢ 47
+
+abbrev pub HaltsOn : {X Y : Type 0} → Result X Halt → Answer Y → Type 0
+HaltsOn (Ok x) row = Unit {0}
+HaltsOn (Err stop) row = HaltMatches stop row
+
+abbrev pub HaltsNear : Image → Tree → Cred → ℕ → List ℕ → Halt → Type 0
+HaltsNear image tree cred dir path (why.Need need) = IsNear image tree (IsOnWay tree.nodes cred (start_of dir path) (components path)) need.first
+HaltsNear image tree cred dir path _ = Unit {0}
+
+-- what is asked for is on the way of the path
+abbrev pub AsksNear : {X : Type 0} → Image → Tree → Cred → ℕ → List ℕ → Result X Halt → Type 0
+AsksNear image tree cred dir path (Ok x) = Unit {0}
+AsksNear image tree cred dir path (Err stop) = HaltsNear image tree cred dir path stop
+
+-- the walks of a call's paths: the first of each call that has one, and the second of link(2)
+pub record IsGoing (shown : ℕ → Option (List ℕ)) (seat : Seat) (made : Call) (walks : PathWalks) : Type 0 where
+  pub first : (path : List ℕ) → IsFirst made path → IsKept shown seat path walks.first
+  pub second : (path : List ℕ) → IsSecond made path → IsKept shown seat path walks.second
+
+-- a view that has all that it had, with the same bytes
+abbrev pub ViewGrows : (ℕ → Option (List ℕ)) → (ℕ → Option (List ℕ)) → Type 0
+ViewGrows shown later = (block : ℕ) → IfSome (shown block) (λ bytes. later block ≡ Some bytes)
+
+-- as long as the view only grows a call can go on where it stopped
+abbrev pub WalksGoOn : Type 0
+WalksGoOn = (shown later : ℕ → Option (List ℕ)) (seat : Seat) (made : Call) (walks : PathWalks) → ViewGrows shown later → IsGoing shown seat made walks → IsGoing later seat made walks

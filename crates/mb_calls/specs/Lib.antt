@@ -1,0 +1,6 @@
+pub mod Continuing
+pub mod Following
+pub mod Halts
+pub mod Looked
+pub mod Performed
+pub mod Spots

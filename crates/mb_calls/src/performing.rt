@@ -1,0 +1,180 @@
+ghost use Rattle.std.specs.Prelude.{◌≡◌, ◌<◌, Some, length, slice_get};
+ghost use Rattle.mb_tree.specs.LocalLaws.{is_shared_call};
+ghost use Rattle.mb_tree.specs.PickLaws.{fresh_on};
+ghost use Rattle.mb_tree.specs.SessionLaws.{IsCall};
+ghost use Rattle.mb_tree.specs.declared.seats.Seat.{Seat};
+ghost use Rattle.mb_calls.specs.Following.{IsGoing};
+ghost use Rattle.mb_calls.specs.Performed.{Ends, EndsNear, FitsCall, IsNeeded, IsRight, ready_refused};
+
+use crate::halts::Halt;
+use crate::planning::plan_call;
+use crate::walks::{PathWalks, set_out};
+use mb_iface::{Acted, Changes, FileSys, Need, Opens, View};
+use mb_kinds::{Call, Errno, Reply};
+use mb_tree::{CallPlan, FsOp, Seat, SessionChange};
+use std::alloc::Global;
+
+/// What a call comes to.
+#[derive(Drop)]
+pub struct Ready {
+    pub reply: Reply,
+    pub op: Option<FsOp>,
+    pub pick: Option<u16>,
+    pub changes: Changes,
+    pub session: SessionChange,
+    pub shared: bool,
+}
+
+/// The answer of `perform`.
+#[derive(Drop)]
+pub enum Performed {
+    Ready(Ready),
+    Need(Need),
+    NoMemory,
+}
+
+/// The session change with the number of the inode that was made.
+fn fresh_on(op: &FsOp, pick: Option<u16>, change: SessionChange) -> SessionChange
+    ensures { result ≡ fresh_on op.now pick change }
+{
+    match op {
+        FsOp::Create { .. } => match pick {
+            Some(ino) => match change {
+                SessionChange::Fresh { fd, how, .. } => SessionChange::Fresh { fd, ino, how },
+                other => other,
+            },
+            None => change,
+        },
+        _ => change,
+    }
+}
+
+fn refused(alloc: Global, shared: bool, error: Errno) -> Ready
+    ensures { result ≡ ready_refused shared error }
+{
+    Ready {
+        reply: Reply::Refused(error),
+        op: None,
+        pick: None,
+        changes: Changes::new(alloc),
+        session: SessionChange::Same,
+        shared,
+    }
+}
+
+/// Does the operation of a plan.
+fn complete<F: FileSys, V: View>(
+    alloc: Global,
+    fs: &F,
+    view: &V,
+    opens: &Opens,
+    plan: CallPlan,
+    shared: bool,
+) -> Performed
+    ensures ends { Ends (V.shown view.now) opens.now shared plan result }
+    ensures near { EndsNear (V.shown view.now) opens.now plan result }
+{
+    let CallPlan { reply, op, session } = plan;
+    let Some(op) = op else {
+        return Performed::Ready(Ready {
+            reply,
+            op: None,
+            pick: None,
+            changes: Changes::new(alloc),
+            session,
+            shared,
+        });
+    };
+    match fs.act(alloc, view, opens, &op, None) {
+        Acted::Done { changes, pick } => {
+            let session = fresh_on(&op, pick, session);
+            Performed::Ready(Ready {
+                reply,
+                op: Some(op),
+                pick,
+                changes,
+                session,
+                shared,
+            })
+        }
+        Acted::Refused(error) => Performed::Ready(refused(alloc, shared, error)),
+        Acted::Need(need) => Performed::Need(need),
+        Acted::NoMemory => Performed::NoMemory,
+    }
+}
+
+/// Whether the answer looks at other callers.
+fn is_shared_call(call: &Call) -> bool
+    ensures { result ≡ is_shared_call call.now }
+{
+    matches!(
+        call,
+        Call::Close { .. } | Call::Unlink { .. } | Call::Rmdir { .. } | Call::Exit
+    )
+}
+
+/// Performs a call over gathered blocks, with its paths followed so far.
+pub fn perform_on<F: FileSys, V: View>(
+    alloc: Global,
+    fs: &F,
+    view: &V,
+    sessions: &[Seat],
+    opens: &Opens,
+    caller: u8,
+    call: &Call,
+    moment: u32,
+    walks: PathWalks,
+) -> Performed
+    requires declared { caller < length sessions.now }
+    requires lawful { IsCall call.now }
+    requires going { (seat : Seat) → slice_get sessions.now caller ≡ Some seat → IsGoing (V.shown view.now) seat call.now walks }
+    ensures right { IsRight (V.shown view.now) sessions.now opens.now caller call.now moment result }
+    ensures needed { IsNeeded (V.shown view.now) sessions.now opens.now caller call.now result }
+    ensures fit { FitsCall sessions.now caller call.now result }
+{
+    let Some(seat) = sessions.get(usize::from(caller)) else {
+        unreachable!()
+    };
+    let shared = is_shared_call(call);
+    match plan_call(alloc, fs, view, sessions, opens, seat, call, moment, walks) {
+        Ok(plan) => complete(alloc, fs, view, opens, plan, shared),
+        Err(stop) => match stop {
+            Halt::Refused(error) => Performed::Ready(refused(alloc, shared, error)),
+            Halt::Need(need) => Performed::Need(need),
+            Halt::NoMemory => Performed::NoMemory,
+        },
+    }
+}
+
+/// Performs a call over gathered blocks.
+pub fn perform<F: FileSys, V: View>(
+    alloc: Global,
+    fs: &F,
+    view: &V,
+    sessions: &[Seat],
+    opens: &Opens,
+    caller: u8,
+    call: &Call,
+    moment: u32,
+) -> Performed
+    requires declared { caller < length sessions.now }
+    requires lawful { IsCall call.now }
+    ensures right { IsRight (V.shown view.now) sessions.now opens.now caller call.now moment result }
+    ensures needed { IsNeeded (V.shown view.now) sessions.now opens.now caller call.now result }
+    ensures fit { FitsCall sessions.now caller call.now result }
+{
+    let Some(seat) = sessions.get(usize::from(caller)) else {
+        unreachable!()
+    };
+    perform_on(
+        alloc,
+        fs,
+        view,
+        sessions,
+        opens,
+        caller,
+        call,
+        moment,
+        set_out(seat),
+    )
+}

@@ -1,0 +1,212 @@
+ghost use Rattle.std.specs.Prelude.{◌≡◌, IfOk, List, Ok, Some};
+ghost use Rattle.mb_kinds.specs.Image.{Image};
+ghost use Rattle.mb_tree.specs.Trees.{IsThere};
+ghost use Rattle.mb_tree.specs.Views.{IsPart};
+ghost use Rattle.mb_tree.specs.Volume.{IsVolume};
+ghost use Rattle.mb_tree.specs.Rows.{base_of, fstat_row, lseek_row, read_row, row};
+ghost use Rattle.mb_kinds.specs.declared.calls.Call.{Call};
+ghost use Rattle.mb_tree.specs.declared.seats.Seat.{Seat};
+ghost use Rattle.mb_tree.specs.declared.trees.Tree.{Tree};
+ghost use Rattle.mb_tree.specs.Plans.{IsPlanFor};
+ghost use Rattle.mb_calls.specs.Continuing.{BusyAlike};
+ghost use Rattle.mb_calls.specs.Following.{IsGoing};
+ghost use Rattle.mb_calls.specs.Halts.{Matches, IsOver, Needs, Says};
+ghost use Rattle.mb_calls.specs.Halts.Scope.{around, lacking};
+ghost use Rattle.mb_calls.specs.Looked.{IsLooked};
+
+use crate::asks::{bytes, find, info, place, used};
+use crate::decisions::{
+    access_asked, chdir_asked, chmod_asked, chown_asked, lseek_asked, open_asked, read_asked,
+    stat_asked, unasked, utime_asked,
+};
+use crate::halts::Halt;
+use crate::spots::{creat_spot, link_spot, mkdir_spot, rmdir_spot, unlink_spot};
+use crate::walks::PathWalks;
+use mb_iface::{FileSys, Opens, View};
+use mb_kinds::{Call, Errno, Reply, Whence};
+use mb_tree::{
+    CallPlan, PlainFile, Seat, SessionChange, answered, changing, close_row, dup_row, exit_row,
+    open_file, reads, write_row,
+};
+use std::alloc::Global;
+
+/// read(2).
+fn read_row<F: FileSys, V: View>(
+    alloc: Global,
+    fs: &F,
+    view: &V,
+    seat: &Seat,
+    fd: u16,
+    count: u16,
+) -> Result<CallPlan, Halt>
+    ensures wants { Needs (lacking (V.shown view.now)) result }
+    ensures says { Says (V.shown view.now) seat.now result (λ tree. read_row tree.nodes seat.now fd count) }
+    ensures near { (image : Image) (tree : Tree) (made : Call) → IsOver (V.shown view.now) seat.now image tree → Needs (around image tree seat.now made) result }
+    ensures ready { IfOk result (λ plan. IsPlanFor seat.now plan) }
+{
+    match open_file(seat, fd) {
+        Ok(file) if reads(file.how) => {
+            let asked = bytes(alloc, fs, view, file, count);
+            read_asked(fd, file, asked)
+        }
+        _ => Err(Halt::Refused(Errno::EBADF)),
+    }
+}
+
+/// fstat(2).
+fn fstat_row<F: FileSys, V: View>(
+    alloc: Global,
+    fs: &F,
+    view: &V,
+    seat: &Seat,
+    fd: u16,
+) -> Result<CallPlan, Halt>
+    ensures wants { Needs (lacking (V.shown view.now)) result }
+    ensures says { Says (V.shown view.now) seat.now result (λ tree. fstat_row tree.nodes seat.now fd) }
+    ensures near { (image : Image) (tree : Tree) (made : Call) → IsOver (V.shown view.now) seat.now image tree → Needs (around image tree seat.now made) result }
+    ensures ready { IfOk result (λ plan. IsPlanFor seat.now plan) }
+{
+    match open_file(seat, fd) {
+        Ok(file) => {
+            let asked = info(alloc, fs, view, file.ino);
+            stat_asked(asked)
+        }
+        Err(error) => Err(Halt::Refused(error)),
+    }
+}
+
+/// The plan of a call.
+pub fn plan_call<F: FileSys, V: View>(
+    alloc: Global,
+    fs: &F,
+    view: &V,
+    seats: &[Seat],
+    opens: &Opens,
+    seat: &Seat,
+    call: &Call,
+    moment: u32,
+    walks: PathWalks,
+) -> Result<CallPlan, Halt>
+    requires going { IsGoing (V.shown view.now) seat.now call.now walks }
+    ensures wants { Needs (lacking (V.shown view.now)) result }
+    ensures says { (image : Image) (tree : Tree) (others : List Seat) → IsOver (V.shown view.now) seat.now image tree → BusyAlike call.now opens.now seats.now others
+        → Matches result (row tree.nodes others seat.now call.now moment (Some 0)) }
+    ensures near { (image : Image) (tree : Tree) → IsOver (V.shown view.now) seat.now image tree → Needs (around image tree seat.now call.now) result }
+    ensures ready { IfOk result (λ plan. IsPlanFor seat.now plan) }
+{
+    match call {
+        Call::Open { path, how } => {
+            let asked = find(alloc, fs, view, seat, path, walks.first);
+            open_asked(seat, asked, *how)
+        }
+        Call::Creat { path, mode } => {
+            let spot = place(alloc, fs, view, seat, path, walks.first);
+            creat_spot(seat, *mode, moment, spot)
+        }
+        Call::Close { fd } => unasked(close_row(alloc, seat, *fd)),
+        Call::Read { fd, count } => read_row(alloc, fs, view, seat, *fd, *count),
+        Call::Write { fd, bytes } => unasked(write_row(alloc, seat, *fd, bytes, moment)),
+        Call::Dup { fd } => unasked(dup_row(seat, *fd)),
+        Call::Link { from, to } => {
+            let asked = find(alloc, fs, view, seat, from, walks.first);
+            let spot = place(alloc, fs, view, seat, to, walks.second);
+            link_spot(seat, moment, asked, spot)
+        }
+        Call::Unlink { path } => {
+            let spot = place(alloc, fs, view, seat, path, walks.first);
+            unlink_spot(seat, moment, spot)
+        }
+        Call::Mkdir { path, mode } => {
+            let spot = place(alloc, fs, view, seat, path, walks.first);
+            mkdir_spot(seat, *mode, moment, spot)
+        }
+        Call::Rmdir { path } => {
+            let spot = place(alloc, fs, view, seat, path, walks.first);
+            let used = used(alloc, fs, view, spot);
+            rmdir_spot(opens, seats, seat, moment, spot, used)
+        }
+        Call::Chdir { path } => {
+            let asked = find(alloc, fs, view, seat, path, walks.first);
+            chdir_asked(seat, asked)
+        }
+        Call::Stat { path } => {
+            let asked = find(alloc, fs, view, seat, path, walks.first);
+            stat_asked(asked)
+        }
+        Call::Fstat { fd } => fstat_row(alloc, fs, view, seat, *fd),
+        Call::Chmod { path, mode } => {
+            let asked = find(alloc, fs, view, seat, path, walks.first);
+            chmod_asked(seat, asked, *mode, moment)
+        }
+        Call::Chown { path, uid, gid } => {
+            let asked = find(alloc, fs, view, seat, path, walks.first);
+            chown_asked(seat, asked, *uid, *gid, moment)
+        }
+        Call::Utime { path, atime, mtime } => {
+            let asked = find(alloc, fs, view, seat, path, walks.first);
+            utime_asked(seat, asked, *atime, *mtime, moment)
+        }
+        Call::Access { path, bits } => {
+            let asked = find(alloc, fs, view, seat, path, walks.first);
+            access_asked(seat, asked, *bits)
+        }
+        Call::Umask { mask } => Ok(changing(
+            Reply::Num(u32::from(seat.umask)),
+            SessionChange::Mask {
+                mask: *mask & 0o777,
+            },
+        )),
+        Call::Sync => Ok(answered(Reply::Num(0))),
+        Call::Exit => unasked(exit_row(alloc, seat)),
+        Call::Lseek { fd, offset, whence } => lseek_row(
+            alloc, fs, view, seat, *fd, *offset, *whence,
+        ),
+    }
+}
+
+/// Where an offset counts from.
+fn base_of<F: FileSys, V: View>(
+    alloc: Global,
+    fs: &F,
+    view: &V,
+    file: PlainFile,
+    whence: Whence,
+) -> Result<u32, Halt>
+    ensures wants { Needs (lacking (V.shown view.now)) result }
+    ensures says { (image : Image) (tree : Tree) → IsPart (V.shown view.now) image.at → IsVolume image tree → IsThere tree.nodes file.ino → Matches result (Ok (base_of tree.nodes file whence)) }
+    ensures near { (image : Image) (tree : Tree) (seat : Seat) (made : Call) → IsPart (V.shown view.now) image.at → IsVolume image tree → IsThere tree.nodes file.ino → IsLooked tree.nodes seat made file.ino
+        → Needs (around image tree seat made) result }
+{
+    match whence {
+        Whence::Start => Ok(0),
+        Whence::Here => Ok(file.offset),
+        Whence::End => match info(alloc, fs, view, file.ino) {
+            Ok(stat) => Ok(stat.size),
+            Err(stop) => Err(stop),
+        },
+    }
+}
+
+/// lseek(2).
+fn lseek_row<F: FileSys, V: View>(
+    alloc: Global,
+    fs: &F,
+    view: &V,
+    seat: &Seat,
+    fd: u16,
+    by: i32,
+    whence: Whence,
+) -> Result<CallPlan, Halt>
+    ensures wants { Needs (lacking (V.shown view.now)) result }
+    ensures says { Says (V.shown view.now) seat.now result (λ tree. lseek_row tree.nodes seat.now fd by whence) }
+    ensures near { (image : Image) (tree : Tree) (made : Call) → IsOver (V.shown view.now) seat.now image tree → Needs (around image tree seat.now made) result }
+    ensures ready { IfOk result (λ plan. IsPlanFor seat.now plan) }
+{
+    match open_file(seat, fd) {
+        Ok(file) => {
+            let asked = base_of(alloc, fs, view, file, whence);
+            lseek_asked(fd, by, asked)
+        }
+        Err(error) => Err(Halt::Refused(error)),
+    }
+}

@@ -1,0 +1,167 @@
+ghost use Rattle.std.specs.Prelude.{◌≡◌, ◌<◌, ℕ, List, Option, Some, IfSome, length, slice_get};
+ghost use Rattle.mb_kinds.specs.declared.calls.Call.{Call};
+ghost use Rattle.mb_tree.specs.SessionLaws.{IsCall};
+ghost use Rattle.mb_tree.specs.declared.seats.Seat.{Seat};
+ghost use Rattle.mb_calls.specs.Following.{WalksGoOn, IsGoing, IsKept};
+ghost use Rattle.mb_calls.specs.Looked.{IsFirst, IsSecond};
+ghost use Rattle.mb_calls.specs.Performed.{FitsCall, IsNeeded, IsRight};
+
+use crate::performing::{Performed, perform_on};
+use crate::walks::{PathWalk, PathWalks, follow, set_out};
+use mb_iface::{FileSys, Opens, View};
+use mb_kinds::{Call, Path};
+use mb_tree::Seat;
+use std::alloc::Global;
+
+/// A call that is performed while its blocks are gathered. Where it goes on it keeps how far its paths were followed.
+#[derive(Clone, Copy, Debug, Drop)]
+pub struct Performing {
+    pub walks: PathWalks,
+}
+
+/// A call that begins.
+pub fn start(seat: &Seat) -> Performing
+    ensures { (shown : ℕ → Option (List ℕ)) (made : Call) → IsGoing shown seat.now made result.walks }
+{
+    Performing {
+        walks: set_out(seat),
+    }
+}
+
+/// A call goes on over a view that only grew.
+pub fn walks_go_on()
+    ensures { WalksGoOn }
+{}
+
+/// The walk of a path, as far as the view has the blocks for it.
+fn farther<F: FileSys, V: View>(
+    alloc: Global,
+    fs: &F,
+    view: &V,
+    seat: &Seat,
+    path: &Path,
+    walk: PathWalk,
+) -> PathWalk
+    requires kept { IsKept (V.shown view.now) seat.now path.now walk }
+    ensures { IsKept (V.shown view.now) seat.now path.now result }
+{
+    let mut further = walk;
+    match follow(alloc, fs, view, seat, path, &mut further) {
+        _ => further,
+    }
+}
+
+/// The first path of a call.
+fn first_path(call: &Call) -> Option<&Path>
+    ensures { IfSome result (λ path. IsFirst call.now path.now) }
+{
+    match call {
+        Call::Open { path, .. }
+        | Call::Creat { path, .. }
+        | Call::Unlink { path }
+        | Call::Mkdir { path, .. }
+        | Call::Rmdir { path }
+        | Call::Chdir { path }
+        | Call::Stat { path }
+        | Call::Chmod { path, .. }
+        | Call::Chown { path, .. }
+        | Call::Utime { path, .. }
+        | Call::Access { path, .. } => Some(path),
+        Call::Link { from, .. } => Some(from),
+        _ => None,
+    }
+}
+
+/// The second path of a call.
+fn second_path(call: &Call) -> Option<&Path>
+    ensures { IfSome result (λ path. IsSecond call.now path.now) }
+{
+    match call {
+        Call::Link { to, .. } => Some(to),
+        _ => None,
+    }
+}
+
+/// The first walk of a call.
+fn first_on<F: FileSys, V: View>(
+    alloc: Global,
+    fs: &F,
+    view: &V,
+    seat: &Seat,
+    call: &Call,
+    walk: PathWalk,
+) -> PathWalk
+    requires kept { (path : List ℕ) → IsFirst call.now path → IsKept (V.shown view.now) seat.now path walk }
+    ensures { (path : List ℕ) → IsFirst call.now path → IsKept (V.shown view.now) seat.now path result }
+{
+    match first_path(call) {
+        Some(path) => farther(alloc, fs, view, seat, path, walk),
+        None => walk,
+    }
+}
+
+/// The second walk of a call.
+fn second_on<F: FileSys, V: View>(
+    alloc: Global,
+    fs: &F,
+    view: &V,
+    seat: &Seat,
+    call: &Call,
+    walk: PathWalk,
+) -> PathWalk
+    requires kept { (path : List ℕ) → IsSecond call.now path → IsKept (V.shown view.now) seat.now path walk }
+    ensures { (path : List ℕ) → IsSecond call.now path → IsKept (V.shown view.now) seat.now path result }
+{
+    match second_path(call) {
+        Some(path) => farther(alloc, fs, view, seat, path, walk),
+        None => walk,
+    }
+}
+
+/// The walks of a call, as far as the view has the blocks for them.
+fn advance<F: FileSys, V: View>(
+    alloc: Global,
+    fs: &F,
+    view: &V,
+    seat: &Seat,
+    call: &Call,
+    walks: PathWalks,
+) -> PathWalks
+    requires going { IsGoing (V.shown view.now) seat.now call.now walks }
+    ensures { IsGoing (V.shown view.now) seat.now call.now result }
+{
+    let first = first_on(alloc, fs, view, seat, call, walks.first);
+    let second = second_on(alloc, fs, view, seat, call, walks.second);
+    PathWalks { first, second }
+}
+
+impl Performing {
+    /// Performs a call over the blocks gathered so far, from where it stopped over fewer of them.
+    pub fn go<F: FileSys, V: View>(
+        &mut self,
+        alloc: Global,
+        fs: &F,
+        view: &V,
+        sessions: &[Seat],
+        opens: &Opens,
+        caller: u8,
+        call: &Call,
+        moment: u32,
+    ) -> Performed
+        requires declared { caller < length sessions.now }
+        requires lawful { IsCall call.now }
+        requires going { (seat : Seat) → slice_get sessions.now caller ≡ Some seat → IsGoing (V.shown view.now) seat call.now self.old.walks }
+        ensures going { (seat : Seat) → slice_get sessions.now caller ≡ Some seat → IsGoing (V.shown view.now) seat call.now self.new.walks }
+        ensures right { IsRight (V.shown view.now) sessions.now opens.now caller call.now moment result }
+        ensures needed { IsNeeded (V.shown view.now) sessions.now opens.now caller call.now result }
+        ensures fit { FitsCall sessions.now caller call.now result }
+    {
+        let Some(seat) = sessions.get(usize::from(caller)) else {
+            unreachable!()
+        };
+        self.walks = advance(alloc, fs, view, seat, call, self.walks);
+        perform_on(
+            alloc, fs, view, sessions, opens, caller, call, moment, self.walks,
+        )
+    }
+}

@@ -1,0 +1,235 @@
+ghost use Rattle.std.specs.Prelude.{◌≡◌, ◌≤◌, ◌-◌, ℕ, List, Option, IfOk, IfSome, drop, length, take};
+ghost use Rattle.mb_kinds.specs.Image.{Image};
+ghost use Rattle.mb_kinds.specs.declared.calls.Call.{Call};
+ghost use Rattle.mb_tree.specs.Lookup.{find_path, find_place};
+ghost use Rattle.mb_tree.specs.Trees.{IsDirectoryAt};
+ghost use Rattle.mb_tree.specs.Views.{IsPart};
+ghost use Rattle.mb_tree.specs.Volume.{IsVolume};
+ghost use Rattle.mb_tree.specs.declared.trees.Tree.{Tree};
+ghost use Rattle.mb_calls.specs.Following.{AsksNear, IsCut, IsGoing, IsKept, HaltsOn};
+ghost use Rattle.mb_calls.specs.Halts.{Matches, IsOver, Needs, Says};
+ghost use Rattle.mb_calls.specs.Halts.Scope.{lacking};
+
+use crate::halts::Halt;
+use mb_iface::{Answer, Asked, FileSys, Query, View};
+use mb_kinds::{Cred, Errno, Path, Stat};
+use mb_tree::{Placed, Seat, is_directory};
+use std::alloc::{AllocError, Global};
+
+/// How far a path has been followed: a directory on its way, and where in the path the rest begins.
+#[derive(Clone, Copy, Debug, Drop)]
+pub struct PathWalk {
+    pub dir: u16,
+    pub from: usize,
+}
+
+/// The walks of a call's paths; only link(2) has a second one.
+#[derive(Clone, Copy, Debug, Drop)]
+pub struct PathWalks {
+    pub first: PathWalk,
+    pub second: PathWalk,
+}
+
+/// The walks of a call that begins.
+pub fn set_out(seat: &Seat) -> PathWalks
+    ensures { (shown : ℕ → Option (List ℕ)) (made : Call) → IsGoing shown seat.now made result }
+{
+    PathWalks {
+        first: begin(seat),
+        second: begin(seat),
+    }
+}
+
+/// Where a path begins.
+pub fn begin(seat: &Seat) -> PathWalk
+    ensures { (shown : ℕ → Option (List ℕ)) (path : List ℕ) → IsKept shown seat.now path result }
+{
+    PathWalk {
+        dir: seat.cwd,
+        from: 0,
+    }
+}
+
+/// Where the component after the next one begins.
+fn cut(path: &[u8], from: usize) -> Option<usize>
+    ensures { IfSome result (λ next. IsCut path.now from next) }
+{
+    for at in 2..path.len() {
+        if at - 2 >= from && path[at - 1] == 47 && path[at] != 47 {
+            return Some(at);
+        }
+    }
+    None
+}
+
+/// A part of a path.
+fn piece(alloc: Global, path: &Path, from: usize, to: usize) -> Result<Path, AllocError>
+    requires order { from ≤ to }
+    requires within { to ≤ length path.now }
+    ensures { IfOk result (λ piece. piece ≡ take (to - from) (drop from path.now)) }
+{
+    let bytes = Vec::from_slice(alloc, &path.as_slice()[from..to])?;
+    Ok(Path::from_vec(bytes))
+}
+
+/// The rest of a path.
+fn rest_of(alloc: Global, path: &Path, from: usize) -> Result<Path, AllocError>
+    requires { from ≤ length path.now }
+    ensures { IfOk result (λ rest. rest ≡ drop from path.now) }
+{
+    let bytes = Vec::from_slice(alloc, &path.as_slice()[from..])?;
+    Ok(Path::from_vec(bytes))
+}
+
+/// The inode to which a path leads from a directory.
+fn find_at<F: FileSys, V: View>(
+    alloc: Global,
+    fs: &F,
+    view: &V,
+    dir: u16,
+    cred: Cred,
+    path: Path,
+) -> Result<Stat, Halt>
+    ensures wants { Needs (lacking (V.shown view.now)) result }
+    ensures says { (image : Image) (tree : Tree) → IsPart (V.shown view.now) image.at → IsVolume image tree → IsDirectoryAt tree.nodes dir → Matches result (find_path tree.nodes cred dir path) }
+    ensures near { (image : Image) (tree : Tree) → IsPart (V.shown view.now) image.at → IsVolume image tree → IsDirectoryAt tree.nodes dir → AsksNear image tree cred dir path result }
+{
+    let query = Query::Find {
+        cwd: dir,
+        cred,
+        path,
+    };
+    match fs.ask(alloc, view, &query) {
+        Asked::Found(Answer::Node(stat)) => Ok(stat),
+        Asked::Found(_) => Err(Halt::NoMemory),
+        Asked::Refused(error) => Err(Halt::Refused(error)),
+        Asked::Need(need) => Err(Halt::Need(need)),
+        Asked::NoMemory => Err(Halt::NoMemory),
+    }
+}
+
+/// One component further.
+fn step<F: FileSys, V: View>(
+    alloc: Global,
+    fs: &F,
+    view: &V,
+    seat: &Seat,
+    path: &Path,
+    walk: PathWalk,
+    next: usize,
+) -> Result<PathWalk, Halt>
+    requires kept { IsKept (V.shown view.now) seat.now path.now walk }
+    requires cut { IsCut path.now walk.from next }
+    ensures kept { IfOk result (λ walk. IsKept (V.shown view.now) seat.now path.now walk) }
+    ensures wants { Needs (lacking (V.shown view.now)) result }
+    ensures finds { (image : Image) (tree : Tree) → IsOver (V.shown view.now) seat.now image tree → HaltsOn result (find_path tree.nodes seat.now.cred seat.now.cwd path.now) }
+    ensures places { (image : Image) (tree : Tree) → IsOver (V.shown view.now) seat.now image tree → HaltsOn result (find_place tree.nodes seat.now.cred seat.now.cwd path.now) }
+    ensures near { (image : Image) (tree : Tree) → IsOver (V.shown view.now) seat.now image tree → AsksNear image tree seat.now.cred seat.now.cwd path.now result }
+{
+    let head = piece(alloc, path, walk.from, next - 1)?;
+    match find_at(alloc, fs, view, walk.dir, seat.cred, head) {
+        Ok(stat) => {
+            if is_directory(stat.mode) {
+                Ok(PathWalk {
+                    dir: stat.ino,
+                    from: next,
+                })
+            } else {
+                Err(Halt::Refused(Errno::ENOTDIR))
+            }
+        }
+        Err(stop) => Err(stop),
+    }
+}
+
+/// Continues a path to the directory of its last component, as far as the view has the blocks for it.
+pub fn follow<F: FileSys, V: View>(
+    alloc: Global,
+    fs: &F,
+    view: &V,
+    seat: &Seat,
+    path: &Path,
+    walk: &mut PathWalk,
+) -> Result<(), Halt>
+    requires kept { IsKept (V.shown view.now) seat.now path.now walk.old }
+    ensures kept { IsKept (V.shown view.now) seat.now path.now walk.new }
+    ensures wants { Needs (lacking (V.shown view.now)) result }
+    ensures finds { (image : Image) (tree : Tree) → IsOver (V.shown view.now) seat.now image tree → HaltsOn result (find_path tree.nodes seat.now.cred seat.now.cwd path.now) }
+    ensures places { (image : Image) (tree : Tree) → IsOver (V.shown view.now) seat.now image tree → HaltsOn result (find_place tree.nodes seat.now.cred seat.now.cwd path.now) }
+    ensures near { (image : Image) (tree : Tree) → IsOver (V.shown view.now) seat.now image tree → AsksNear image tree seat.now.cred seat.now.cwd path.now result }
+{
+    for _ in 0..path.as_slice().len() {
+        let Some(next) = cut(path.as_slice(), walk.from) else {
+            return Ok(());
+        };
+        match step(alloc, fs, view, seat, path, *walk, next) {
+            Ok(further) => *walk = further,
+            Err(stop) => return Err(stop),
+        }
+    }
+    Ok(())
+}
+
+/// The place of a path from a directory.
+fn place_at<F: FileSys, V: View>(
+    alloc: Global,
+    fs: &F,
+    view: &V,
+    dir: u16,
+    cred: Cred,
+    path: Path,
+) -> Result<Placed, Halt>
+    ensures wants { Needs (lacking (V.shown view.now)) result }
+    ensures says { (image : Image) (tree : Tree) → IsPart (V.shown view.now) image.at → IsVolume image tree → IsDirectoryAt tree.nodes dir → Matches result (find_place tree.nodes cred dir path) }
+    ensures near { (image : Image) (tree : Tree) → IsPart (V.shown view.now) image.at → IsVolume image tree → IsDirectoryAt tree.nodes dir → AsksNear image tree cred dir path result }
+{
+    let query = Query::Place {
+        cwd: dir,
+        cred,
+        path,
+    };
+    match fs.ask(alloc, view, &query) {
+        Asked::Found(Answer::Itself(ino)) => Ok(Placed::Itself(ino)),
+        Asked::Found(Answer::Place { dir, name, ino }) => Ok(Placed::At { dir, name, ino }),
+        Asked::Found(_) => Err(Halt::NoMemory),
+        Asked::Refused(error) => Err(Halt::Refused(error)),
+        Asked::Need(need) => Err(Halt::Need(need)),
+        Asked::NoMemory => Err(Halt::NoMemory),
+    }
+}
+
+/// The rest of a walk.
+pub fn find_rest<F: FileSys, V: View>(
+    alloc: Global,
+    fs: &F,
+    view: &V,
+    seat: &Seat,
+    path: &Path,
+    walk: PathWalk,
+) -> Result<Stat, Halt>
+    requires kept { IsKept (V.shown view.now) seat.now path.now walk }
+    ensures wants { Needs (lacking (V.shown view.now)) result }
+    ensures says { Says (V.shown view.now) seat.now result (λ tree. find_path tree.nodes seat.now.cred seat.now.cwd path.now) }
+    ensures near { (image : Image) (tree : Tree) → IsOver (V.shown view.now) seat.now image tree → AsksNear image tree seat.now.cred seat.now.cwd path.now result }
+{
+    let rest = rest_of(alloc, path, walk.from)?;
+    find_at(alloc, fs, view, walk.dir, seat.cred, rest)
+}
+
+/// The rest of a walk.
+pub fn place_rest<F: FileSys, V: View>(
+    alloc: Global,
+    fs: &F,
+    view: &V,
+    seat: &Seat,
+    path: &Path,
+    walk: PathWalk,
+) -> Result<Placed, Halt>
+    requires kept { IsKept (V.shown view.now) seat.now path.now walk }
+    ensures wants { Needs (lacking (V.shown view.now)) result }
+    ensures says { Says (V.shown view.now) seat.now result (λ tree. find_place tree.nodes seat.now.cred seat.now.cwd path.now) }
+    ensures near { (image : Image) (tree : Tree) → IsOver (V.shown view.now) seat.now image tree → AsksNear image tree seat.now.cred seat.now.cwd path.now result }
+{
+    let rest = rest_of(alloc, path, walk.from)?;
+    place_at(alloc, fs, view, walk.dir, seat.cred, rest)
+}
