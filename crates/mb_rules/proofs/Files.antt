@@ -77,14 +77,14 @@ module _ (blocks : ℕ → List ℕ) where
   abbrev pub own_items : ℕ → ℕ → List Item
   own_items ino place = address_items blocks (place - 9) (inode_block ino) (own ino place)
 
-  abbrev last_items : ℕ → List Item
+  abbrev pub last_items : ℕ → List Item
   last_items ino = if is_directory (mode_at blocks ino) then Holds (are_parts blocks ino) (inode_block ino) 8 ∷ [] else []
 
-  not_false : (b : Bool) → not b ≡ true → b ≡ false
+  pub not_false : (b : Bool) → not b ≡ true → b ≡ false
   not_false true h = absurd (cc)
   not_false false h = refl
 
-  inode_splits : (ino : ℕ) → is_addressed blocks ino ≡ true
+  pub inode_splits : (ino : ℕ) → is_addressed blocks ino ≡ true
       → inode_items blocks ino ≡ Holds (is_kind (mode_at blocks ino)) (inode_block ino) 5 ∷ Holds (is_size (mode_at blocks ino) (size_at blocks ino)) (inode_block ino) 8 ∷ (area_items blocks ino ++ last_items ino)
   inode_splits ino h =
       let two = both (not (nat_eq (mode_at blocks ino) 0)) (not (is_special (mode_at blocks ino))) h in

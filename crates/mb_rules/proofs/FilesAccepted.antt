@@ -23,7 +23,7 @@ use Rattle.mb_rules.proofs.Files.{extend, own, own_items, at_extended}
 abbrev pub IsOnce : List Item → Type 0
 IsOnce items = (met : List ℕ) → IsDistinct nat_eq met → ((x : ℕ) → claimed items x ≡ true → is_met met x ≡ false) → IsDistinct nat_eq (met_after met items)
 
-not_true : (b : Bool) → (b ≡ true → ⊥) → b ≡ false
+pub not_true : (b : Bool) → (b ≡ true → ⊥) → b ≡ false
 not_true true never = absurd (never refl)
 not_true false never = refl
 
@@ -99,7 +99,7 @@ level_extended blocks p levels [] same way = same
 level_extended blocks p zero (k ∷ ks) same way = absurd way
 level_extended blocks p (suc levels) (k ∷ ks) same way = level_extended blocks (Under p k) levels ks (omega arith) way.1
 
-place_extended : (has : ℕ → Bool) (p : Place) (levels : ℕ) (ks : List ℕ) → level p ≡ levels → IsPlace has p → IsWay levels ks → IsPlace has (extend p ks)
+pub place_extended : (has : ℕ → Bool) (p : Place) (levels : ℕ) (ks : List ℕ) → level p ≡ levels → IsPlace has p → IsWay levels ks → IsPlace has (extend p ks)
 place_extended has p levels [] same is way = is
 place_extended has p zero (k ∷ ks) same is way = absurd way
 place_extended has p (suc levels) (k ∷ ks) same is way = place_extended has (Under p k) levels ks (omega arith) (is, omega arith, way.0) way.1

@@ -36,8 +36,8 @@ links_shown : (skip : ℕ) (blocks : ℕ → List ℕ) (tree : Tree) → ShowsSl
     → links_past skip tree ino ≡ sum_below (λ dir. count_by (leads_to ino) (drop skip (slots_at blocks dir))) (last_inode blocks + 1)
 links_shown skip blocks tree shows ino =
     ap (sum_below (λ dir. links_at skip ino (fin.get tree.nodes dir))) (ap (λ n. n + 1) shows.last)
-    ∙ sum_same (λ dir. count_by (leads_to ino) (drop skip (slots_at blocks dir))) (λ dir. links_at skip ino (fin.get tree.nodes dir)) (last_inode blocks + 1)
-    (λ dir small. node_links skip ino (fin.get tree.nodes dir) ∙ ap (λ slots. count_by (leads_to ino) (drop skip slots)) (shows.slots dir))
+      ∙ sum_same (λ dir. count_by (leads_to ino) (drop skip (slots_at blocks dir))) (λ dir. links_at skip ino (fin.get tree.nodes dir)) (last_inode blocks + 1)
+      (λ dir small. node_links skip ino (fin.get tree.nodes dir) ∙ ap (λ slots. count_by (leads_to ino) (drop skip slots)) (shows.slots dir (omega (arith, small))))
 
 pub counts_links : CountsLinks
 counts_links blocks tree shows ino = (links_shown 0 blocks tree shows ino, links_shown 2 blocks tree shows ino)
@@ -114,7 +114,7 @@ some_late (suc n) h = omega arith
 
 module _ (blocks : ℕ → List ℕ) (tree : Tree) (shows : ShowsSlots blocks tree) (numbers : (i : ℕ) (node : Node) → fin.get tree.nodes i ≡ Some node → i ≤ tree.last) where
   slots_of_node : (dir : ℕ) (node : Node) (slots : List PlainSlot) → fin.get tree.nodes dir ≡ Some node → node.body ≡ Directory slots → slots ≡ slots_at blocks dir
-  slots_of_node dir node slots has body = sym (ap body_slots body) ∙ sym (ap node_slots has) ∙ shows.slots dir
+  slots_of_node dir node slots has body = sym (ap body_slots body) ∙ sym (ap node_slots has) ∙ shows.slots dir (let low = numbers dir node has in let same = shows.last in omega (arith, low, same))
 
   leads_late : (dir at ino : ℕ) → Leads tree.nodes dir at ino → 0 < late_from blocks ino dir
   leads_late dir at ino leads =
@@ -148,7 +148,7 @@ module _ (blocks : ℕ → List ℕ) (tree : Tree) (shows : ShowsSlots blocks tr
             let dir : ℕ = found.0 in
             let two = both (is_reached blocks steps dir) (not (nat_eq (late_from blocks ino dir) 0)) found.3 in
             let many : 0 < late_from blocks ino dir = some_late (late_from blocks ino dir) two.1 in
-            let shown : 0 < count_by (leads_to ino) (drop 2 (node_slots (fin.get tree.nodes dir))) = subst (λ slots. 0 < count_by (leads_to ino) (drop 2 slots)) (sym (shows.slots dir)) many in
+            let shown : 0 < count_by (leads_to ino) (drop 2 (node_slots (fin.get tree.nodes dir))) = subst (λ slots. 0 < count_by (leads_to ino) (drop 2 slots)) (sym (shows.slots dir (let below = found.2 in omega (arith, below)))) many in
             let node = has_slots (fin.get tree.nodes dir) (longer (leads_to ino) _ shown) in
             let same = slots_of_node dir node.node node.slots node.has node.body in
             let place = late_in (leads_to ino) node.slots (subst (λ slots. 0 < count_by (leads_to ino) (drop 2 slots)) (sym same) many) in

@@ -20,10 +20,10 @@ abbrev pub node_slots : Option Node → List PlainSlot
 node_slots None = []
 node_slots (Some node) = body_slots node.body
 
--- the tree's directories are those that the bytes show
+-- the tree's directories are those that the bytes show; past the last inode stand the blocks of files
 pub record ShowsSlots (blocks : ℕ → List ℕ) (tree : Tree) : Type 0 where
   pub last : tree.last ≡ last_inode blocks
-  pub slots : (ino : ℕ) → node_slots (fin.get tree.nodes ino) ≡ slots_at blocks ino
+  pub slots : (ino : ℕ) → ino ≤ last_inode blocks → node_slots (fin.get tree.nodes ino) ≡ slots_at blocks ino
 
 abbrev pub CountsLinks : Type 0
 CountsLinks = (blocks : ℕ → List ℕ) (tree : Tree) → ShowsSlots blocks tree → (ino : ℕ) → (links tree ino ≡ all_to blocks ino) × (links_past 2 tree ino ≡ late_to blocks ino)

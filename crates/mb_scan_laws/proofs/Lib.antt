@@ -1,0 +1,4 @@
+pub mod Claims
+pub mod Costs
+pub mod ModeTests
+pub mod Modes
