@@ -1,4 +1,5 @@
 pub mod Freeing
 pub mod Inodes
 pub mod Numbers
+pub mod Scanning
 pub mod Taking

@@ -4,10 +4,12 @@
 mod frees;
 mod inodes;
 mod numbers;
+mod picks;
 mod takes;
 mod writes;
 
 pub use frees::{Hung, free_block};
 pub use inodes::free_inode;
-pub use numbers::{Freedom, Picked, pick_cached, tell_free};
+pub use numbers::{Freedom, tell_free};
+pub use picks::{Picked, pick_inode};
 pub use takes::{Taken, take_block, take_zeroed};
