@@ -14,6 +14,7 @@ use Rattle.mb_iface.specs.Changed.{put_block}
 use Rattle.mb_iface.proofs.ChangedBlocks.{put_block_same, put_block_other}
 use Rattle.mb_blocks.specs.FreeLists.{IsSameList, IsFreed, pushed, ended, emptied, after_freeing}
 use Rattle.mb_blocks.specs.Rules.{KeepsRules}
+use Rattle.mb_alloc.specs.Freeing.{IsPutBack}
 
 -- the list that is left, by the count before
 after_none : (it : Listed) (block : ℕ) → it.count ≡ 0 → after_freeing it block ≡ pushed ended block
@@ -164,3 +165,10 @@ freed_full old new count block z held one two keeps reads full real small zs e1 
       back = off 208 304 (inr (omega arith));
       others = λ other apart beside. ap (λ f. f other) wrote ∙ put_block_other (put_block old block held) 1 two other apart ∙ put_block_other old block held other beside;
     }
+
+-- a list that had room leaves the block's own bytes
+pub put_back : (old new : ℕ → List ℕ) (block : ℕ) (bytes : List ℕ) → 1 < block → new ≡ put_block old 1 bytes → IsFreed old new block → IsPutBack old new block
+put_back old new block bytes real wrote freed = record { freed = freed; kept = λ room. ap (λ f. f block) wrote ∙ put_block_other old 1 bytes block (omega (arith, real)) }
+
+pub put_back_full : (old new : ℕ → List ℕ) (count block : ℕ) → count ≡ word_at (old 1) 6 → count ≡ 50 → IsFreed old new block → IsPutBack old new block
+put_back_full old new count block reads full freed = record { freed = freed; kept = λ room. absurd (room (sym reads ∙ full)) }

@@ -17,6 +17,7 @@ use Rattle.mb_iface.proofs.ChangedBlocks.{put_block_same, put_block_other}
 use Rattle.mb_blocks.specs.Rules.{KeepsRules}
 use Rattle.mb_alloc.specs.Numbers.{is_free_number, cached_below, cached_in, free_below, free_numbers, pick_from, pick_of, IsCacheSet, Picks, PicksCached}
 use Rattle.mb_alloc.specs.Scanning.{words_back, PicksListed}
+use Rattle.mb_alloc.specs.Worked.{NoneFree, PickWorked}
 use Rattle.mb_alloc.specs.declared.picks.Picked.{Picked}
 use Rattle.mb_alloc.specs.declared.picks.Picked.TheVariants as picked
 
@@ -241,3 +242,32 @@ picks_rest shown old mid new picked.NoneLeft none listed =
     (let l = subst (λ m. PicksListed shown m new picked.NoneLeft) none.0 listed in (l.0, λ blocks part keeps. none_free (over blocks (changed old)) (l.1 blocks part keeps)))
 picks_rest shown old mid new (picked.Need need) none listed = subst (λ m. PicksListed shown m new (picked.Need need)) none.0 listed
 picks_rest shown old mid new picked.NoMemory none listed = listed ∙ none.0
+
+-- no number is picked exactly where none is free
+pick_none : (free : ℕ → Bool) (xs : List ℕ) → ((k : ℕ) → free k ≡ false) → pick_from free xs ≡ None
+pick_none free [] none = refl
+pick_none free (x ∷ xs) none = ap (λ b. cond b (Some (x, xs)) (pick_from free xs)) (none x) ∙ pick_none free xs none
+
+either_none : (o p : Option (ℕ × List ℕ)) → option_or o p ≡ None → p ≡ None
+either_none None p e = e
+either_none (Some x) p e = cc
+
+not_none : (pick : ℕ × List ℕ) (xs : List ℕ) → Some pick ≡ None → xs ≡ []
+not_none pick xs e = cc
+
+none_listed : (blocks : ℕ → List ℕ) (xs : List ℕ) → free_numbers blocks ≡ xs → pick_from (is_free_number blocks) xs ≡ None → xs ≡ []
+none_listed blocks [] is none = refl
+none_listed blocks (x ∷ xs) is none =
+    let t = ap (λ b. cond b (Some (x, xs)) (pick_from (is_free_number blocks) xs)) (first_free blocks x xs is) in
+    not_none (x, xs) (x ∷ xs) (sym t ∙ none)
+
+pub none_picked : NoneFree
+none_picked blocks = (
+  λ none. none_free blocks (none_listed blocks (free_numbers blocks) refl (either_none (pick_from (is_free_number blocks) (cached_in blocks)) (pick_from (is_free_number blocks) (free_numbers blocks)) none)),
+  λ none. ap (λ o. option_or o (pick_from (is_free_number blocks) (free_numbers blocks))) (pick_none (is_free_number blocks) (cached_in blocks) none)
+      ∙ pick_none (is_free_number blocks) (free_numbers blocks) none,
+)
+
+pub worked : PickWorked
+unfolding word_at
+worked = record { cached = refl; last = refl; passed = refl; used_up = refl; listed = refl }

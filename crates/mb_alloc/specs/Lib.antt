@@ -3,3 +3,4 @@ pub mod Inodes
 pub mod Numbers
 pub mod Scanning
 pub mod Taking
+pub mod Worked
