@@ -1,14 +1,14 @@
 -- A block put back on the free chain: on an empty list, on a full one, and on any other.
-use Rattle.std.proofs.Common.{ℕ, ◌≡◌, ◌≢◌, ◌+◌, ◌-◌, ◌*◌, ◌<◌, ◌≤◌, ◌⊎◌, inl, inr, Bool, true, false, List, [], ◌∷◌, length, take, drop, get_or, refl, sym, ap, subst, ◌∙◌, arith, nat_eq, cond}
+use Rattle.std.proofs.Common.{ℕ, ◌≡◌, ◌≢◌, ◌+◌, ◌*◌, ◌<◌, ◌≤◌, ◌⊎◌, inl, inr, true, false, List, [], ◌∷◌, length, take, drop, get_or, sym, ap, subst, ◌∙◌, arith, nat_eq, cond}
 use Rattle.std.proofs.lemmas.Bool.{cases_eq}
 use Rattle.std.proofs.lemmas.Bool.Decides.{nat_tests}
 use Rattle.std.proofs.lemmas.List.{get_or-take, get_or-drop}
 use Rattle.mb_word.specs.Numbers.{word_at, long_at, put_at, word_bytes, long_bytes, SameFrom}
-use Rattle.mb_word.specs.Fields.{nfree_of, free_of, chain_count}
+use Rattle.mb_word.specs.Fields.{nfree_of}
 use Rattle.mb_word.proofs.Writes.{put_at_same, put_at_in, length-put_at}
 use Rattle.mb_word.proofs.Values.{word_back, long_back, word_at-same, long_at-same, length-word_bytes, length-long_bytes}
-use Rattle.mb_layout.proofs.Steps.{Alike, word_alike, long_alike}
-use Rattle.mb_tree.specs.Blocks.{first_list, list_in}
+use Rattle.mb_layout.proofs.Steps.{word_alike, long_alike}
+use Rattle.mb_tree.specs.Blocks.{first_list}
 use Rattle.mb_tree.specs.Chain.{Listed}
 use Rattle.mb_iface.specs.Changed.{put_block}
 use Rattle.mb_iface.proofs.ChangedBlocks.{put_block_same, put_block_other}

@@ -1,12 +1,12 @@
 -- The i-list scanned for free numbers (V7 filsys(5)).
-use Rattle.std.specs.Prelude.{List, [], ◌∷◌, ℕ, zero, suc, ◌+◌, ◌-◌, ◌*◌, ◌<◌, ◌≤◌, ◌≡◌, ◌⊎◌, Option, length, take, ◌++◌, false}
+use Rattle.std.specs.Prelude.{List, [], ◌∷◌, ℕ, zero, suc, ◌-◌, ◌*◌, ◌<◌, ◌≤◌, ◌≡◌, ◌⊎◌, Option}
 use Rattle.mb_word.specs.Fields.{isize_of}
 use Rattle.mb_word.specs.Numbers.{word_at}
 use Rattle.mb_tree.specs.Views.{over, IsPart}
 use Rattle.mb_iface.specs.Changed.{ChangeList, changed, IsWithinView}
 use Rattle.mb_iface.specs.Needs.{IsNeed}
 use Rattle.mb_blocks.specs.Rules.{KeepsRules}
-use Rattle.mb_alloc.specs.Numbers.{is_free_number, free_below, free_numbers, pick_from, IsCacheSet}
+use Rattle.mb_alloc.specs.Numbers.{free_numbers, IsCacheSet}
 use Rattle.mb_alloc.specs.declared.numbers.Scanned.{Scanned}
 use Rattle.mb_alloc.specs.declared.numbers.Scanned.TheVariants as scanned
 use Rattle.mb_alloc.specs.declared.picks.Picked.{Picked}

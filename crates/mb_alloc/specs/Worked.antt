@@ -1,6 +1,5 @@
 -- The pick of a number: when there is none, and worked examples of the cache and of a scan.
-use Rattle.std.specs.Prelude.{List, [], ◌∷◌, ◌++◌, ℕ, ◌≡◌, ◌↔◌, Option, Some, None, Bool, true, false, cond, nat_eq, nat_lt, replicate}
-use Rattle.mb_blocks.specs.Rules.{KeepsRules}
+use Rattle.std.specs.Prelude.{List, [], ◌∷◌, ◌++◌, ℕ, ◌≡◌, ◌↔◌, Some, None, false, cond, nat_eq, nat_lt, replicate}
 use Rattle.mb_alloc.specs.Numbers.{is_free_number, cached_below, pick_from, free_below, pick_of}
 
 -- no number is picked exactly where none is free

@@ -1,6 +1,6 @@
-use Rattle.std.proofs.Common.{refl, sym, ap, subst, IsSome, ◌∙◌, ◌+◌, ◌*◌, ◌-◌, ◌/◌, ◌%◌, ◌∷◌, [], take, drop, length, ℕ, replicate, arith}
+use Rattle.std.proofs.Common.{refl, sym, ap, subst, IsSome, ◌∙◌, take, drop, ℕ, replicate, arith}
 use Rattle.std.proofs.lemmas.List.{length-replicate}
-use Rattle.mb_word.specs.Numbers.{word_at, long_at, put_at, word_bytes}
+use Rattle.mb_word.specs.Numbers.{word_at, put_at, word_bytes}
 use Rattle.mb_tree.specs.Views.{over}
 use Rattle.mb_iface.specs.Changed.{changed}
 use Rattle.mb_alloc.proofs.Takings.{too_many}
