@@ -1,19 +1,20 @@
 -- A block put back on the free chain: on an empty list, on a full one, and on any other.
-use Rattle.std.proofs.Common.{ℕ, ◌≡◌, ◌≢◌, ◌+◌, ◌-◌, ◌*◌, ◌<◌, ◌≤◌, ◌⊎◌, inl, inr, Bool, true, false, List, [], ◌∷◌, length, take, drop, get_or, refl, sym, ap, subst, ◌∙◌, arith, nat_eq, cond}
+use Rattle.std.proofs.Common.{ℕ, ◌≡◌, ◌≢◌, ◌+◌, ◌*◌, ◌<◌, ◌≤◌, ◌⊎◌, inl, inr, true, false, List, [], ◌∷◌, length, take, drop, get_or, sym, ap, subst, ◌∙◌, arith, nat_eq, cond}
 use Rattle.std.proofs.lemmas.Bool.{cases_eq}
 use Rattle.std.proofs.lemmas.Bool.Decides.{nat_tests}
 use Rattle.std.proofs.lemmas.List.{get_or-take, get_or-drop}
 use Rattle.mb_word.specs.Numbers.{word_at, long_at, put_at, word_bytes, long_bytes, SameFrom}
-use Rattle.mb_word.specs.Fields.{nfree_of, free_of, chain_count}
+use Rattle.mb_word.specs.Fields.{nfree_of}
 use Rattle.mb_word.proofs.Writes.{put_at_same, put_at_in, length-put_at}
 use Rattle.mb_word.proofs.Values.{word_back, long_back, word_at-same, long_at-same, length-word_bytes, length-long_bytes}
-use Rattle.mb_layout.proofs.Steps.{Alike, word_alike, long_alike}
-use Rattle.mb_tree.specs.Blocks.{first_list, list_in}
+use Rattle.mb_layout.proofs.Steps.{word_alike, long_alike}
+use Rattle.mb_tree.specs.Blocks.{first_list}
 use Rattle.mb_tree.specs.Chain.{Listed}
 use Rattle.mb_iface.specs.Changed.{put_block}
 use Rattle.mb_iface.proofs.ChangedBlocks.{put_block_same, put_block_other}
 use Rattle.mb_blocks.specs.FreeLists.{IsSameList, IsFreed, pushed, ended, emptied, after_freeing}
 use Rattle.mb_blocks.specs.Rules.{KeepsRules}
+use Rattle.mb_alloc.specs.Freeing.{IsPutBack}
 
 -- the list that is left, by the count before
 after_none : (it : Listed) (block : ℕ) → it.count ≡ 0 → after_freeing it block ≡ pushed ended block
@@ -164,3 +165,10 @@ freed_full old new count block z held one two keeps reads full real small zs e1 
       back = off 208 304 (inr (omega arith));
       others = λ other apart beside. ap (λ f. f other) wrote ∙ put_block_other (put_block old block held) 1 two other apart ∙ put_block_other old block held other beside;
     }
+
+-- a list that had room leaves the block's own bytes
+pub put_back : (old new : ℕ → List ℕ) (block : ℕ) (bytes : List ℕ) → 1 < block → new ≡ put_block old 1 bytes → IsFreed old new block → IsPutBack old new block
+put_back old new block bytes real wrote freed = record { freed = freed; kept = λ room. ap (λ f. f block) wrote ∙ put_block_other old 1 bytes block (omega (arith, real)) }
+
+pub put_back_full : (old new : ℕ → List ℕ) (count block : ℕ) → count ≡ word_at (old 1) 6 → count ≡ 50 → IsFreed old new block → IsPutBack old new block
+put_back_full old new count block reads full freed = record { freed = freed; kept = λ room. absurd (room (sym reads ∙ full)) }

@@ -1,5 +1,6 @@
 pub mod Erasings
 pub mod Freeings
 pub mod Picking
+pub mod Scanning
 pub mod Takings
 pub mod Within

@@ -1,7 +1,6 @@
 -- Numbers looked at from the end of the cache.
-use Rattle.std.proofs.Common.{ℕ, zero, suc, ◌≡◌, ◌≢◌, ◌⊎◌, inl, inr, ◌+◌, ◌-◌, ◌*◌, ◌/◌, ◌%◌, ◌<◌, ◌≤◌, Bool, true, false, cond, nat_eq, nat_lt, ◌&&◌, Option, Some, None, List, [], ◌∷◌, length, get_or, refl, sym, ap, subst, ◌∙◌, arith}
-use Rattle.std.proofs.lemmas.Bool.Decides.{nat_tests}
-use Rattle.mb_word.specs.Fields.{isize_of, ninode_of, cached_of, inode_block, inode_place, mode_of}
+use Rattle.std.proofs.Common.{ℕ, zero, suc, ◌≡◌, ◌⊎◌, inl, inr, ◌+◌, ◌-◌, ◌*◌, ◌%◌, ◌<◌, ◌≤◌, Bool, true, false, cond, Option, Some, List, [], ◌∷◌, length, get_or, refl, sym, ap, ◌∙◌, arith}
+use Rattle.mb_word.specs.Fields.{ninode_of, cached_of}
 use Rattle.mb_word.specs.Numbers.{word_at, put_at, word_bytes, SameFrom}
 use Rattle.mb_word.proofs.Writes.{put_at_same, length-put_at}
 use Rattle.mb_word.proofs.Values.{word_back, word_at-same}

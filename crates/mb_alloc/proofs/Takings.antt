@@ -1,20 +1,20 @@
 -- A block taken from the free chain: where its list keeps more, where the next list is copied in, and where none is left.
-use Rattle.std.proofs.Common.{ℕ, ◌≡◌, ◌≢◌, ◌+◌, ◌-◌, ◌*◌, ◌/◌, ◌%◌, ◌<◌, ◌≤◌, ◌⊎◌, inl, inr, Bool, true, false, List, [], ◌∷◌, length, take, replicate, get_or, refl, sym, ap, subst, ◌∙◌, arith, nat_eq, cond}
+use Rattle.std.proofs.Common.{ℕ, ◌≡◌, ◌≢◌, ◌+◌, ◌-◌, ◌*◌, ◌/◌, ◌%◌, ◌<◌, ◌≤◌, ◌⊎◌, inl, inr, true, false, List, [], ◌∷◌, length, take, replicate, get_or, sym, ap, subst, ◌∙◌, arith, nat_eq}
 use Rattle.std.proofs.lemmas.Bool.Decides.{nat_tests}
 use Rattle.std.proofs.lemmas.List.{get_or-take}
 use Rattle.mb_word.specs.Numbers.{word_at, long_at, put_at, word_bytes, SameFrom}
 use Rattle.mb_word.specs.Fields.{nfree_of, free_of, chain_count}
 use Rattle.mb_word.proofs.Writes.{put_at_same, put_at_in, length-put_at}
 use Rattle.mb_word.proofs.Values.{word_back, long_at-same}
-use Rattle.mb_layout.proofs.Steps.{Alike, word_alike, long_alike}
-use Rattle.mb_tree.specs.Blocks.{first_list, list_in}
-use Rattle.mb_tree.specs.Chain.{Listed, IsNext, after_taking}
+use Rattle.mb_layout.proofs.Steps.{word_alike, long_alike}
+use Rattle.mb_tree.specs.Blocks.{first_list}
+use Rattle.mb_tree.specs.Chain.{IsNext, after_taking}
 use Rattle.mb_iface.specs.Changed.{put_block}
 use Rattle.mb_iface.proofs.ChangedBlocks.{put_block_same, put_block_other}
-use Rattle.mb_blocks.specs.FreeLists.{IsSameList, IsTaken}
+use Rattle.mb_blocks.specs.FreeLists.{IsTaken}
 use Rattle.mb_kinds.specs.Image.{zeros}
 use Rattle.mb_blocks.specs.Growing.{IsZeroed}
-use Rattle.mb_blocks.specs.Rules.{KeepsRules, IsOut}
+use Rattle.mb_blocks.specs.Rules.{KeepsRules}
 
 pub too_many : (blocks : ℕ → List ℕ) (count : ℕ) → KeepsRules blocks → count ≡ word_at (blocks 1) 6 → 50 < count → ⊥
 too_many blocks count keeps reads many = (let few = keeps.counts 0 tt in absurd (omega (arith, few, reads, many)))

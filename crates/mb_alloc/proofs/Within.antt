@@ -1,12 +1,11 @@
 -- Changed blocks that the view has, and blocks that are asked for.
-use Rattle.std.proofs.Common.{ℕ, ◌≡◌, inl, inr, Option, Some, None, IsSome, Bool, true, false, cond, nat_eq, List, length, take, drop, ◌+◌, ◌-◌, ◌≤◌, ◌<◌, refl, sym, ap, subst, ◌∙◌, arith}
+use Rattle.std.proofs.Common.{ℕ, ◌≡◌, inl, inr, Option, Some, None, IsSome, false, cond, nat_eq, List, length, take, drop, ◌+◌, ◌-◌, ◌≤◌, ◌<◌, ap, subst, ◌∙◌, arith}
 use Rattle.std.proofs.lemmas.Bool.{cases_eq}
 use Rattle.std.proofs.lemmas.Bool.Decides.{nat_tests}
 use Rattle.std.proofs.lemmas.List.{length-drop, length-take-le}
 use Rattle.std.specs.Option.{option_or}
 use Rattle.mb_iface.specs.Changed.{ChangeList, changed, shown_over, IsWithinView}
 use Rattle.mb_iface.specs.Needs.{IsNeed}
-use Rattle.mb_iface.specs.declared.replies.Need.{Need}
 use Rattle.mb_iface.proofs.WithinViews.{found_within}
 
 pub in_view : (shown : ℕ → Option (List ℕ)) (old new : ChangeList) (block : ℕ) (bytes : List ℕ) → ((other : ℕ) → changed new other ≡ cond (nat_eq block other) (Some bytes) (changed old other))

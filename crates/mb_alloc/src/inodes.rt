@@ -6,21 +6,19 @@ use mb_iface::{Changes, Edited, Need, View, edit, seen};
 use mb_layout::{inode_block, inode_place};
 use mb_word::{put_word, word_at};
 
-/// Frees an inode: zeros over its 64 bytes, all but the one that holds no address, and its number
-/// into the cache, where that has room and the number is 3 or more.
+/// Frees an inode, one from 1 to the last: zeros over its 64 bytes, all but byte 51, which holds no
+/// address and is kept, and its number into the cache of free numbers, where that has fewer than 100
+/// and the number is 3 or more (V7 filsys(5)).
 pub fn free_inode<V: View>(view: &V, changes: &mut Changes, ino: u16) -> Hung
     ensures { FreesInode (V.shown view.now) changes.old changes.new ino result }
 {
     let holder = inode_block(ino);
     let at = 64 * inode_place(ino) as usize;
     let Some(bytes) = seen(view, changes, 1) else {
-        return Hung::Need(Need { first: 1, count: 1 });
+        return Hung::Need(Need::one(1));
     };
     let Some(inodes) = seen(view, changes, holder) else {
-        return Hung::Need(Need {
-            first: holder,
-            count: 1,
-        });
+        return Hung::Need(Need::one(holder));
     };
     let count = word_at(bytes, 208);
     let mut whole = *inodes;
@@ -29,10 +27,7 @@ pub fn free_inode<V: View>(view: &V, changes: &mut Changes, ino: u16) -> Hung
     if count >= 100 || ino < 3 {
         return match edit(view, changes, holder, at, &blank) {
             Edited::Done => Hung::Done,
-            Edited::Lacking => Hung::Need(Need {
-                first: holder,
-                count: 1,
-            }),
+            Edited::Lacking => Hung::Need(Need::one(holder)),
             Edited::NoMemory => Hung::NoMemory,
         };
     }

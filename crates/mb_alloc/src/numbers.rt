@@ -1,32 +1,33 @@
-ghost use Rattle.mb_alloc.specs.Numbers.{TellsFree, PicksCached};
+ghost use Rattle.std.specs.Prelude.{◌≤◌};
+ghost use Rattle.mb_alloc.specs.Numbers.{TellsFree};
+ghost use Rattle.mb_alloc.specs.Scanning.{Scans};
 
-use mb_iface::{Changes, Edited, Need, View, edit, seen};
+use mb_iface::{Changes, Need, View, seen};
 use mb_layout::{inode_block, inode_place};
-use mb_word::word_at;
+use mb_word::{put_word, word_at};
 
 /// Whether an inode number can be picked.
+#[derive(Clone, Copy, Debug, PartialEq, Drop)]
 pub enum Freedom {
-    /// It is 3 to the last, and its inode is free.
+    /// It is 3 to the last number, and its inode is free.
     Free,
-    /// It is not.
+    /// It is below 3, above the last number, or in use.
     Used,
-    /// The view lacks these blocks.
+    /// The view lacks the block of its inode.
     Need(Need),
 }
 
-/// A number for a new inode.
-pub enum Picked {
-    /// This number.
-    Ino(u16),
-    /// There is none.
-    NoneLeft,
-    /// The view lacks these blocks.
+/// What a scan of the i-list found.
+#[derive(Clone, Copy, Debug, PartialEq, Drop)]
+pub(crate) enum Scanned {
+    /// So many free numbers.
+    Found(usize),
+    /// The view lacks a block of the i-list.
     Need(Need),
-    /// Memory was wanted and not given.
-    NoMemory,
 }
 
-/// Whether a number is 3 to the last and its inode is free, where the i-list ends before a block.
+/// Whether a number is 3 to the last and its inode is free, where the i-list ends before block
+/// `size`. It asks for the run of blocks of the i-list that the view lacks from the inode's block on.
 pub fn tell_free<V: View>(view: &V, changes: &Changes, size: u16, ino: u16) -> Freedom
     ensures { TellsFree (V.shown view.now) changes.now size ino result }
 {
@@ -38,10 +39,7 @@ pub fn tell_free<V: View>(view: &V, changes: &Changes, size: u16, ino: u16) -> F
         return Freedom::Used;
     }
     let Some(inodes) = seen(view, changes, holder) else {
-        return Freedom::Need(Need {
-            first: holder,
-            count: 1,
-        });
+        return Freedom::Need(Need::run(view, holder, u32::from(size) - holder));
     };
     if word_at(inodes, 64 * inode_place(ino) as usize) == 0 {
         Freedom::Free
@@ -50,34 +48,26 @@ pub fn tell_free<V: View>(view: &V, changes: &Changes, size: u16, ino: u16) -> F
     }
 }
 
-/// Picks the last cached number that is free; those that it passes over leave the cache with it.
-/// `NoneLeft` where no cached number is free.
-pub fn pick_cached<V: View>(view: &V, changes: &mut Changes) -> Picked
-    ensures { PicksCached (V.shown view.now) changes.old changes.new result }
+/// Scans the i-list, which ends before block `size`, for free numbers from 3 upwards, at most 100 of
+/// them, and writes them as words into the list from its end: so they stand there in decreasing order.
+pub(crate) fn scan<V: View>(view: &V, changes: &Changes, size: u16, list: &mut [u8; 200]) -> Scanned
+    requires some { 3 ≤ size }
+    requires few { size ≤ 8193 }
+    ensures { Scans (V.shown view.now) changes.now size list.new result }
 {
-    let Some(bytes) = seen(view, changes, 1) else {
-        return Picked::Need(Need { first: 1, count: 1 });
-    };
-    let size = word_at(bytes, 0);
-    let count = word_at(bytes, 208);
-    if count > 100 {
-        return Picked::NoneLeft;
-    }
-    for passed in 0..count {
-        let left = count - 1 - passed;
-        let ino = word_at(bytes, 210 + 2 * left as usize);
+    let mut count = 0;
+    for ino in 3..8 * (size - 2) + 1 {
+        if count == 100 {
+            return Scanned::Found(count);
+        }
         match tell_free(view, changes, size, ino) {
             Freedom::Free => {
-                let low = [left as u8, 0];
-                return match edit(view, changes, 1, 208, &low) {
-                    Edited::Done => Picked::Ino(ino),
-                    Edited::Lacking => Picked::Need(Need { first: 1, count: 1 }),
-                    Edited::NoMemory => Picked::NoMemory,
-                };
+                put_word(list, 198 - 2 * count, ino);
+                count += 1;
             }
             Freedom::Used => {}
-            Freedom::Need(need) => return Picked::Need(need),
+            Freedom::Need(need) => return Scanned::Need(need),
         }
     }
-    Picked::NoneLeft
+    Scanned::Found(count)
 }

@@ -1,33 +1,37 @@
-ghost use Rattle.std.specs.Prelude.{◌≡◌, length, take};
+ghost use Rattle.std.specs.Prelude.{◌≡◌, ◌≤◌, length, take};
 ghost use Rattle.mb_alloc.specs.Taking.{Takes, TakesZeroed};
 
 use mb_iface::{Changes, Edited, Need, View, edit, seen};
 use mb_word::{long_at, word_at};
 
 /// A block taken from the free chain.
+#[derive(Clone, Copy, Debug, PartialEq, Drop)]
 pub enum Taken {
-    /// This block.
+    /// This block, from 1 on and below 262,144.
     Block(u32),
-    /// None is left.
+    /// The chain has no block: the super-block's list is empty, or its last address is 0.
     NoneLeft,
-    /// The view lacks these blocks.
+    /// The view lacks block 1, or the taken block where that holds the next list or is to be filled.
     Need(Need),
     /// Memory was wanted and not given.
     NoMemory,
 }
 
-/// Takes the next block from the free chain (V7 filsys(5)): the super-block's list falls by its last
-/// address; where that was its only one, the list that the taken block holds is copied in.
+/// Takes the next block from the free chain (V7 alloc(9), filsys(5)): the super-block's list falls by
+/// its last address; where that was its only one, the count and the list that the taken block holds
+/// are copied in. It asks for the taken block only then. Address 0 in the list's last place ends the
+/// chain, and the list stays.
 pub fn take_block<V: View>(view: &V, changes: &mut Changes) -> Taken
     ensures { Takes (V.shown view.now) changes.old changes.new result }
 {
     let Some(bytes) = seen(view, changes, 1) else {
-        return Taken::Need(Need { first: 1, count: 1 });
+        return Taken::Need(Need::one(1));
     };
     let count = word_at(bytes, 6);
     if count == 0 {
         return Taken::NoneLeft;
     }
+    // no count of a volume is above 50, nor an address 262,144 or more
     if count > 50 {
         return Taken::NoneLeft;
     }
@@ -40,15 +44,12 @@ pub fn take_block<V: View>(view: &V, changes: &mut Changes) -> Taken
     }
     if count == 1 {
         let Some(held) = seen(view, changes, block) else {
-            return Taken::Need(Need {
-                first: block,
-                count: 1,
-            });
+            return Taken::Need(Need::one(block));
         };
         let list = list_bytes(held);
         return match edit(view, changes, 1, 6, &list) {
             Edited::Done => Taken::Block(block),
-            Edited::Lacking => Taken::Need(Need { first: 1, count: 1 }),
+            Edited::Lacking => Taken::Need(Need::one(1)),
             Edited::NoMemory => Taken::NoMemory,
         };
     }
@@ -56,23 +57,22 @@ pub fn take_block<V: View>(view: &V, changes: &mut Changes) -> Taken
     let low = [(left % 256) as u8, (left / 256) as u8];
     match edit(view, changes, 1, 6, &low) {
         Edited::Done => Taken::Block(block),
-        Edited::Lacking => Taken::Need(Need { first: 1, count: 1 }),
+        Edited::Lacking => Taken::Need(Need::one(1)),
         Edited::NoMemory => Taken::NoMemory,
     }
 }
 
-/// Takes the next block from the free chain and fills it with zeros. Where it is not `Block`, the
-/// changes are for letting go.
-pub fn take_zeroed<V: View>(view: &V, changes: &mut Changes) -> Taken
+/// Takes the next block from the free chain and fills it with zeros, so it asks for that block where
+/// the view lacks it, with its neighbours as far as `wanted` blocks are going to be taken. On any other
+/// answer than `Block` the changes may hold the block taken, and are for letting go.
+pub fn take_zeroed<V: View>(view: &V, changes: &mut Changes, wanted: u32) -> Taken
+    requires { 1 ≤ wanted }
     ensures { TakesZeroed (V.shown view.now) changes.old changes.new result }
 {
     match take_block(view, changes) {
         Taken::Block(block) => {
             let Some(_found) = view.get(block) else {
-                return Taken::Need(Need {
-                    first: block,
-                    count: 1,
-                });
+                return Taken::Need(Need::run(view, block, wanted));
             };
             match changes.put(block, &[0; 512]) {
                 Ok(()) => Taken::Block(block),

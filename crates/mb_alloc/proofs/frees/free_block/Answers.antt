@@ -1,10 +1,10 @@
-use Rattle.std.proofs.Common.{refl, sym, ap, subst, IsSome, ◌∙◌, ◌+◌, ◌*◌, ◌-◌, ◌/◌, ◌%◌, ◌∷◌, [], take, drop, length, ℕ, replicate, arith}
+use Rattle.std.proofs.Common.{refl, sym, ap, subst, IsSome, ◌∙◌, take, drop, ℕ, replicate, arith}
 use Rattle.std.proofs.lemmas.List.{length-replicate}
-use Rattle.mb_word.specs.Numbers.{word_at, long_at, put_at, word_bytes}
+use Rattle.mb_word.specs.Numbers.{word_at, put_at, word_bytes}
 use Rattle.mb_tree.specs.Views.{over}
 use Rattle.mb_iface.specs.Changed.{changed}
 use Rattle.mb_alloc.proofs.Takings.{too_many}
-use Rattle.mb_alloc.proofs.Freeings.{freed_none, freed_some, freed_full}
+use Rattle.mb_alloc.proofs.Freeings.{freed_none, freed_some, freed_full, put_back, put_back_full}
 use Rattle.mb_alloc.proofs.Within.{in_view_both, length-take_drop}
 use Rattle.mb_alloc.proofs.frees.free_block.Goals as goal
 
@@ -23,12 +23,14 @@ returns-in-Ok g c = (
       (subst (λ o. IsSome o) (sym c.in-Some.ensures.there) refl) handed within,
   λ blocks part keeps real.
       (let bytes = c.in-Some.ensures.found blocks part in
-      freed_full (over blocks (changed c.args.changes.now)) (over blocks (changed c.put_both.new.self)) c.word_at-count.result c.args.block (replicate {A = ℕ} 512 0) c.write_at.new.into c.put_word.new.b c.put_long.new.b keeps
-      (c.word_at-count.ensures ∙ ap (λ b. word_at b 6) (sym bytes)) c.if-count-eq50.true real c.requires (length-replicate {A = ℕ} 512 0)
+      let counted = c.word_at-count.ensures ∙ ap (λ b. word_at b 6) (sym bytes) in
+      put_back_full (over blocks (changed c.args.changes.now)) (over blocks (changed c.put_both.new.self)) c.word_at-count.result c.args.block counted c.if-count-eq50.true
+      (freed_full (over blocks (changed c.args.changes.now)) (over blocks (changed c.put_both.new.self)) c.word_at-count.result c.args.block (replicate {A = ℕ} 512 0) c.write_at.new.into c.put_word.new.b c.put_long.new.b keeps
+      counted c.if-count-eq50.true real c.requires (length-replicate {A = ℕ} 512 0)
       (c.write_at.ensures.bytes ∙ ap (λ b. put_at (replicate {A = ℕ} 512 0) 0 (take 202 (drop 6 b))) (sym bytes))
       (length-take_drop (over blocks (changed c.args.changes.now) 1) 202 6 (let l = keeps.sized 1 in omega (arith, l)))
       (c.put_word.ensures ∙ ap (λ b. put_at b 6 (word_bytes 1)) (sym bytes)) c.put_long.ensures
-      (c.in-Ok.ensures.ok blocks)),
+      (c.in-Ok.ensures.ok blocks))),
 )
 
 pub returns-in-Done : goal.returns-in-Done
@@ -36,9 +38,10 @@ returns-in-Done g c = (
   λ handed. c.in-Done.ensures.within,
   λ blocks part keeps real.
       (let bytes = c.in-Some.ensures.found blocks part in
-      freed_none (over blocks (changed c.args.changes.now)) (over blocks (changed c.edit.new.changes)) c.word_at-count.result c.args.block _ _ _ _ keeps
+      put_back (over blocks (changed c.args.changes.now)) (over blocks (changed c.edit.new.changes)) c.args.block _ real (c.in-Done.ensures.wrote blocks part)
+      (freed_none (over blocks (changed c.args.changes.now)) (over blocks (changed c.edit.new.changes)) c.word_at-count.result c.args.block _ _ _ _ keeps
       (c.word_at-count.ensures ∙ ap (λ b. word_at b 6) (sym bytes)) c.if-count-eq0.true real c.requires refl
-      c.put_word-then-count-eq0.ensures c.put_long-then-count-eq0.ensures c.put_long-then-count-eq0-2.ensures (c.in-Done.ensures.wrote blocks part)),
+      c.put_word-then-count-eq0.ensures c.put_long-then-count-eq0.ensures c.put_long-then-count-eq0-2.ensures (c.in-Done.ensures.wrote blocks part))),
 )
 
 pub returns-in-Done-edit_both : goal.returns-in-Done-edit_both
@@ -46,7 +49,8 @@ returns-in-Done-edit_both g c = (
   λ handed. c.in-Done-edit_both.ensures.within,
   λ blocks part keeps real.
       (let bytes = c.in-Some.ensures.found blocks part in
-      freed_some (over blocks (changed c.args.changes.now)) (over blocks (changed c.edit_both.new.changes)) c.word_at-count.result c.args.block _ _ _ keeps
+      put_back (over blocks (changed c.args.changes.now)) (over blocks (changed c.edit_both.new.changes)) c.args.block _ real (c.in-Done-edit_both.ensures.wrote blocks part)
+      (freed_some (over blocks (changed c.args.changes.now)) (over blocks (changed c.edit_both.new.changes)) c.word_at-count.result c.args.block _ _ _ keeps
       (c.word_at-count.ensures ∙ ap (λ b. word_at b 6) (sym bytes)) c.if-count-eq0.false (omega (arith, c.if-count-gt50.false, c.if-count-eq50.false)) real c.requires refl
-      c.put_long-2.ensures refl (c.in-Done-edit_both.ensures.wrote blocks part)),
+      c.put_long-2.ensures refl (c.in-Done-edit_both.ensures.wrote blocks part))),
 )

@@ -1,6 +1,6 @@
 use Rattle.std.proofs.Common.{ℕ, ◌≡◌, refl, sym, ap, subst, inl, inr, IsSome, length, get_or, set, replicate, ◌∙◌, ◌+◌, ◌*◌, arith}
 use Rattle.mb_word.specs.Fields.{ninode_of}
-use Rattle.mb_word.specs.Numbers.{word_at, put_at, word_bytes}
+use Rattle.mb_word.specs.Numbers.{put_at, word_bytes}
 use Rattle.mb_tree.specs.Views.{over}
 use Rattle.mb_iface.specs.Changed.{changed, put_block}
 use Rattle.mb_iface.proofs.WithinViews.{found_within}

@@ -1,7 +1,7 @@
-use Rattle.std.proofs.Common.{refl, sym, ap, subst, IsSome, inr, ℕ, List, replicate, ◌∙◌, arith}
+use Rattle.std.proofs.Common.{refl, subst, IsSome}
 use Rattle.mb_tree.specs.Views.{over}
 use Rattle.mb_iface.specs.Changed.{changed}
-use Rattle.mb_alloc.proofs.Within.{need_one, in_view}
+use Rattle.mb_alloc.proofs.Within.{in_view}
 use Rattle.mb_alloc.proofs.Takings.{zeroed_now}
 use Rattle.mb_alloc.proofs.takes.take_zeroed.Goals as goal
 

@@ -19,6 +19,6 @@ returns-in-Done g c = (
         over blocks (changed c.take_zeroed.new.changes),
         tz,
         set_top (over blocks (changed c.take_zeroed.new.changes)) (over blocks (changed c.edit.new.changes)) c.args.ino c.inode_block-holder.result c.inode_place.result c.args.place c.in-Block.block _ _ (sized_two old (over blocks (changed c.take_zeroed.new.changes)) c.in-Block.block keeps tz (inode_block c.args.ino))
-            fine c.inode_block-holder.ensures c.inode_place.ensures c.requires c.in-Block.ensures.1 refl c.put_addr.ensures (c.in-Done.ensures.wrote blocks part),
+            fine c.inode_block-holder.ensures c.inode_place.ensures c.requires.place c.in-Block.ensures.1 refl c.put_addr.ensures (c.in-Done.ensures.wrote blocks part),
       )),
 )

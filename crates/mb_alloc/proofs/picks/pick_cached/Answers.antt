@@ -4,7 +4,7 @@ use Rattle.mb_tree.specs.Views.{over}
 use Rattle.mb_iface.specs.Changed.{changed}
 use Rattle.mb_alloc.specs.Numbers.{cached_below}
 use Rattle.mb_alloc.proofs.Picking.{passed_more, picked_now, cache_cut}
-use Rattle.mb_alloc.proofs.numbers.pick_cached.Goals as goal
+use Rattle.mb_alloc.proofs.picks.pick_cached.Goals as goal
 
 pub returns-in-Done : goal.returns-in-Done
 returns-in-Done g c = (
