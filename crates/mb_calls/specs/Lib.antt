@@ -1,3 +1,4 @@
+pub mod Asks
 pub mod Continuing
 pub mod Following
 pub mod Halts

@@ -1,13 +1,7 @@
-ghost use Rattle.std.specs.Prelude.{◌≡◌, ◌≤◌, ◌-◌, ℕ, List, Option, IfOk, IfSome, drop, length, take};
-ghost use Rattle.mb_kinds.specs.Image.{Image};
-ghost use Rattle.mb_kinds.specs.declared.calls.Call.{Call};
-ghost use Rattle.mb_tree.specs.Lookup.{find_path, find_place};
-ghost use Rattle.mb_tree.specs.Trees.{IsDirectoryAt};
-ghost use Rattle.mb_tree.specs.Views.{IsPart};
-ghost use Rattle.mb_tree.specs.Volume.{IsVolume};
-ghost use Rattle.mb_tree.specs.declared.trees.Tree.{Tree};
-ghost use Rattle.mb_calls.specs.Following.{AsksNear, IsCut, IsGoing, IsKept, HaltsOn};
-ghost use Rattle.mb_calls.specs.Halts.{Matches, IsOver, Needs, Says};
+ghost use Rattle.std.specs.Prelude.{◌≡◌, ◌≤◌, ◌-◌, IfOk, IfSome, drop, length, take};
+ghost use Rattle.mb_calls.specs.Asks.{FindsFrom, FindsInode, FindsPlace, HaltsFinding, HaltsPlacing, NearFrom, NearWay, PlacesFrom};
+ghost use Rattle.mb_calls.specs.Following.{BeginsWalk, BeginsWalks, IsCut, IsKept};
+ghost use Rattle.mb_calls.specs.Halts.{Needs};
 ghost use Rattle.mb_calls.specs.Halts.Scope.{lacking};
 
 use crate::halts::Halt;
@@ -32,7 +26,7 @@ pub struct PathWalks {
 
 /// The walks of a call that begins.
 pub fn set_out(seat: &Seat) -> PathWalks
-    ensures { (shown : ℕ → Option (List ℕ)) (made : Call) → IsGoing shown seat.now made result }
+    ensures { BeginsWalks seat.now result }
 {
     PathWalks {
         first: begin(seat),
@@ -42,7 +36,7 @@ pub fn set_out(seat: &Seat) -> PathWalks
 
 /// Where a path begins.
 pub fn begin(seat: &Seat) -> PathWalk
-    ensures { (shown : ℕ → Option (List ℕ)) (path : List ℕ) → IsKept shown seat.now path result }
+    ensures { BeginsWalk seat.now result }
 {
     PathWalk {
         dir: seat.cwd,
@@ -91,8 +85,8 @@ fn find_at<F: FileSys, V: View>(
     path: Path,
 ) -> Result<Stat, Halt>
     ensures wants { Needs (lacking (V.shown view.now)) result }
-    ensures says { (image : Image) (tree : Tree) → IsPart (V.shown view.now) image.at → IsVolume image tree → IsDirectoryAt tree.nodes dir → Matches result (find_path tree.nodes cred dir path) }
-    ensures near { (image : Image) (tree : Tree) → IsPart (V.shown view.now) image.at → IsVolume image tree → IsDirectoryAt tree.nodes dir → AsksNear image tree cred dir path result }
+    ensures says { FindsFrom (V.shown view.now) cred dir path result }
+    ensures near { NearFrom (V.shown view.now) cred dir path result }
 {
     let query = Query::Find {
         cwd: dir,
@@ -122,9 +116,9 @@ fn step<F: FileSys, V: View>(
     requires cut { IsCut path.now walk.from next }
     ensures kept { IfOk result (λ walk. IsKept (V.shown view.now) seat.now path.now walk) }
     ensures wants { Needs (lacking (V.shown view.now)) result }
-    ensures finds { (image : Image) (tree : Tree) → IsOver (V.shown view.now) seat.now image tree → HaltsOn result (find_path tree.nodes seat.now.cred seat.now.cwd path.now) }
-    ensures places { (image : Image) (tree : Tree) → IsOver (V.shown view.now) seat.now image tree → HaltsOn result (find_place tree.nodes seat.now.cred seat.now.cwd path.now) }
-    ensures near { (image : Image) (tree : Tree) → IsOver (V.shown view.now) seat.now image tree → AsksNear image tree seat.now.cred seat.now.cwd path.now result }
+    ensures finds { HaltsFinding (V.shown view.now) seat.now path.now result }
+    ensures places { HaltsPlacing (V.shown view.now) seat.now path.now result }
+    ensures near { NearWay (V.shown view.now) seat.now path.now result }
 {
     let head = piece(alloc, path, walk.from, next - 1)?;
     match find_at(alloc, fs, view, walk.dir, seat.cred, head) {
@@ -142,7 +136,7 @@ fn step<F: FileSys, V: View>(
     }
 }
 
-/// Continues a path to the directory of its last component, as far as the view has the blocks for it.
+/// Follows a path to the directory of its last component, as far as the view has the blocks for it.
 pub fn follow<F: FileSys, V: View>(
     alloc: Global,
     fs: &F,
@@ -154,9 +148,9 @@ pub fn follow<F: FileSys, V: View>(
     requires kept { IsKept (V.shown view.now) seat.now path.now walk.old }
     ensures kept { IsKept (V.shown view.now) seat.now path.now walk.new }
     ensures wants { Needs (lacking (V.shown view.now)) result }
-    ensures finds { (image : Image) (tree : Tree) → IsOver (V.shown view.now) seat.now image tree → HaltsOn result (find_path tree.nodes seat.now.cred seat.now.cwd path.now) }
-    ensures places { (image : Image) (tree : Tree) → IsOver (V.shown view.now) seat.now image tree → HaltsOn result (find_place tree.nodes seat.now.cred seat.now.cwd path.now) }
-    ensures near { (image : Image) (tree : Tree) → IsOver (V.shown view.now) seat.now image tree → AsksNear image tree seat.now.cred seat.now.cwd path.now result }
+    ensures finds { HaltsFinding (V.shown view.now) seat.now path.now result }
+    ensures places { HaltsPlacing (V.shown view.now) seat.now path.now result }
+    ensures near { NearWay (V.shown view.now) seat.now path.now result }
 {
     for _ in 0..path.as_slice().len() {
         let Some(next) = cut(path.as_slice(), walk.from) else {
@@ -180,8 +174,8 @@ fn place_at<F: FileSys, V: View>(
     path: Path,
 ) -> Result<Placed, Halt>
     ensures wants { Needs (lacking (V.shown view.now)) result }
-    ensures says { (image : Image) (tree : Tree) → IsPart (V.shown view.now) image.at → IsVolume image tree → IsDirectoryAt tree.nodes dir → Matches result (find_place tree.nodes cred dir path) }
-    ensures near { (image : Image) (tree : Tree) → IsPart (V.shown view.now) image.at → IsVolume image tree → IsDirectoryAt tree.nodes dir → AsksNear image tree cred dir path result }
+    ensures says { PlacesFrom (V.shown view.now) cred dir path result }
+    ensures near { NearFrom (V.shown view.now) cred dir path result }
 {
     let query = Query::Place {
         cwd: dir,
@@ -209,8 +203,8 @@ pub fn find_rest<F: FileSys, V: View>(
 ) -> Result<Stat, Halt>
     requires kept { IsKept (V.shown view.now) seat.now path.now walk }
     ensures wants { Needs (lacking (V.shown view.now)) result }
-    ensures says { Says (V.shown view.now) seat.now result (λ tree. find_path tree.nodes seat.now.cred seat.now.cwd path.now) }
-    ensures near { (image : Image) (tree : Tree) → IsOver (V.shown view.now) seat.now image tree → AsksNear image tree seat.now.cred seat.now.cwd path.now result }
+    ensures says { FindsInode (V.shown view.now) seat.now path.now result }
+    ensures near { NearWay (V.shown view.now) seat.now path.now result }
 {
     let rest = rest_of(alloc, path, walk.from)?;
     find_at(alloc, fs, view, walk.dir, seat.cred, rest)
@@ -227,8 +221,8 @@ pub fn place_rest<F: FileSys, V: View>(
 ) -> Result<Placed, Halt>
     requires kept { IsKept (V.shown view.now) seat.now path.now walk }
     ensures wants { Needs (lacking (V.shown view.now)) result }
-    ensures says { Says (V.shown view.now) seat.now result (λ tree. find_place tree.nodes seat.now.cred seat.now.cwd path.now) }
-    ensures near { (image : Image) (tree : Tree) → IsOver (V.shown view.now) seat.now image tree → AsksNear image tree seat.now.cred seat.now.cwd path.now result }
+    ensures says { FindsPlace (V.shown view.now) seat.now path.now result }
+    ensures near { NearWay (V.shown view.now) seat.now path.now result }
 {
     let rest = rest_of(alloc, path, walk.from)?;
     place_at(alloc, fs, view, walk.dir, seat.cred, rest)
