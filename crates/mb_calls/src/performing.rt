@@ -3,7 +3,8 @@ ghost use Rattle.mb_tree.specs.LocalLaws.{is_shared_call};
 ghost use Rattle.mb_tree.specs.PickLaws.{fresh_on};
 ghost use Rattle.mb_tree.specs.SessionLaws.{IsCall};
 ghost use Rattle.mb_calls.specs.Following.{IsGoingFor};
-ghost use Rattle.mb_calls.specs.Performed.{Ends, EndsNear, FitsCall, IsNeeded, IsRight, ready_refused};
+ghost use Rattle.mb_calls.specs.Endings.{Ends, EndsNear, ready_refused};
+ghost use Rattle.mb_calls.specs.Performed.{FitsCall, IsNeeded, IsRight};
 
 use crate::halts::Halt;
 use crate::planning::plan_call;

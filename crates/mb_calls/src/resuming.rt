@@ -23,7 +23,8 @@ pub fn walks_go_on()
     ensures { WalksGoOn }
 {}
 
-/// The walk of a path, as far as the view has the blocks for it.
+/// The walk of a path, as far as the view has the blocks for it. Where it halts is dropped here and found again
+/// when the path is asked for in its turn, so the second path of link(2) does not overtake the first.
 fn farther<F: FileSys, V: View>(
     alloc: Global,
     fs: &F,
@@ -36,9 +37,8 @@ fn farther<F: FileSys, V: View>(
     ensures { IsKept (V.shown view.now) seat.now path.now result }
 {
     let mut further = walk;
-    match follow(alloc, fs, view, seat, path, &mut further) {
-        _ => further,
-    }
+    let _halted = follow(alloc, fs, view, seat, path, &mut further);
+    further
 }
 
 /// The first path of a call.
@@ -130,7 +130,9 @@ impl Performing {
     pub fn new(seat: &Seat) -> Performing
         ensures { BeginsWalks seat.now result.walks }
     {
-        Performing { walks: set_out(seat) }
+        Performing {
+            walks: set_out(seat),
+        }
     }
 
     /// Performs a call over the blocks gathered so far, from where it stopped over fewer of them.

@@ -13,7 +13,9 @@ use std::alloc::{AllocError, Global};
 /// How far a path has been followed: a directory on its way, and where in the path the rest begins.
 #[derive(Clone, Copy, Debug, Drop)]
 pub struct PathWalk {
+    /// The number of the directory.
     pub dir: u16,
+    /// The index of the first byte of the rest.
     pub from: usize,
 }
 
@@ -44,12 +46,13 @@ pub fn begin(seat: &Seat) -> PathWalk
     }
 }
 
-/// Where the component after the next one begins.
+/// Where the component after the next one begins, from an index on; `None` in the last component, and
+/// wherever a look at the whole rest serves as well.
 fn cut(path: &[u8], from: usize) -> Option<usize>
     ensures { IfSome result (λ next. IsCut path.now from next) }
 {
     for at in 2..path.len() {
-        if at - 2 >= from && path[at - 1] == 47 && path[at] != 47 {
+        if at - 2 >= from && path[at - 1] == b'/' && path[at] != b'/' {
             return Some(at);
         }
     }
@@ -102,7 +105,8 @@ fn find_at<F: FileSys, V: View>(
     }
 }
 
-/// One component further.
+/// One component further, to the one that begins at `next`. Halts with `ENOTDIR` where it leads to no
+/// directory, else as the look-up of the component does.
 fn step<F: FileSys, V: View>(
     alloc: Global,
     fs: &F,
@@ -136,7 +140,8 @@ fn step<F: FileSys, V: View>(
     }
 }
 
-/// Follows a path to the directory of its last component, as far as the view has the blocks for it.
+/// Follows a path to the directory of its last component, as far as the view has the blocks for it. Where it
+/// halts the walk stays at the directory that it has reached.
 pub fn follow<F: FileSys, V: View>(
     alloc: Global,
     fs: &F,
@@ -192,7 +197,7 @@ fn place_at<F: FileSys, V: View>(
     }
 }
 
-/// The rest of a walk.
+/// The inode to which a path leads, by the rest of its walk.
 pub fn find_rest<F: FileSys, V: View>(
     alloc: Global,
     fs: &F,
@@ -210,7 +215,7 @@ pub fn find_rest<F: FileSys, V: View>(
     find_at(alloc, fs, view, walk.dir, seat.cred, rest)
 }
 
-/// The rest of a walk.
+/// The place of a path, by the rest of its walk.
 pub fn place_rest<F: FileSys, V: View>(
     alloc: Global,
     fs: &F,
