@@ -1,5 +1,5 @@
 -- What a file system answers is what the model finds, and a row that goes on from a place.
-use Rattle.std.proofs.Common.{ℕ, List, Option, Some, None, ◌≡◌, Result, Ok, Err, refl, ap, sym, ◌∙◌, subst, inl, inr, true, false, not, option_map, unwrap_or}
+use Rattle.std.proofs.Common.{Bool, ℕ, List, Option, Some, None, ◌≡◌, Result, Ok, Err, refl, ap, sym, ◌∙◌, subst, inl, inr, true, false, not, option_map, unwrap_or}
 use Rattle.std.specs.FinMap as fin
 use Rattle.mb_tree.specs.Answers.{Answer, ◌>>=◌, ◌>>◌, need, some}
 use Rattle.mb_kinds.specs.declared.errors.Errno.{Errno}
@@ -10,7 +10,7 @@ use Rattle.mb_iface.specs.declared.replies.Answer.{Answer as Found}
 use Rattle.mb_iface.specs.declared.replies.Answer.TheVariants as answer
 use Rattle.mb_tree.specs.Inodes.{is_directory, read_at, body_size, stat_of}
 use Rattle.mb_tree.specs.Lookup.{stat_in, used_in}
-use Rattle.mb_tree.specs.Rows.{got, rmdir_at, size_in}
+use Rattle.mb_tree.specs.Rows.{link_at, link_found, got, rmdir_at, size_in}
 use Rattle.mb_tree.specs.declared.plans.CallPlan.{CallPlan}
 use Rattle.mb_tree.specs.Maps.{Numbered}
 use Rattle.mb_tree.specs.Trees.{IsDirectoryAt, IsSound, IsThere}
@@ -106,24 +106,24 @@ told_directory tree place dir name ino told parent stat sound is found directory
     (is_directory_at tree sound ino stat (subst (λ (t : Result Stat Halt). Matches t (stat_in tree.nodes ino)) found both.0) directory, ap (used_by tree.nodes) is)
 
 -- link(2): the second path is looked at where the first leads to no directory
-pub linked : (asked : Result Stat Halt) (spot : Result Spot Halt) (result : Result CallPlan Halt) (rest : Stat → Numbered Node → Placed → Answer CallPlan) (stat : Stat) → asked ≡ Ok stat
-    → is_directory stat.mode ≡ false → ContinuesSpot spot result (rest stat) → ContinuesLink asked spot result rest
-linked asked spot result rest stat is file follows = record {
+pub linked : (seat : Seat) (moment : ℕ) (asked : Result Stat Halt) (spot : Result Spot Halt) (result : Result CallPlan Halt) (stat : Stat) → asked ≡ Ok stat
+    → is_directory stat.mode ≡ false → ContinuesSpot spot result (λ nodes. link_at nodes seat moment stat.ino) → ContinuesLink seat moment asked spot result
+linked seat moment asked spot result stat is file follows = record {
   gives = λ r nodes place told found.
       let at : r ≡ Ok stat = subst (λ a. Matches a r) is told in
-      subst (λ (r : Answer Stat). Matches result (r >>= λ stat. need (not (is_directory stat.mode)) EPERM >> (place >>= rest stat nodes))) (sym at)
-      (subst (λ b. Matches result (need (not b) EPERM >> (place >>= rest stat nodes))) (sym file) (follows.gives nodes place found));
+      subst (λ (r : Answer Stat). Matches result (r >>= link_found nodes seat moment place)) (sym at)
+      (subst (λ b. Matches result (need (not b) EPERM >> (place >>= link_at nodes seat moment stat.ino))) (sym file) (follows.gives nodes place found));
   need = λ scope first second. follows.need scope second;
 }
 
 -- rmdir(1): whether a directory is busy is the same for all sessions that the call cannot tell apart
-pub removal_named : (opens : CountMap) (given : List Seat) (seat : Seat) (moment dir : ℕ) (name : List ℕ) (ino : ℕ) (stat parent : Result Stat Halt) (asked : Result Spot Halt) (used : Result ℕ Halt) (result : Result CallPlan Halt)
-    → asked ≡ Ok (spot.Present dir name ino stat parent) → ContinuesThree stat parent used result (rmdir_found seat moment dir name (busy_by opens given ino))
-    → ContinuesRemoval opens given asked used result (λ nodes others. rmdir_at nodes others seat moment)
-removal_named opens given seat moment dir name ino stat parent asked used result is follows = subst (λ a. ContinuesRemoval opens given a used result (λ nodes others. rmdir_at nodes others seat moment)) (sym is) (record {
-  gives = λ nodes seats place busy told few.
+pub removal_named : (opens : CountMap) (given : List Seat) (seat : Seat) (moment dir : ℕ) (name : List ℕ) (ino : ℕ) (busy : Bool) (stat parent : Result Stat Halt) (asked : Result Spot Halt) (used : Result ℕ Halt) (result : Result CallPlan Halt)
+    → asked ≡ Ok (spot.Present dir name ino stat parent) → busy ≡ busy_by opens given ino → ContinuesThree stat parent used result (rmdir_found seat moment dir name busy)
+    → ContinuesRemoval opens given seat moment asked used result
+removal_named opens given seat moment dir name ino busy stat parent asked used result is sees follows = subst (λ a. ContinuesRemoval opens given seat moment a used result) (sym is) (record {
+  gives = λ nodes seats place alike told few.
       subst (λ (p : Answer Placed). Matches result (p >>= rmdir_at nodes seats seat moment)) (sym told.is)
-      (subst (λ b. Matches result (stat_in nodes ino >>= rmdir_found seat moment dir name b (stat_in nodes dir) (Ok (used_in nodes ino)))) (busy ino)
+      (subst (λ b. Matches result (stat_in nodes ino >>= rmdir_found seat moment dir name b (stat_in nodes dir) (Ok (used_in nodes ino)))) (sees ∙ alike ino)
       (follows.gives (stat_in nodes ino) (stat_in nodes dir) (Ok (used_in nodes ino)) told.told.0 told.told.1 few));
   need = λ scope wants more. follows.need scope wants.0 wants.1 more;
 })

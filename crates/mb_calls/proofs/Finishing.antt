@@ -24,7 +24,8 @@ use Rattle.mb_tree.specs.declared.plans.CallPlan.{CallPlan}
 use Rattle.mb_tree.proofs.LawfulPicks.{lawful_made, lawful_refused, lawful_unmade, lawful_unplanned, plans_with, refused_with_all, repick_none, stopped_by, unplanned_by}
 use Rattle.mb_tree.proofs.PickedEffects.{makes_by_number}
 use Rattle.mb_tree.proofs.Repicking.{refused_plans, replans}
-use Rattle.mb_calls.specs.Performed.{IsAnsweredBy, IsPerformed, IsServedBy, ready_refused, ready_with}
+use Rattle.mb_calls.specs.Endings.{ready_refused, ready_with}
+use Rattle.mb_calls.specs.Performed.{IsAnsweredBy, IsPerformed, IsServedBy}
 use Rattle.mb_calls.specs.declared.performing.Ready.{Ready}
 
 answered_by : (view : Image) (machine : Machine) (caller : ℕ) (made : Call) (moment : ℕ) (ready : Ready) (reply : Reply) → IsServedReply reply → IsServedBy view machine caller made moment ready → IsAnsweredBy view machine caller made moment ready reply

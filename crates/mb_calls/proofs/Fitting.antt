@@ -9,7 +9,7 @@ use Rattle.mb_iface.specs.OpenCounts.{count_of}
 use Rattle.mb_iface.specs.declared.replies.Acted.TheVariants as acted
 use Rattle.mb_iface.specs.declared.replies.Need.{Need}
 use Rattle.mb_tree.specs.Fits.{Fits}
-use Rattle.mb_tree.specs.Sessions.{free_descriptor}
+use Rattle.mb_tree.specs.Sessions.{HasDescriptorInRange, free_descriptor}
 use Rattle.mb_tree.specs.declared.operations.FsOp.{FsOp}
 use Rattle.mb_tree.specs.declared.operations.FsOp.TheVariants as op
 use Rattle.mb_tree.specs.declared.plans.CallPlan.{CallPlan}
@@ -21,9 +21,10 @@ use Rattle.mb_tree.proofs.Descriptors.{free_above, free_unused, free_within}
 use Rattle.mb_kinds.specs.declared.replies.Reply.{Reply}
 use Rattle.mb_kinds.specs.declared.replies.Reply.TheVariants.{Num, Got, Info, Refused, Restart, Device, Failed}
 use Rattle.mb_tree.specs.Plans.{IsServedReply}
-use Rattle.mb_calls.specs.Performed.{IsPlainReply, CanApply, IsEndOf, IsFit, IsFreeDescriptor}
+use Rattle.mb_calls.specs.Endings.{IsEndOf}
+use Rattle.mb_calls.specs.Performed.{IsPlainReply, CanApply, IsFit, IsFreeDescriptor}
 use Rattle.mb_tree.specs.PickLaws.{fresh_on, on_number}
-use Rattle.mb_calls.specs.Performed.IsEndOf.{alone, done, refused}
+use Rattle.mb_calls.specs.Endings.IsEndOf.{alone, done, refused}
 use Rattle.mb_tree.specs.Plans.{CanMake, IsPlanFor}
 use Rattle.mb_calls.specs.Continuing.{CountMap}
 use Rattle.mb_calls.specs.declared.performing.Ready.{Ready}
@@ -79,6 +80,16 @@ freshened seat (op.SetTimes ino atime mtime moment) pick change h = h
 freshened seat (op.Hold ino) pick change h = h
 freshened seat (op.Release inos) pick change h = h
 
+in_range : (seat : Seat) (change : SessionChange) → CanApply seat change → HasDescriptorInRange change
+in_range seat Same h = tt
+in_range seat (Fresh fd ino how) h = h.1
+in_range seat (Twin fd to) h = h.0.1
+in_range seat (Free fd) h = tt
+in_range seat (Move fd offset) h = tt
+in_range seat (Cwd ino) h = tt
+in_range seat (Mask mask) h = tt
+in_range seat Clear h = tt
+
 plain_reply : (reply : Reply) → IsServedReply reply → IsPlainReply reply
 plain_reply (Num number) h = tt
 plain_reply (Got bytes) h = tt
@@ -89,6 +100,11 @@ plain_reply Device h = h
 plain_reply (Failed faults) h = h
 
 pub fit_of : {shown : ℕ → Option (List ℕ)} {opens : CountMap} (seat : Seat) (shared : Bool) (planned : CallPlan) (ready : Ready) → IsPlanFor seat planned → IsEndOf shown opens shared planned ready → IsFit seat shared ready
-fit_of seat shared planned ready makes (alone none is) = subst (IsFit seat shared) (sym is) (record { plain = plain_reply planned.reply makes.1; session = can_apply seat planned.session makes.0; shared = refl })
-fit_of seat shared planned ready makes (done op changes pick acts has is) = subst (IsFit seat shared) (sym is) (record { plain = plain_reply planned.reply makes.1; session = freshened seat op pick planned.session (can_apply seat planned.session makes.0); shared = refl })
-fit_of seat shared planned ready makes (refused op e acts has is) = subst (IsFit seat shared) (sym is) (record { plain = tt; session = tt; shared = refl })
+fit_of seat shared planned ready makes (alone none is) = subst (IsFit seat shared) (sym is) (record { plain = plain_reply planned.reply makes.1; session = can_apply seat planned.session makes.0; range = in_range seat planned.session (can_apply seat planned.session makes.0); shared = refl })
+fit_of seat shared planned ready makes (done op changes pick acts has is) = subst (IsFit seat shared) (sym is) (record {
+  plain = plain_reply planned.reply makes.1;
+  session = freshened seat op pick planned.session (can_apply seat planned.session makes.0);
+  range = in_range seat (fresh_on op pick planned.session) (freshened seat op pick planned.session (can_apply seat planned.session makes.0));
+  shared = refl;
+})
+fit_of seat shared planned ready makes (refused op e acts has is) = subst (IsFit seat shared) (sym is) (record { plain = tt; session = tt; range = tt; shared = refl })

@@ -29,9 +29,10 @@ use Rattle.mb_tree.specs.Plans.{IsServedReply}
 use Rattle.mb_iface.specs.Changed.{IsWithinView}
 use Rattle.mb_iface.specs.Near.{IsNear, IsTouched}
 use Rattle.mb_iface.specs.declared.replies.Need.{Need}
-use Rattle.mb_calls.specs.Performed.{ActsNear, EndsNear, FitsCall, IsFit, IsNeeded, IsNeededFor, AreAlike, OthersAlike, AllAlike, IsEndOf, Ends, HasActed, IsPerformed, IsReadyFor, IsRight, ready_refused}
+use Rattle.mb_calls.specs.Endings.{ActsNear, EndsNear, IsEndOf, Ends, HasActed, ready_refused}
+use Rattle.mb_calls.specs.Performed.{FitsCall, IsFit, IsNeeded, IsNeededFor, AreAlike, OthersAlike, AllAlike, IsPerformed, IsReadyFor, IsRight}
 use Rattle.mb_tree.specs.LocalLaws.{cwds, is_shared_call}
-use Rattle.mb_calls.specs.Performed.IsEndOf.{alone, done, refused}
+use Rattle.mb_calls.specs.Endings.IsEndOf.{alone, done, refused}
 use Rattle.mb_calls.specs.Halts.{Matches, IsOver}
 use Rattle.mb_calls.specs.Looked.{IsLooked}
 use Rattle.mb_tree.specs.Plans.{IsPlanFor}

@@ -1,19 +1,23 @@
 -- How a row is decided from the results of its questions. A decision takes them as they are, refusals, Needs
 -- and want of memory among them, and looks at each only where its line of the row is reached. So all questions
 -- are asked at once, and the refusals and the first Need still come in the row's order.
-use Rattle.std.specs.Prelude.{List, ℕ, ◌≡◌, Bool, not, ◌||◌, ◌==◌, Ok, Result, nat_lt}
+use Rattle.std.specs.Prelude.{List, ℕ, ◌≡◌, Bool, ◌||◌, ◌==◌, IfOk, IsSome, Ok, Result, nat_lt}
 use Rattle.std.specs.List.{list_any}
 use Rattle.std.specs.FinMap as fin
 use Rattle.std.specs.Ordering.{nat_cmp}
 use Rattle.mb_kinds.specs.declared.calls.Call.{Call}
 use Rattle.mb_kinds.specs.declared.calls.Call.TheVariants as call
-use Rattle.mb_kinds.specs.declared.errors.Errno.TheVariants.{EBADF, EPERM}
+use Rattle.mb_kinds.specs.declared.errors.Errno.TheVariants.{EBADF}
 use Rattle.mb_kinds.specs.declared.replies.Stat.{Stat}
 use Rattle.mb_iface.specs.OpenCounts.{count_of}
-use Rattle.mb_tree.specs.Answers.{Answer, ◌>>=◌, ◌>>◌, need, some}
-use Rattle.mb_tree.specs.Inodes.{is_directory, read_at}
+use Rattle.mb_tree.specs.Answers.{Answer, ◌>>=◌, some}
+use Rattle.mb_tree.specs.Inodes.{read_at}
 use Rattle.mb_tree.specs.Maps.{Numbered}
-use Rattle.mb_tree.specs.Rows.{is_busy}
+use Rattle.mb_tree.specs.Plans.{IsPlanFor}
+use Rattle.mb_tree.specs.Results.{Gives}
+use Rattle.mb_tree.specs.Rows.{is_busy, link_found, rmdir_at}
+use Rattle.mb_tree.specs.Sessions.{file_on}
+use Rattle.mb_tree.specs.declared.stops.Stop.{Stop}
 use Rattle.mb_tree.specs.declared.lookups.Placed.{Placed}
 use Rattle.mb_tree.specs.declared.nodes.Node.{Node}
 use Rattle.mb_tree.specs.declared.plans.CallPlan.{CallPlan}
@@ -28,6 +32,10 @@ use Rattle.mb_calls.specs.declared.spots.Spot.{Spot}
 pub record PlansUnasked (result : Result CallPlan Halt) (row : Answer CallPlan) : Type 0 where
   pub gives : Matches result row
   pub need : (scope : Scope) → Needs scope result
+
+-- and stands for the model's
+abbrev pub StandsFor : Result CallPlan Stop → Result CallPlan Halt → Type 0
+StandsFor planned result = (row : Answer CallPlan) → Gives (λ plan. plan) planned row → PlansUnasked result row
 
 -- a row that goes on from one answer: whatever the model's answer is, the rest is done on it, and what is
 -- asked for was asked for there
@@ -56,9 +64,13 @@ pub record ContinuesSpot {Y : Type 0} (asked : Result Spot Halt) (result : Resul
   pub need : (scope : Scope) → SpotWants scope asked → Needs scope result
 
 -- link(2) goes on from an inode and a place
-pub record ContinuesLink (asked : Result Stat Halt) (spot : Result Spot Halt) (result : Result CallPlan Halt) (rest : Stat → Numbered Node → Placed → Answer CallPlan) : Type 0 where
-  pub gives : (r : Answer Stat) (nodes : Numbered Node) (place : Answer Placed) → Matches asked r → MatchesPlace spot nodes place → Matches result (r >>= λ stat. need (not (is_directory stat.mode)) EPERM >> (place >>= rest stat nodes))
+pub record ContinuesLink (seat : Seat) (moment : ℕ) (asked : Result Stat Halt) (spot : Result Spot Halt) (result : Result CallPlan Halt) : Type 0 where
+  pub gives : (r : Answer Stat) (nodes : Numbered Node) (place : Answer Placed) → Matches asked r → MatchesPlace spot nodes place → Matches result (r >>= link_found nodes seat moment place)
   pub need : (scope : Scope) → Needs scope asked → SpotWants scope spot → Needs scope result
+
+-- the plan is one for every session with the descriptor
+abbrev pub PlansOnFile : ℕ → Result CallPlan Halt → Type 0
+PlansOnFile fd result = (seat : Seat) → IsSome (file_on seat fd) → IfOk result (λ plan. IsPlanFor seat plan)
 
 -- what a read of an open file gets
 abbrev pub bytes_in : Numbered Node → PlainFile → ℕ → Answer (List ℕ)
@@ -76,8 +88,9 @@ abbrev pub busy_by : CountMap → List Seat → ℕ → Bool
 busy_by opens given ino = ino == 2 || nat_lt 0 (count_of opens ino) || list_any (λ (seat : Seat). seat.cwd == ino) given
 
 -- rmdir(1) looks at all callers, but whether a directory is busy is all that it sees of them
-pub record ContinuesRemoval (opens : CountMap) (given : List Seat) (asked : Result Spot Halt) (used : Result ℕ Halt) (result : Result CallPlan Halt) (rest : Numbered Node → List Seat → Placed → Answer CallPlan) : Type 0 where
-  pub gives : (nodes : Numbered Node) (seats : List Seat) (place : Answer Placed) → ((ino : ℕ) → busy_by opens given ino ≡ is_busy seats ino) → MatchesPlace asked nodes place → Matches used (Ok (used_at nodes asked)) → Matches result (place >>= rest nodes seats)
+pub record ContinuesRemoval (opens : CountMap) (given : List Seat) (seat : Seat) (moment : ℕ) (asked : Result Spot Halt) (used : Result ℕ Halt) (result : Result CallPlan Halt) : Type 0 where
+  pub gives : (nodes : Numbered Node) (seats : List Seat) (place : Answer Placed) → ((ino : ℕ) → busy_by opens given ino ≡ is_busy seats ino) → MatchesPlace asked nodes place → Matches used (Ok (used_at nodes asked))
+      → Matches result (place >>= rmdir_at nodes seats seat moment)
   pub need : (scope : Scope) → SpotWants scope asked → Needs scope used → Needs scope result
 
 -- the sessions for which the row of a call is the same

@@ -1,5 +1,5 @@
 -- A path that is followed a component at a time, while the view grows.
-use Rattle.std.specs.Prelude.{List, [], ℕ, ◌++◌, ◌⊎◌, Some, ◌+◌, ◌-◌, ◌<◌, ◌≤◌, ◌≡◌, ◌≢◌, Option, IfSome, Result, Ok, Err, length, drop, slice_index}
+use Rattle.std.specs.Prelude.{List, [], ℕ, ◌++◌, ◌⊎◌, Some, ◌+◌, ◌-◌, ◌<◌, ◌≤◌, ◌≡◌, ◌≢◌, Option, IfSome, slice_get, Result, Ok, Err, length, drop, slice_index}
 use Rattle.mb_kinds.specs.Image.{Image}
 use Rattle.mb_kinds.specs.declared.calls.Call.{Call}
 use Rattle.mb_kinds.specs.declared.credentials.Cred.{Cred}
@@ -56,6 +56,24 @@ AsksNear image tree cred dir path (Err stop) = HaltsNear image tree cred dir pat
 pub record IsGoing (shown : ℕ → Option (List ℕ)) (seat : Seat) (made : Call) (walks : PathWalks) : Type 0 where
   pub first : (path : List ℕ) → IsFirst made path → IsKept shown seat path walks.first
   pub second : (path : List ℕ) → IsSecond made path → IsKept shown seat path walks.second
+
+-- those of a caller's call, if the caller is one of them
+abbrev pub IsGoingFor : (ℕ → Option (List ℕ)) → List Seat → ℕ → Call → PathWalks → Type 0
+IsGoingFor shown given caller made walks = (seat : Seat) → slice_get given caller ≡ Some seat → IsGoing shown seat made walks
+
+-- the walk of a path, and the walks of a call, that is just begun: on every view
+abbrev pub BeginsWalk : Seat → PathWalk → Type 0
+BeginsWalk seat walk = (shown : ℕ → Option (List ℕ)) (path : List ℕ) → IsKept shown seat path walk
+
+abbrev pub BeginsWalks : Seat → PathWalks → Type 0
+BeginsWalks seat walks = (shown : ℕ → Option (List ℕ)) (made : Call) → IsGoing shown seat made walks
+
+-- the walk of the first or second path of a call, where there is one
+abbrev pub KeepsFirst : (ℕ → Option (List ℕ)) → Seat → Call → PathWalk → Type 0
+KeepsFirst shown seat made walk = (path : List ℕ) → IsFirst made path → IsKept shown seat path walk
+
+abbrev pub KeepsSecond : (ℕ → Option (List ℕ)) → Seat → Call → PathWalk → Type 0
+KeepsSecond shown seat made walk = (path : List ℕ) → IsSecond made path → IsKept shown seat path walk
 
 -- a view that has all that it had, with the same bytes
 abbrev pub ViewGrows : (ℕ → Option (List ℕ)) → (ℕ → Option (List ℕ)) → Type 0

@@ -1,4 +1,6 @@
+pub mod Asks
 pub mod Continuing
+pub mod Endings
 pub mod Following
 pub mod Halts
 pub mod Looked

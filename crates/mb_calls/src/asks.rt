@@ -1,21 +1,11 @@
-ghost use Rattle.std.specs.Prelude.{◌≡◌, Ok};
-ghost use Rattle.mb_tree.specs.Lookup.{find_path, find_place, stat_in, used_in};
-ghost use Rattle.mb_tree.specs.Trees.{IsDirectoryAt, IsThere};
+ghost use Rattle.std.specs.Prelude.{◌≡◌};
 ghost use Rattle.mb_tree.specs.Fits.{IsOpenable};
-ghost use Rattle.mb_tree.specs.Views.{IsPart};
-ghost use Rattle.mb_tree.specs.Volume.{IsVolume};
-ghost use Rattle.mb_tree.specs.LocalLaws.{IsKnown};
-ghost use Rattle.mb_calls.specs.Continuing.{bytes_in};
-ghost use Rattle.mb_calls.specs.Halts.{Matches, IsOver, Needs, Says};
-ghost use Rattle.mb_calls.specs.Halts.Scope.{around, lacking};
-ghost use Rattle.mb_calls.specs.Looked.{IsLooked, paths_of};
-ghost use Rattle.mb_calls.specs.Spots.{AreTold, MatchesPlace, IsBeside, SpotBeside, SpotNeeds, SpotTold, SpotWants, placed_of, used_at, used_by};
-ghost use Rattle.std.specs.List.{Contains};
-ghost use Rattle.mb_kinds.specs.Image.{Image};
-ghost use Rattle.mb_kinds.specs.declared.calls.Call.{Call};
-ghost use Rattle.mb_tree.specs.declared.seats.Seat.{Seat};
-ghost use Rattle.mb_tree.specs.declared.trees.Tree.{Tree};
+ghost use Rattle.mb_tree.specs.Trees.{IsDirectoryAt, IsThere};
+ghost use Rattle.mb_calls.specs.Asks.{FindsInode, FindsPlace, FindsSpot, NearBeside, NearInode, NearPath, NearSpot, NearUsedAt, NearUsedBy, TellsBeside, TellsBytes, TellsInode, TellsUsed, TellsUsedAt, TellsUsedBy};
 ghost use Rattle.mb_calls.specs.Following.{IsKept};
+ghost use Rattle.mb_calls.specs.Halts.{Needs};
+ghost use Rattle.mb_calls.specs.Halts.Scope.{lacking};
+ghost use Rattle.mb_calls.specs.Spots.{SpotNeeds, SpotWants, placed_of};
 
 use crate::halts::Halt;
 use crate::spots::Spot;
@@ -25,7 +15,8 @@ use mb_kinds::{Octets, Path, Stat};
 use mb_tree::{Placed, PlainFile, Seat, is_directory};
 use std::alloc::Global;
 
-/// The inode to which a path leads.
+/// What stat tells of the inode to which a path leads. The first components were followed before, as far
+/// as `walk` says. Refused with `ENOTDIR`, `EACCES` or `ENOENT` as the path is.
 pub fn find<F: FileSys, V: View>(
     alloc: Global,
     fs: &F,
@@ -36,17 +27,17 @@ pub fn find<F: FileSys, V: View>(
 ) -> Result<Stat, Halt>
     requires kept { IsKept (V.shown view.now) seat.now path.now walk }
     ensures wants { Needs (lacking (V.shown view.now)) result }
-    ensures says { Says (V.shown view.now) seat.now result (λ tree. find_path tree.nodes seat.now.cred seat.now.cwd path.now) }
-    ensures near { (image : Image) (tree : Tree) (made : Call) → IsOver (V.shown view.now) seat.now image tree → Contains (paths_of made) path.now → Needs (around image tree seat.now made) result }
+    ensures says { FindsInode (V.shown view.now) seat.now path.now result }
+    ensures near { NearPath (V.shown view.now) seat.now path.now result }
 {
     find_rest(alloc, fs, view, seat, path, walk)
 }
 
-/// What stat tells of an inode that is there.
+/// What stat tells of an inode that is there. An answer of another kind comes on no volume.
 pub fn info<F: FileSys, V: View>(alloc: Global, fs: &F, view: &V, ino: u16) -> Result<Stat, Halt>
     ensures wants { Needs (lacking (V.shown view.now)) result }
-    ensures says { (image : Image) (tree : Tree) → IsPart (V.shown view.now) image.at → IsVolume image tree → IsThere tree.nodes ino → Matches result (stat_in tree.nodes ino) }
-    ensures near { (image : Image) (tree : Tree) (seat : Seat) (made : Call) → IsPart (V.shown view.now) image.at → IsVolume image tree → IsThere tree.nodes ino → IsLooked tree.nodes seat made ino → Needs (around image tree seat made) result }
+    ensures says { TellsInode (V.shown view.now) ino result }
+    ensures near { NearInode (V.shown view.now) ino (λ tree. IsThere tree.nodes ino) result }
 {
     let query = Query::Info { ino };
     match fs.ask(alloc, view, &query) {
@@ -69,8 +60,8 @@ fn placed<F: FileSys, V: View>(
 ) -> Result<Placed, Halt>
     requires kept { IsKept (V.shown view.now) seat.now path.now walk }
     ensures wants { Needs (lacking (V.shown view.now)) result }
-    ensures says { Says (V.shown view.now) seat.now result (λ tree. find_place tree.nodes seat.now.cred seat.now.cwd path.now) }
-    ensures near { (image : Image) (tree : Tree) (made : Call) → IsOver (V.shown view.now) seat.now image tree → Contains (paths_of made) path.now → Needs (around image tree seat.now made) result }
+    ensures says { FindsPlace (V.shown view.now) seat.now path.now result }
+    ensures near { NearPath (V.shown view.now) seat.now path.now result }
 {
     place_rest(alloc, fs, view, seat, path, walk)
 }
@@ -79,8 +70,8 @@ fn placed<F: FileSys, V: View>(
 fn look_beside<F: FileSys, V: View>(alloc: Global, fs: &F, view: &V, placed: Placed) -> Spot
     ensures is { placed_of result ≡ placed }
     ensures wants { SpotNeeds (lacking (V.shown view.now)) result }
-    ensures told { (image : Image) (tree : Tree) → IsPart (V.shown view.now) image.at → IsVolume image tree → IsKnown tree.nodes placed → AreTold tree.nodes result }
-    ensures near { (image : Image) (tree : Tree) (seat : Seat) (made : Call) → IsPart (V.shown view.now) image.at → IsVolume image tree → IsKnown tree.nodes placed → IsBeside tree.nodes seat made placed → SpotNeeds (around image tree seat made) result }
+    ensures told { TellsBeside (V.shown view.now) placed result }
+    ensures near { NearBeside (V.shown view.now) placed result }
 {
     match placed {
         Placed::Itself(ino) => Spot::Itself {
@@ -103,7 +94,8 @@ fn look_beside<F: FileSys, V: View>(alloc: Global, fs: &F, view: &V, placed: Pla
     }
 }
 
-/// The place of a path, with what stat tells of the inodes beside it.
+/// The place of a path, with what stat tells of the inodes beside it. Refused with `ENOTDIR`, `EACCES` or
+/// `ENOENT` as the place is; what stat is refused with stands in the place.
 pub fn place<F: FileSys, V: View>(
     alloc: Global,
     fs: &F,
@@ -114,8 +106,8 @@ pub fn place<F: FileSys, V: View>(
 ) -> Result<Spot, Halt>
     requires kept { IsKept (V.shown view.now) seat.now path.now walk }
     ensures wants { SpotWants (lacking (V.shown view.now)) result }
-    ensures says { (image : Image) (tree : Tree) → IsOver (V.shown view.now) seat.now image tree → MatchesPlace result tree.nodes (find_place tree.nodes seat.now.cred seat.now.cwd path.now) }
-    ensures near { (image : Image) (tree : Tree) (made : Call) → IsOver (V.shown view.now) seat.now image tree → Contains (paths_of made) path.now → SpotWants (around image tree seat.now made) result }
+    ensures says { FindsSpot (V.shown view.now) seat.now path.now result }
+    ensures near { NearSpot (V.shown view.now) seat.now path.now result }
 {
     match placed(alloc, fs, view, seat, path, walk) {
         Ok(placed) => Ok(look_beside(alloc, fs, view, placed)),
@@ -126,8 +118,8 @@ pub fn place<F: FileSys, V: View>(
 /// How many slots of a directory are in use.
 fn used_slots<F: FileSys, V: View>(alloc: Global, fs: &F, view: &V, ino: u16) -> Result<u32, Halt>
     ensures wants { Needs (lacking (V.shown view.now)) result }
-    ensures says { (image : Image) (tree : Tree) → IsPart (V.shown view.now) image.at → IsVolume image tree → IsDirectoryAt tree.nodes ino → Matches result (Ok (used_in tree.nodes ino)) }
-    ensures near { (image : Image) (tree : Tree) (seat : Seat) (made : Call) → IsPart (V.shown view.now) image.at → IsVolume image tree → IsDirectoryAt tree.nodes ino → IsLooked tree.nodes seat made ino → Needs (around image tree seat made) result }
+    ensures says { TellsUsed (V.shown view.now) ino result }
+    ensures near { NearInode (V.shown view.now) ino (λ tree. IsDirectoryAt tree.nodes ino) result }
 {
     let query = Query::Used { ino };
     match fs.ask(alloc, view, &query) {
@@ -139,6 +131,8 @@ fn used_slots<F: FileSys, V: View>(alloc: Global, fs: &F, view: &V, ino: u16) ->
     }
 }
 
+/// How many slots are in use in the directory to which a name leads; of anything else it says nothing,
+/// as the row looks at it for a directory alone.
 fn used_beside<F: FileSys, V: View>(
     alloc: Global,
     fs: &F,
@@ -146,8 +140,8 @@ fn used_beside<F: FileSys, V: View>(
     spot: Spot,
 ) -> Result<u32, Halt>
     ensures wants { Needs (lacking (V.shown view.now)) result }
-    ensures says { (image : Image) (tree : Tree) → IsPart (V.shown view.now) image.at → IsVolume image tree → AreTold tree.nodes spot → Matches result (Ok (used_by tree.nodes spot)) }
-    ensures near { (image : Image) (tree : Tree) (seat : Seat) (made : Call) → IsPart (V.shown view.now) image.at → IsVolume image tree → AreTold tree.nodes spot → IsBeside tree.nodes seat made (placed_of spot) → Needs (around image tree seat made) result }
+    ensures says { TellsUsedBy (V.shown view.now) spot result }
+    ensures near { NearUsedBy (V.shown view.now) spot result }
 {
     match spot {
         Spot::Present { ino, stat, .. } => match stat {
@@ -164,7 +158,8 @@ fn used_beside<F: FileSys, V: View>(
     }
 }
 
-/// How many slots are in use in a directory that is to be removed; of anything else it says nothing.
+/// How many slots are in use in the directory that is to be removed. Where the place was not found, or
+/// is of no directory, it says nothing.
 pub fn used<F: FileSys, V: View>(
     alloc: Global,
     fs: &F,
@@ -172,8 +167,8 @@ pub fn used<F: FileSys, V: View>(
     asked: Result<Spot, Halt>,
 ) -> Result<u32, Halt>
     ensures wants { Needs (lacking (V.shown view.now)) result }
-    ensures says { (image : Image) (tree : Tree) → IsPart (V.shown view.now) image.at → IsVolume image tree → SpotTold tree.nodes asked → Matches result (Ok (used_at tree.nodes asked)) }
-    ensures near { (image : Image) (tree : Tree) (seat : Seat) (made : Call) → IsPart (V.shown view.now) image.at → IsVolume image tree → SpotTold tree.nodes asked → SpotBeside tree.nodes seat made asked → Needs (around image tree seat made) result }
+    ensures says { TellsUsedAt (V.shown view.now) asked result }
+    ensures near { NearUsedAt (V.shown view.now) asked result }
 {
     match asked {
         Ok(spot) => used_beside(alloc, fs, view, spot),
@@ -181,7 +176,7 @@ pub fn used<F: FileSys, V: View>(
     }
 }
 
-/// What a read of an open file gets.
+/// What a read of an open file gets: at most `count` bytes from its offset on.
 pub fn bytes<F: FileSys, V: View>(
     alloc: Global,
     fs: &F,
@@ -190,8 +185,8 @@ pub fn bytes<F: FileSys, V: View>(
     count: u16,
 ) -> Result<Octets, Halt>
     ensures wants { Needs (lacking (V.shown view.now)) result }
-    ensures says { (image : Image) (tree : Tree) → IsPart (V.shown view.now) image.at → IsVolume image tree → IsOpenable tree.nodes file.ino → Matches result (bytes_in tree.nodes file count) }
-    ensures near { (image : Image) (tree : Tree) (seat : Seat) (made : Call) → IsPart (V.shown view.now) image.at → IsVolume image tree → IsOpenable tree.nodes file.ino → IsLooked tree.nodes seat made file.ino → Needs (around image tree seat made) result }
+    ensures says { TellsBytes (V.shown view.now) file count result }
+    ensures near { NearInode (V.shown view.now) file.ino (λ tree. IsOpenable tree.nodes file.ino) result }
 {
     let query = Query::Bytes {
         ino: file.ino,

@@ -1,23 +1,15 @@
-ghost use Rattle.std.specs.Prelude.{◌≡◌, Ok, IfOk, IsSome};
-ghost use Rattle.std.specs.List.{list_any};
-ghost use Rattle.mb_tree.specs.Answers.{Answer};
+ghost use Rattle.std.specs.Prelude.{IfOk, Some};
 ghost use Rattle.mb_tree.specs.Plans.{IsPlanFor};
-ghost use Rattle.mb_tree.specs.Results as model;
 ghost use Rattle.mb_tree.specs.Rows.{access_found, chdir_found, chmod_found, chown_found, creat_found, creat_under, link_under, lseek_from, mkdir_under, open_found, read_found, rmdir_found, stat_found, unlink_found, utime_found};
-ghost use Rattle.mb_tree.specs.Sessions.{file_on};
-ghost use Rattle.mb_tree.specs.declared.plans.CallPlan.{CallPlan};
 ghost use Rattle.mb_tree.specs.declared.seats.Seat.{Seat};
-ghost use Rattle.std.specs.Prelude.{Some};
-ghost use Rattle.mb_calls.specs.Continuing.{Continues, ContinuesBytes, ContinuesThree, ContinuesTwo, PlansUnasked, busy_by};
+ghost use Rattle.mb_calls.specs.Continuing.{Continues, ContinuesBytes, ContinuesThree, ContinuesTwo, PlansOnFile, StandsFor};
 
 use crate::halts::Halt;
-use mb_iface::Opens;
 use mb_kinds::{Errno, How, Name, Octets, Stat};
 use mb_tree::{
     CallPlan, FsOp, PlainFile, Seat, Stop, access_found, acting, chdir_found, chmod_found,
-    chown_found, creat_found, creat_under, is_current, is_directory, is_dots, link_under,
-    lseek_from, may, mkdir_under, need, open_found, read_found, stat_found, unlink_found,
-    utime_found,
+    chown_found, creat_found, creat_under, is_directory, is_dots, link_under, lseek_from, may,
+    mkdir_under, need, open_found, read_found, stat_found, unlink_found, utime_found,
 };
 
 /// open(2) of the inode that is asked for.
@@ -45,7 +37,8 @@ pub fn creat_asked(
     Ok(plan)
 }
 
-/// creat(2) of a name that is missing. The number 0 stands for the one that is picked when the file is created.
+/// creat(2) of a name that is missing. The number 0 stands for the one that is picked when the file is
+/// created.
 pub fn create_asked(
     seat: &Seat,
     mode: u16,
@@ -190,27 +183,19 @@ pub fn unlink_asked(
     Ok(plan)
 }
 
-/// Whether a directory is the root, open, or a caller's current directory.
-fn is_busy(opens: &Opens, seats: &[Seat], ino: u16) -> bool
-    ensures { result ≡ busy_by opens.now seats.now ino }
-{
-    ino == 2 || opens.count(ino) > 0 || is_current(seats, ino)
-}
-
-/// rmdir(1) in one step; `beside` tells of the directory with the name.
+/// rmdir(1) in one step; `busy` says whether the directory is in use, `beside`
+/// tells of the directory with the name, `used` how many slots are in use.
 pub fn rmdir_asked(
-    opens: &Opens,
-    seats: &[Seat],
     seat: &Seat,
     moment: u32,
     dir: u16,
     name: Name,
-    ino: u16,
+    busy: bool,
     asked: Result<Stat, Halt>,
     beside: Result<Stat, Halt>,
     used: Result<u32, Halt>,
 ) -> Result<CallPlan, Halt>
-    ensures follows { ContinuesThree asked beside used result (rmdir_found seat.now moment dir name (busy_by opens.now seats.now ino)) }
+    ensures follows { ContinuesThree asked beside used result (rmdir_found seat.now moment dir name busy) }
     ensures ready { IfOk result (λ plan. IsPlanFor seat.now plan) }
 {
     let stat = asked?;
@@ -218,7 +203,7 @@ pub fn rmdir_asked(
     need(!is_dots(&name), Errno::EINVAL)?;
     let parent = beside?;
     need(may(seat.cred, &parent, 2), Errno::EACCES)?;
-    need(!is_busy(opens, seats, ino), Errno::EBUSY)?;
+    need(!busy, Errno::EBUSY)?;
     need(used? <= 2, Errno::EEXIST)?;
     Ok(acting(FsOp::RemoveDir { dir, name, moment }))
 }
@@ -226,18 +211,18 @@ pub fn rmdir_asked(
 /// lseek(2) from a base.
 pub fn lseek_asked(fd: u16, by: i32, asked: Result<u32, Halt>) -> Result<CallPlan, Halt>
     ensures follows { Continues asked result (lseek_from fd by) }
-    ensures ready { (seat : Seat) → IsSome (file_on seat fd) → IfOk result (λ plan. IsPlanFor seat plan) }
+    ensures ready { PlansOnFile fd result }
 {
     let base = asked?;
     let plan = lseek_from(fd, by, base)?;
     Ok(plan)
 }
 
-/// read(2) of the bytes at the offset of an open file. On a view that is a part of no volume there can be bytes past
-/// the greatest offset; then the answer is want of memory.
+/// read(2) of the bytes at the offset of an open file. On a view that is a part of no volume they can go
+/// past the greatest `u32`; then the answer is want of memory.
 pub fn read_asked(fd: u16, file: PlainFile, asked: Result<Octets, Halt>) -> Result<CallPlan, Halt>
     ensures follows { ContinuesBytes asked result (read_found fd file) }
-    ensures ready { (seat : Seat) → IsSome (file_on seat fd) → IfOk result (λ plan. IsPlanFor seat plan) }
+    ensures ready { PlansOnFile fd result }
 {
     let bytes = asked?;
     if u64::from(file.offset) + bytes.as_slice().len() as u64 > u64::from(u32::MAX) {
@@ -248,8 +233,8 @@ pub fn read_asked(fd: u16, file: PlainFile, asked: Result<Octets, Halt>) -> Resu
 
 /// A row of the reference model that asks nothing.
 pub fn unasked(planned: Result<CallPlan, Stop>) -> Result<CallPlan, Halt>
-    ensures follows { (row : Answer CallPlan) → model.Gives (λ plan. plan) planned row → PlansUnasked result row }
-    ensures ready { (seat : Seat) → IfOk planned (λ plan. IsPlanFor seat plan) → IfOk result (λ plan. IsPlanFor seat plan) }
+    ensures follows { StandsFor planned result }
+    ensures ready { (seat : Seat) → IfOk planned (IsPlanFor seat) → IfOk result (IsPlanFor seat) }
 {
     match planned {
         Ok(plan) => Ok(plan),

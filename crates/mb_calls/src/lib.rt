@@ -26,5 +26,5 @@ mod spots;
 mod walks;
 
 pub use performing::{Performed, Ready, perform};
-pub use resuming::{Performing, start, walks_go_on};
+pub use resuming::{Performing, walks_go_on};
 pub use walks::{PathWalk, PathWalks};

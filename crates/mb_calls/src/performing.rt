@@ -1,10 +1,10 @@
-ghost use Rattle.std.specs.Prelude.{◌≡◌, ◌<◌, Some, length, slice_get};
+ghost use Rattle.std.specs.Prelude.{◌≡◌, ◌<◌, length};
 ghost use Rattle.mb_tree.specs.LocalLaws.{is_shared_call};
 ghost use Rattle.mb_tree.specs.PickLaws.{fresh_on};
 ghost use Rattle.mb_tree.specs.SessionLaws.{IsCall};
-ghost use Rattle.mb_tree.specs.declared.seats.Seat.{Seat};
-ghost use Rattle.mb_calls.specs.Following.{IsGoing};
-ghost use Rattle.mb_calls.specs.Performed.{Ends, EndsNear, FitsCall, IsNeeded, IsRight, ready_refused};
+ghost use Rattle.mb_calls.specs.Following.{IsGoingFor};
+ghost use Rattle.mb_calls.specs.Endings.{Ends, EndsNear, ready_refused};
+ghost use Rattle.mb_calls.specs.Performed.{FitsCall, IsNeeded, IsRight};
 
 use crate::halts::Halt;
 use crate::planning::plan_call;
@@ -14,22 +14,32 @@ use mb_kinds::{Call, Errno, Reply};
 use mb_tree::{CallPlan, FsOp, Seat, SessionChange};
 use std::alloc::Global;
 
-/// What a call comes to.
+/// What a call comes to, before anything is changed.
 #[derive(Drop)]
 pub struct Ready {
+    /// Its reply: a number, bytes, what stat tells, or a refusal.
     pub reply: Reply,
+    /// Its one operation on the file system, or none. A refused call has none.
     pub op: Option<FsOp>,
+    /// The number of the inode that the operation made.
     pub pick: Option<u16>,
+    /// The blocks that the operation changes.
     pub changes: Changes,
+    /// The change of its caller's session.
     pub session: SessionChange,
+    /// Whether the answer looked at other callers' open files or current directories: exactly for close(2),
+    /// unlink(2), rmdir(1) and exit(2).
     pub shared: bool,
 }
 
 /// The answer of `perform`.
 #[derive(Drop)]
 pub enum Performed {
+    /// All blocks were there.
     Ready(Ready),
+    /// These blocks, which the view lacks, have to be gathered first.
     Need(Need),
+    /// It met want of memory, which says nothing of the call.
     NoMemory,
 }
 
@@ -49,6 +59,7 @@ fn fresh_on(op: &FsOp, pick: Option<u16>, change: SessionChange) -> SessionChang
     }
 }
 
+/// A call that is refused.
 fn refused(alloc: Global, shared: bool, error: Errno) -> Ready
     ensures { result ≡ ready_refused shared error }
 {
@@ -62,7 +73,7 @@ fn refused(alloc: Global, shared: bool, error: Errno) -> Ready
     }
 }
 
-/// Does the operation of a plan.
+/// Does the operation of a plan, with a free number where it makes an inode.
 fn complete<F: FileSys, V: View>(
     alloc: Global,
     fs: &F,
@@ -127,7 +138,7 @@ pub fn perform_on<F: FileSys, V: View>(
 ) -> Performed
     requires declared { caller < length sessions.now }
     requires lawful { IsCall call.now }
-    requires going { (seat : Seat) → slice_get sessions.now caller ≡ Some seat → IsGoing (V.shown view.now) seat call.now walks }
+    requires going { IsGoingFor (V.shown view.now) sessions.now caller call.now walks }
     ensures right { IsRight (V.shown view.now) sessions.now opens.now caller call.now moment result }
     ensures needed { IsNeeded (V.shown view.now) sessions.now opens.now caller call.now result }
     ensures fit { FitsCall sessions.now caller call.now result }
@@ -146,7 +157,9 @@ pub fn perform_on<F: FileSys, V: View>(
     }
 }
 
-/// Performs a call over gathered blocks.
+/// Performs a call of a declared caller over gathered blocks: all questions of its row are asked, then it is
+/// decided, then its one operation is done. `sessions` are those of all callers, `opens` the counts of their
+/// open files, `moment` the time of the call. On every view it returns.
 pub fn perform<F: FileSys, V: View>(
     alloc: Global,
     fs: &F,

@@ -1,18 +1,11 @@
-ghost use Rattle.std.specs.Prelude.{◌≡◌, IfOk, List, Ok, Some};
-ghost use Rattle.mb_kinds.specs.Image.{Image};
-ghost use Rattle.mb_tree.specs.Trees.{IsThere};
-ghost use Rattle.mb_tree.specs.Views.{IsPart};
-ghost use Rattle.mb_tree.specs.Volume.{IsVolume};
-ghost use Rattle.mb_tree.specs.Rows.{base_of, fstat_row, lseek_row, read_row, row};
-ghost use Rattle.mb_kinds.specs.declared.calls.Call.{Call};
-ghost use Rattle.mb_tree.specs.declared.seats.Seat.{Seat};
-ghost use Rattle.mb_tree.specs.declared.trees.Tree.{Tree};
+ghost use Rattle.std.specs.Prelude.{IfOk};
 ghost use Rattle.mb_tree.specs.Plans.{IsPlanFor};
-ghost use Rattle.mb_calls.specs.Continuing.{BusyAlike};
+ghost use Rattle.mb_tree.specs.Rows.{fstat_row, lseek_row, read_row};
+ghost use Rattle.mb_tree.specs.Trees.{IsThere};
+ghost use Rattle.mb_calls.specs.Asks.{NearCall, NearFile, NearInode, PlansRow, TellsBase};
 ghost use Rattle.mb_calls.specs.Following.{IsGoing};
-ghost use Rattle.mb_calls.specs.Halts.{Matches, IsOver, Needs, Says};
-ghost use Rattle.mb_calls.specs.Halts.Scope.{around, lacking};
-ghost use Rattle.mb_calls.specs.Looked.{IsLooked};
+ghost use Rattle.mb_calls.specs.Halts.{Needs, Says};
+ghost use Rattle.mb_calls.specs.Halts.Scope.{lacking};
 
 use crate::asks::{bytes, find, info, place, used};
 use crate::decisions::{
@@ -41,7 +34,7 @@ fn read_row<F: FileSys, V: View>(
 ) -> Result<CallPlan, Halt>
     ensures wants { Needs (lacking (V.shown view.now)) result }
     ensures says { Says (V.shown view.now) seat.now result (λ tree. read_row tree.nodes seat.now fd count) }
-    ensures near { (image : Image) (tree : Tree) (made : Call) → IsOver (V.shown view.now) seat.now image tree → Needs (around image tree seat.now made) result }
+    ensures near { NearFile (V.shown view.now) seat.now result }
     ensures ready { IfOk result (λ plan. IsPlanFor seat.now plan) }
 {
     match open_file(seat, fd) {
@@ -63,7 +56,7 @@ fn fstat_row<F: FileSys, V: View>(
 ) -> Result<CallPlan, Halt>
     ensures wants { Needs (lacking (V.shown view.now)) result }
     ensures says { Says (V.shown view.now) seat.now result (λ tree. fstat_row tree.nodes seat.now fd) }
-    ensures near { (image : Image) (tree : Tree) (made : Call) → IsOver (V.shown view.now) seat.now image tree → Needs (around image tree seat.now made) result }
+    ensures near { NearFile (V.shown view.now) seat.now result }
     ensures ready { IfOk result (λ plan. IsPlanFor seat.now plan) }
 {
     match open_file(seat, fd) {
@@ -89,9 +82,8 @@ pub fn plan_call<F: FileSys, V: View>(
 ) -> Result<CallPlan, Halt>
     requires going { IsGoing (V.shown view.now) seat.now call.now walks }
     ensures wants { Needs (lacking (V.shown view.now)) result }
-    ensures says { (image : Image) (tree : Tree) (others : List Seat) → IsOver (V.shown view.now) seat.now image tree → BusyAlike call.now opens.now seats.now others
-        → Matches result (row tree.nodes others seat.now call.now moment (Some 0)) }
-    ensures near { (image : Image) (tree : Tree) → IsOver (V.shown view.now) seat.now image tree → Needs (around image tree seat.now call.now) result }
+    ensures says { PlansRow (V.shown view.now) opens.now seats.now seat.now call.now moment result }
+    ensures near { NearCall (V.shown view.now) seat.now call.now result }
     ensures ready { IfOk result (λ plan. IsPlanFor seat.now plan) }
 {
     match call {
@@ -173,9 +165,8 @@ fn base_of<F: FileSys, V: View>(
     whence: Whence,
 ) -> Result<u32, Halt>
     ensures wants { Needs (lacking (V.shown view.now)) result }
-    ensures says { (image : Image) (tree : Tree) → IsPart (V.shown view.now) image.at → IsVolume image tree → IsThere tree.nodes file.ino → Matches result (Ok (base_of tree.nodes file whence)) }
-    ensures near { (image : Image) (tree : Tree) (seat : Seat) (made : Call) → IsPart (V.shown view.now) image.at → IsVolume image tree → IsThere tree.nodes file.ino → IsLooked tree.nodes seat made file.ino
-        → Needs (around image tree seat made) result }
+    ensures says { TellsBase (V.shown view.now) file whence result }
+    ensures near { NearInode (V.shown view.now) file.ino (λ tree. IsThere tree.nodes file.ino) result }
 {
     match whence {
         Whence::Start => Ok(0),
@@ -199,7 +190,7 @@ fn lseek_row<F: FileSys, V: View>(
 ) -> Result<CallPlan, Halt>
     ensures wants { Needs (lacking (V.shown view.now)) result }
     ensures says { Says (V.shown view.now) seat.now result (λ tree. lseek_row tree.nodes seat.now fd by whence) }
-    ensures near { (image : Image) (tree : Tree) (made : Call) → IsOver (V.shown view.now) seat.now image tree → Needs (around image tree seat.now made) result }
+    ensures near { NearFile (V.shown view.now) seat.now result }
     ensures ready { IfOk result (λ plan. IsPlanFor seat.now plan) }
 {
     match open_file(seat, fd) {

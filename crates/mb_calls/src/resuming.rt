@@ -1,8 +1,6 @@
-ghost use Rattle.std.specs.Prelude.{◌≡◌, ◌<◌, ℕ, List, Option, Some, IfSome, length, slice_get};
-ghost use Rattle.mb_kinds.specs.declared.calls.Call.{Call};
+ghost use Rattle.std.specs.Prelude.{◌<◌, IfSome, length};
 ghost use Rattle.mb_tree.specs.SessionLaws.{IsCall};
-ghost use Rattle.mb_tree.specs.declared.seats.Seat.{Seat};
-ghost use Rattle.mb_calls.specs.Following.{WalksGoOn, IsGoing, IsKept};
+ghost use Rattle.mb_calls.specs.Following.{BeginsWalks, IsGoing, IsGoingFor, IsKept, KeepsFirst, KeepsSecond, WalksGoOn};
 ghost use Rattle.mb_calls.specs.Looked.{IsFirst, IsSecond};
 ghost use Rattle.mb_calls.specs.Performed.{FitsCall, IsNeeded, IsRight};
 
@@ -13,27 +11,20 @@ use mb_kinds::{Call, Path};
 use mb_tree::Seat;
 use std::alloc::Global;
 
-/// A call that is performed while its blocks are gathered. Where it goes on it keeps how far its paths were followed.
+/// A call that is performed while its blocks are gathered: after each `Need` it goes on over a view that
+/// has more of them, and keeps how far its paths were followed. No memory is kept.
 #[derive(Clone, Copy, Debug, Drop)]
 pub struct Performing {
     pub walks: PathWalks,
 }
 
-/// A call that begins.
-pub fn start(seat: &Seat) -> Performing
-    ensures { (shown : ℕ → Option (List ℕ)) (made : Call) → IsGoing shown seat.now made result.walks }
-{
-    Performing {
-        walks: set_out(seat),
-    }
-}
-
-/// A call goes on over a view that only grew.
+/// A call goes on over a view that has all that it had, with the same bytes.
 pub fn walks_go_on()
     ensures { WalksGoOn }
 {}
 
-/// The walk of a path, as far as the view has the blocks for it.
+/// The walk of a path, as far as the view has the blocks for it. Where it halts is dropped here and found again
+/// when the path is asked for in its turn, so the second path of link(2) does not overtake the first.
 fn farther<F: FileSys, V: View>(
     alloc: Global,
     fs: &F,
@@ -46,9 +37,8 @@ fn farther<F: FileSys, V: View>(
     ensures { IsKept (V.shown view.now) seat.now path.now result }
 {
     let mut further = walk;
-    match follow(alloc, fs, view, seat, path, &mut further) {
-        _ => further,
-    }
+    let _halted = follow(alloc, fs, view, seat, path, &mut further);
+    further
 }
 
 /// The first path of a call.
@@ -91,8 +81,8 @@ fn first_on<F: FileSys, V: View>(
     call: &Call,
     walk: PathWalk,
 ) -> PathWalk
-    requires kept { (path : List ℕ) → IsFirst call.now path → IsKept (V.shown view.now) seat.now path walk }
-    ensures { (path : List ℕ) → IsFirst call.now path → IsKept (V.shown view.now) seat.now path result }
+    requires kept { KeepsFirst (V.shown view.now) seat.now call.now walk }
+    ensures { KeepsFirst (V.shown view.now) seat.now call.now result }
 {
     match first_path(call) {
         Some(path) => farther(alloc, fs, view, seat, path, walk),
@@ -109,8 +99,8 @@ fn second_on<F: FileSys, V: View>(
     call: &Call,
     walk: PathWalk,
 ) -> PathWalk
-    requires kept { (path : List ℕ) → IsSecond call.now path → IsKept (V.shown view.now) seat.now path walk }
-    ensures { (path : List ℕ) → IsSecond call.now path → IsKept (V.shown view.now) seat.now path result }
+    requires kept { KeepsSecond (V.shown view.now) seat.now call.now walk }
+    ensures { KeepsSecond (V.shown view.now) seat.now call.now result }
 {
     match second_path(call) {
         Some(path) => farther(alloc, fs, view, seat, path, walk),
@@ -136,6 +126,15 @@ fn advance<F: FileSys, V: View>(
 }
 
 impl Performing {
+    /// A call that begins, whose paths are not followed yet.
+    pub fn new(seat: &Seat) -> Performing
+        ensures { BeginsWalks seat.now result.walks }
+    {
+        Performing {
+            walks: set_out(seat),
+        }
+    }
+
     /// Performs a call over the blocks gathered so far, from where it stopped over fewer of them.
     pub fn go<F: FileSys, V: View>(
         &mut self,
@@ -150,8 +149,8 @@ impl Performing {
     ) -> Performed
         requires declared { caller < length sessions.now }
         requires lawful { IsCall call.now }
-        requires going { (seat : Seat) → slice_get sessions.now caller ≡ Some seat → IsGoing (V.shown view.now) seat call.now self.old.walks }
-        ensures going { (seat : Seat) → slice_get sessions.now caller ≡ Some seat → IsGoing (V.shown view.now) seat call.now self.new.walks }
+        requires going { IsGoingFor (V.shown view.now) sessions.now caller call.now self.old.walks }
+        ensures going { IsGoingFor (V.shown view.now) sessions.now caller call.now self.new.walks }
         ensures right { IsRight (V.shown view.now) sessions.now opens.now caller call.now moment result }
         ensures needed { IsNeeded (V.shown view.now) sessions.now opens.now caller call.now result }
         ensures fit { FitsCall sessions.now caller call.now result }

@@ -1,7 +1,8 @@
-ghost use Rattle.std.specs.Prelude.{IfOk, Some};
-ghost use Rattle.mb_tree.specs.Rows.{creat_at, link_at, mkdir_at, rmdir_at, unlink_at};
+ghost use Rattle.std.specs.Prelude.{◌≡◌, ◌==◌, IfOk, Some};
+ghost use Rattle.std.specs.List.{list_any};
+ghost use Rattle.mb_tree.specs.Rows.{creat_at, link_at, mkdir_at, unlink_at};
 ghost use Rattle.mb_tree.specs.Plans.{IsPlanFor};
-ghost use Rattle.mb_calls.specs.Continuing.{ContinuesLink, ContinuesRemoval, ContinuesSpot};
+ghost use Rattle.mb_calls.specs.Continuing.{busy_by, ContinuesLink, ContinuesRemoval, ContinuesSpot};
 
 use crate::decisions::{
     creat_asked, create_asked, link_asked, mkdir_asked, rmdir_asked, unlink_asked,
@@ -9,7 +10,7 @@ use crate::decisions::{
 use crate::halts::Halt;
 use mb_iface::Opens;
 use mb_kinds::{Errno, Name, Stat};
-use mb_tree::{CallPlan, Seat, is_directory};
+use mb_tree::{CallPlan, Seat, is_current, is_directory};
 
 /// The place of a path, with what stat tells of the inodes beside it, or why it does not.
 #[derive(Clone, Copy, Debug, Drop)]
@@ -108,7 +109,7 @@ pub fn link_spot(
     asked: Result<Stat, Halt>,
     spot: Result<Spot, Halt>,
 ) -> Result<CallPlan, Halt>
-    ensures follows { ContinuesLink asked spot result (λ stat nodes. link_at nodes seat.now moment stat.ino) }
+    ensures follows { ContinuesLink seat.now moment asked spot result }
     ensures ready { IfOk result (λ plan. IsPlanFor seat.now plan) }
 {
     let stat = asked?;
@@ -118,7 +119,15 @@ pub fn link_spot(
     enlink_spot(seat, moment, stat.ino, spot)
 }
 
-/// rmdir(1) in one step.
+/// Whether a directory is the root, open, or a caller's current directory.
+fn is_busy(opens: &Opens, seats: &[Seat], ino: u16) -> bool
+    ensures { result ≡ busy_by opens.now seats.now ino }
+{
+    ino == 2 || opens.count(ino) > 0 || is_current(seats, ino)
+}
+
+/// rmdir(1) in one step; `used` says how many slots of the directory are in use. Of other callers it sees
+/// whether the directory is in use. A path without components is refused with `EBUSY`.
 pub fn rmdir_spot(
     opens: &Opens,
     seats: &[Seat],
@@ -127,7 +136,7 @@ pub fn rmdir_spot(
     asked: Result<Spot, Halt>,
     used: Result<u32, Halt>,
 ) -> Result<CallPlan, Halt>
-    ensures follows { ContinuesRemoval opens.now seats.now asked used result (λ nodes others. rmdir_at nodes others seat.now moment) }
+    ensures follows { ContinuesRemoval opens.now seats.now seat.now moment asked used result }
     ensures ready { IfOk result (λ plan. IsPlanFor seat.now plan) }
 {
     match asked? {
@@ -139,8 +148,9 @@ pub fn rmdir_spot(
             ino,
             stat,
             parent,
-        } => rmdir_asked(
-            opens, seats, seat, moment, dir, name, ino, stat, parent, used,
-        ),
+        } => {
+            let busy = is_busy(opens, seats, ino);
+            rmdir_asked(seat, moment, dir, name, busy, stat, parent, used)
+        }
     }
 }

@@ -1,13 +1,7 @@
-ghost use Rattle.std.specs.Prelude.{◌≡◌, ◌≤◌, ◌-◌, ℕ, List, Option, IfOk, IfSome, drop, length, take};
-ghost use Rattle.mb_kinds.specs.Image.{Image};
-ghost use Rattle.mb_kinds.specs.declared.calls.Call.{Call};
-ghost use Rattle.mb_tree.specs.Lookup.{find_path, find_place};
-ghost use Rattle.mb_tree.specs.Trees.{IsDirectoryAt};
-ghost use Rattle.mb_tree.specs.Views.{IsPart};
-ghost use Rattle.mb_tree.specs.Volume.{IsVolume};
-ghost use Rattle.mb_tree.specs.declared.trees.Tree.{Tree};
-ghost use Rattle.mb_calls.specs.Following.{AsksNear, IsCut, IsGoing, IsKept, HaltsOn};
-ghost use Rattle.mb_calls.specs.Halts.{Matches, IsOver, Needs, Says};
+ghost use Rattle.std.specs.Prelude.{◌≡◌, ◌≤◌, ◌-◌, IfOk, IfSome, drop, length, take};
+ghost use Rattle.mb_calls.specs.Asks.{FindsFrom, FindsInode, FindsPlace, HaltsFinding, HaltsPlacing, NearFrom, NearWay, PlacesFrom};
+ghost use Rattle.mb_calls.specs.Following.{BeginsWalk, BeginsWalks, IsCut, IsKept};
+ghost use Rattle.mb_calls.specs.Halts.{Needs};
 ghost use Rattle.mb_calls.specs.Halts.Scope.{lacking};
 
 use crate::halts::Halt;
@@ -19,7 +13,9 @@ use std::alloc::{AllocError, Global};
 /// How far a path has been followed: a directory on its way, and where in the path the rest begins.
 #[derive(Clone, Copy, Debug, Drop)]
 pub struct PathWalk {
+    /// The number of the directory.
     pub dir: u16,
+    /// The index of the first byte of the rest.
     pub from: usize,
 }
 
@@ -32,7 +28,7 @@ pub struct PathWalks {
 
 /// The walks of a call that begins.
 pub fn set_out(seat: &Seat) -> PathWalks
-    ensures { (shown : ℕ → Option (List ℕ)) (made : Call) → IsGoing shown seat.now made result }
+    ensures { BeginsWalks seat.now result }
 {
     PathWalks {
         first: begin(seat),
@@ -42,7 +38,7 @@ pub fn set_out(seat: &Seat) -> PathWalks
 
 /// Where a path begins.
 pub fn begin(seat: &Seat) -> PathWalk
-    ensures { (shown : ℕ → Option (List ℕ)) (path : List ℕ) → IsKept shown seat.now path result }
+    ensures { BeginsWalk seat.now result }
 {
     PathWalk {
         dir: seat.cwd,
@@ -50,12 +46,13 @@ pub fn begin(seat: &Seat) -> PathWalk
     }
 }
 
-/// Where the component after the next one begins.
+/// Where the component after the next one begins, from an index on; `None` in the last component, and
+/// wherever a look at the whole rest serves as well.
 fn cut(path: &[u8], from: usize) -> Option<usize>
     ensures { IfSome result (λ next. IsCut path.now from next) }
 {
     for at in 2..path.len() {
-        if at - 2 >= from && path[at - 1] == 47 && path[at] != 47 {
+        if at - 2 >= from && path[at - 1] == b'/' && path[at] != b'/' {
             return Some(at);
         }
     }
@@ -91,8 +88,8 @@ fn find_at<F: FileSys, V: View>(
     path: Path,
 ) -> Result<Stat, Halt>
     ensures wants { Needs (lacking (V.shown view.now)) result }
-    ensures says { (image : Image) (tree : Tree) → IsPart (V.shown view.now) image.at → IsVolume image tree → IsDirectoryAt tree.nodes dir → Matches result (find_path tree.nodes cred dir path) }
-    ensures near { (image : Image) (tree : Tree) → IsPart (V.shown view.now) image.at → IsVolume image tree → IsDirectoryAt tree.nodes dir → AsksNear image tree cred dir path result }
+    ensures says { FindsFrom (V.shown view.now) cred dir path result }
+    ensures near { NearFrom (V.shown view.now) cred dir path result }
 {
     let query = Query::Find {
         cwd: dir,
@@ -108,7 +105,8 @@ fn find_at<F: FileSys, V: View>(
     }
 }
 
-/// One component further.
+/// One component further, to the one that begins at `next`. Halts with `ENOTDIR` where it leads to no
+/// directory, else as the look-up of the component does.
 fn step<F: FileSys, V: View>(
     alloc: Global,
     fs: &F,
@@ -122,9 +120,9 @@ fn step<F: FileSys, V: View>(
     requires cut { IsCut path.now walk.from next }
     ensures kept { IfOk result (λ walk. IsKept (V.shown view.now) seat.now path.now walk) }
     ensures wants { Needs (lacking (V.shown view.now)) result }
-    ensures finds { (image : Image) (tree : Tree) → IsOver (V.shown view.now) seat.now image tree → HaltsOn result (find_path tree.nodes seat.now.cred seat.now.cwd path.now) }
-    ensures places { (image : Image) (tree : Tree) → IsOver (V.shown view.now) seat.now image tree → HaltsOn result (find_place tree.nodes seat.now.cred seat.now.cwd path.now) }
-    ensures near { (image : Image) (tree : Tree) → IsOver (V.shown view.now) seat.now image tree → AsksNear image tree seat.now.cred seat.now.cwd path.now result }
+    ensures finds { HaltsFinding (V.shown view.now) seat.now path.now result }
+    ensures places { HaltsPlacing (V.shown view.now) seat.now path.now result }
+    ensures near { NearWay (V.shown view.now) seat.now path.now result }
 {
     let head = piece(alloc, path, walk.from, next - 1)?;
     match find_at(alloc, fs, view, walk.dir, seat.cred, head) {
@@ -142,7 +140,8 @@ fn step<F: FileSys, V: View>(
     }
 }
 
-/// Continues a path to the directory of its last component, as far as the view has the blocks for it.
+/// Follows a path to the directory of its last component, as far as the view has the blocks for it. Where it
+/// halts the walk stays at the directory that it has reached.
 pub fn follow<F: FileSys, V: View>(
     alloc: Global,
     fs: &F,
@@ -154,9 +153,9 @@ pub fn follow<F: FileSys, V: View>(
     requires kept { IsKept (V.shown view.now) seat.now path.now walk.old }
     ensures kept { IsKept (V.shown view.now) seat.now path.now walk.new }
     ensures wants { Needs (lacking (V.shown view.now)) result }
-    ensures finds { (image : Image) (tree : Tree) → IsOver (V.shown view.now) seat.now image tree → HaltsOn result (find_path tree.nodes seat.now.cred seat.now.cwd path.now) }
-    ensures places { (image : Image) (tree : Tree) → IsOver (V.shown view.now) seat.now image tree → HaltsOn result (find_place tree.nodes seat.now.cred seat.now.cwd path.now) }
-    ensures near { (image : Image) (tree : Tree) → IsOver (V.shown view.now) seat.now image tree → AsksNear image tree seat.now.cred seat.now.cwd path.now result }
+    ensures finds { HaltsFinding (V.shown view.now) seat.now path.now result }
+    ensures places { HaltsPlacing (V.shown view.now) seat.now path.now result }
+    ensures near { NearWay (V.shown view.now) seat.now path.now result }
 {
     for _ in 0..path.as_slice().len() {
         let Some(next) = cut(path.as_slice(), walk.from) else {
@@ -180,8 +179,8 @@ fn place_at<F: FileSys, V: View>(
     path: Path,
 ) -> Result<Placed, Halt>
     ensures wants { Needs (lacking (V.shown view.now)) result }
-    ensures says { (image : Image) (tree : Tree) → IsPart (V.shown view.now) image.at → IsVolume image tree → IsDirectoryAt tree.nodes dir → Matches result (find_place tree.nodes cred dir path) }
-    ensures near { (image : Image) (tree : Tree) → IsPart (V.shown view.now) image.at → IsVolume image tree → IsDirectoryAt tree.nodes dir → AsksNear image tree cred dir path result }
+    ensures says { PlacesFrom (V.shown view.now) cred dir path result }
+    ensures near { NearFrom (V.shown view.now) cred dir path result }
 {
     let query = Query::Place {
         cwd: dir,
@@ -198,7 +197,7 @@ fn place_at<F: FileSys, V: View>(
     }
 }
 
-/// The rest of a walk.
+/// The inode to which a path leads, by the rest of its walk.
 pub fn find_rest<F: FileSys, V: View>(
     alloc: Global,
     fs: &F,
@@ -209,14 +208,14 @@ pub fn find_rest<F: FileSys, V: View>(
 ) -> Result<Stat, Halt>
     requires kept { IsKept (V.shown view.now) seat.now path.now walk }
     ensures wants { Needs (lacking (V.shown view.now)) result }
-    ensures says { Says (V.shown view.now) seat.now result (λ tree. find_path tree.nodes seat.now.cred seat.now.cwd path.now) }
-    ensures near { (image : Image) (tree : Tree) → IsOver (V.shown view.now) seat.now image tree → AsksNear image tree seat.now.cred seat.now.cwd path.now result }
+    ensures says { FindsInode (V.shown view.now) seat.now path.now result }
+    ensures near { NearWay (V.shown view.now) seat.now path.now result }
 {
     let rest = rest_of(alloc, path, walk.from)?;
     find_at(alloc, fs, view, walk.dir, seat.cred, rest)
 }
 
-/// The rest of a walk.
+/// The place of a path, by the rest of its walk.
 pub fn place_rest<F: FileSys, V: View>(
     alloc: Global,
     fs: &F,
@@ -227,8 +226,8 @@ pub fn place_rest<F: FileSys, V: View>(
 ) -> Result<Placed, Halt>
     requires kept { IsKept (V.shown view.now) seat.now path.now walk }
     ensures wants { Needs (lacking (V.shown view.now)) result }
-    ensures says { Says (V.shown view.now) seat.now result (λ tree. find_place tree.nodes seat.now.cred seat.now.cwd path.now) }
-    ensures near { (image : Image) (tree : Tree) → IsOver (V.shown view.now) seat.now image tree → AsksNear image tree seat.now.cred seat.now.cwd path.now result }
+    ensures says { FindsPlace (V.shown view.now) seat.now path.now result }
+    ensures near { NearWay (V.shown view.now) seat.now path.now result }
 {
     let rest = rest_of(alloc, path, walk.from)?;
     place_at(alloc, fs, view, walk.dir, seat.cred, rest)

@@ -1,6 +1,6 @@
 use Rattle.std.proofs.Common.{Some, ap, subst, sym}
-use Rattle.mb_calls.specs.Performed.IsEndOf.{done, refused}
-use Rattle.mb_calls.specs.Performed.{ActsNear}
+use Rattle.mb_calls.specs.Endings.IsEndOf.{done, refused}
+use Rattle.mb_calls.specs.Endings.{ActsNear}
 use Rattle.mb_calls.proofs.Fitting.{near_acted}
 use Rattle.mb_calls.proofs.performing.complete.Goals as goal
 

@@ -1,7 +1,8 @@
 use Rattle.std.proofs.Common.{Err, Some, ap, refl, sym, subst, ◌∙◌, ◌≡◌}
 use Rattle.std.specs.Prelude.{get_or, slice_get}
 use Rattle.std.proofs.lemmas.Option.{slice_get-get_or}
-use Rattle.mb_calls.specs.Performed.{Ends, IsFit, IsReadyFor, ready_refused}
+use Rattle.mb_calls.specs.Endings.{Ends, ready_refused}
+use Rattle.mb_calls.specs.Performed.{IsFit, IsReadyFor}
 use Rattle.mb_tree.specs.LocalLaws.{is_shared_call}
 use Rattle.mb_tree.specs.declared.plans.CallPlan.{CallPlan}
 use Rattle.mb_calls.specs.Halts.{Needs}
@@ -39,7 +40,7 @@ returns-in-Ok-clause-fit g c =
 
 pub returns-in-Refused-clause-fit : goal.returns-in-Refused-clause-fit
 returns-in-Refused-clause-fit g c = λ seat is. subst (IsFit seat (is_shared_call c.args.call.now)) (ap (λ b. ready_refused b c.in-Refused.error) (sym c.is_shared_call-shared.ensures) ∙ sym c.refused.ensures)
-    (record { plain = tt; session = tt; shared = refl })
+    (record { plain = tt; session = tt; range = tt; shared = refl })
 
 pub returns-in-Need-clause-needed : goal.returns-in-Need-clause-needed
 returns-in-Need-clause-needed g c =
