@@ -1,0 +1,4 @@
+pub mod Chaining
+pub mod Rooting
+pub mod SuperBytes
+pub mod Values
