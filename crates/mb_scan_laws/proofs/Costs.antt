@@ -22,10 +22,10 @@ use Rattle.mb_rules.proofs.Walks.{met_after, met_append, once_before, walk_holds
 use Rattle.mb_rules.proofs.Ways.{once_at}
 use Rattle.mb_scan_laws.specs.Laws.{FilesCost}
 use Rattle.mb_scan_laws.proofs.Claims.{met_count, met_length, count_append, count_each, alone_once, area_enumerates}
-use Rattle.mb_scan_laws.proofs.Modes.{none_free, node_tests, node_used}
+use Rattle.mb_scan_laws.proofs.Modes.{HasNodes, nodes_of, none_free, node_tests, node_used}
 
 -- an inode's items by its tests
-abbrev shaped : (ℕ → List ℕ) → ℕ → Bool → Bool → Bool → List Item
+abbrev pub shaped : (ℕ → List ℕ) → ℕ → Bool → Bool → Bool → List Item
 shaped blocks ino unused special directory =
     if unused then []
     else Holds (is_kind (mode_at blocks ino)) (inode_block ino) 5
@@ -46,6 +46,9 @@ no_cost (Directory slots) f = absurd (cc)
 no_cost (Special size area) f = no_blocks
 
 module _ (image : Image) (tree : Tree) (chain : List ℕ) (stored : IsStored image tree chain) (kinds : Each tree (λ ino node. HasKind node.mode node.body)) where
+  nodes : HasNodes image.at tree
+  nodes = nodes_of image tree chain stored kinds
+
   area_once : (ino : ℕ) (directory : Bool) → IsDistinct nat_eq (met_after [] (shaped image.at ino false false directory)) → IsDistinct nat_eq (met_after [] (area_items image.at ino))
   area_once ino directory once =
       let last : List Item = if directory then Holds (are_parts image.at ino) (inode_block ino) 8 ∷ [] else [] in
@@ -55,21 +58,21 @@ module _ (image : Image) (tree : Tree) (chain : List ℕ) (stored : IsStored ima
       → met_count (inode_items image.at ino) ≡ body_cost node.body
   inode_count ino node has once true t =
       let mode : ℕ = mode_at image.at ino in
-      let plain : is_special mode ≡ false = (node_tests image tree chain stored kinds ino node has).special_is ∙ ap not t in
+      let plain : is_special mode ≡ false = (node_tests image.at tree nodes ino node has).special_is ∙ ap not t in
       let is : inode_items image.at ino ≡ shaped image.at ino false false (is_directory mode) =
-      ap (λ b. shaped image.at ino b (is_special mode) (is_directory mode)) (node_used image tree chain stored kinds ino node has) ∙ ap (λ b. shaped image.at ino false b (is_directory mode)) plain in
+      ap (λ b. shaped image.at ino b (is_special mode) (is_directory mode)) (node_used image.at tree nodes ino node has) ∙ ap (λ b. shaped image.at ino false b (is_directory mode)) plain in
       let area = area_once ino (is_directory mode) (subst (λ items. IsDistinct nat_eq (met_after [] items)) is once) in
       ap met_count is ∙ plain_count image.at ino (is_directory mode) ∙ node_cost image tree chain stored ino node has t (met_after [] (area_items image.at ino)) (area_enumerates image.at ino area)
   inode_count ino node has once false f =
       let mode : ℕ = mode_at image.at ino in
-      let odd : is_special mode ≡ true = (node_tests image tree chain stored kinds ino node has).special_is ∙ ap not f in
+      let odd : is_special mode ≡ true = (node_tests image.at tree nodes ino node has).special_is ∙ ap not f in
       let is : inode_items image.at ino ≡ shaped image.at ino false true (is_directory mode) =
-      ap (λ b. shaped image.at ino b (is_special mode) (is_directory mode)) (node_used image tree chain stored kinds ino node has) ∙ ap (λ b. shaped image.at ino false b (is_directory mode)) odd in
+      ap (λ b. shaped image.at ino b (is_special mode) (is_directory mode)) (node_used image.at tree nodes ino node has) ∙ ap (λ b. shaped image.at ino false b (is_directory mode)) odd in
       ap met_count is ∙ special_count image.at ino (is_directory mode) ∙ no_cost node.body f
 
   count_by : (ino : ℕ) (o : Option Node) → fin.get tree.nodes ino ≡ o → ino ≤ tree.last → IsDistinct nat_eq (met_after [] (inode_items image.at ino)) → met_count (inode_items image.at ino) ≡ cost_at o
   count_by ino None e low once =
-      ap (λ m. met_count (shaped image.at ino (nat_eq m 0) (is_special (mode_at image.at ino)) (is_directory (mode_at image.at ino)))) (none_free image tree chain stored kinds ino low e)
+      ap (λ m. met_count (shaped image.at ino (nat_eq m 0) (is_special (mode_at image.at ino)) (is_directory (mode_at image.at ino)))) (none_free image.at tree nodes ino low e)
   count_by ino (Some node) e low once = inode_count ino node e once (body_has_addresses node.body) refl
 
   zero_free : (o : Option Node) → fin.get tree.nodes 0 ≡ o → cost_at o ≡ 0

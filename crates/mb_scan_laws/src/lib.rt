@@ -3,4 +3,4 @@
 
 mod laws;
 
-pub use laws::files_cost;
+pub use laws::{files_cost, stored_walks, stores};
