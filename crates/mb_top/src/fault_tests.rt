@@ -1,6 +1,6 @@
 use crate::example_tests::WIPED_JOB;
 use crate::run_tests::{End, Failing, NOTHING_FAILS, run};
-use crate::volumes::{CTIME, HELLO, changed_volume, hello_volume};
+use crate::volumes::{HELLO_CTIME_LOW, HELLO_MODE, changed_volume, hello_volume};
 use std::alloc::{AllocError, Global};
 use std::test::Fail;
 
@@ -54,9 +54,9 @@ fn as_many_faults_as_there_may_be_are_recovered_from(rt: HostRuntime) -> Result<
             .ends_with(b"256 a exit = 0\nend 256 faults 255 seal 256\n")
     );
     assert_eq!(rt; end.image.len(), 51200);
-    assert_eq!(rt; end.image[HELLO], 0x80);
+    assert_eq!(rt; end.image[HELLO_MODE], 0x80);
     assert_eq!(rt;
-        end.image[HELLO + CTIME + 2],
+        end.image[HELLO_CTIME_LOW],
         255,
         "the moment of the last call"
     );

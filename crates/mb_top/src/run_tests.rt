@@ -1,9 +1,7 @@
 use crate::example_tests::HELLO_JOB;
 use crate::finish::Finish;
 use crate::membrane::membrane;
-use crate::volumes::{
-    ADDRESS, HELLO, NLINK, ROOT, ROOT_SLOTS, SIZE, SUPER_BLOCK, hello_volume, put, volume_with,
-};
+use crate::volumes::{hello_volume, put, volume_with};
 use crate::words::{Word8, Words};
 use mb_edge::{Bytes, Fails, MemDisk, MemSink, MemSource};
 use std::alloc::{AllocError, Global};
@@ -180,41 +178,39 @@ fn a_call_that_the_disk_fails_changes_nothing(rt: HostRuntime) -> Result<(), Fai
     Ok(())
 }
 
-// The third slot of the root.
-const HELLO_SLOT: usize = ROOT_SLOTS + 2 * 16;
-
-// What a change of some bytes of the example volume makes of it.
+// What a change of some bytes of the example volume makes of it: of the super-block from byte 512 on, of inode 2, the root,
+// from 1088 on, of inode 3 from 1152 on, and of the slot that leads to it at 2080.
 #[test]
 fn near_misses_of_a_simple_image_are_told_apart(rt: HostRuntime) -> Result<(), Fail> {
     let not_built = b"not built\n".as_slice();
     let bad_sizes = b"volume refused: block 1 rule 2\n".as_slice();
     for (at, bytes, status, printed) in [
-        (SUPER_BLOCK, [2, 0].as_slice(), 3, bad_sizes),
-        (SUPER_BLOCK + 4, [101, 0].as_slice(), 3, bad_sizes),
-        (ROOT, [0xff, 0x81].as_slice(), 9, not_built),
-        (ROOT + SIZE + 2, [0x10, 0x14].as_slice(), 9, not_built),
-        (ROOT + SIZE + 2, [49, 0].as_slice(), 9, not_built),
-        (HELLO + SIZE + 2, [0x01, 0x14].as_slice(), 9, not_built),
-        (HELLO + NLINK, [0, 0].as_slice(), 9, not_built),
-        (HELLO_SLOT, [1, 0].as_slice(), 9, not_built),
-        (HELLO_SLOT, [2, 0].as_slice(), 9, not_built),
-        (HELLO_SLOT, [16, 0].as_slice(), 9, not_built),
-        (HELLO_SLOT, [17, 0].as_slice(), 9, not_built),
-        (HELLO_SLOT, [0xff, 0xff].as_slice(), 9, not_built),
+        (512, [2, 0].as_slice(), 3, bad_sizes),
+        (516, [101, 0].as_slice(), 3, bad_sizes),
+        (1088, [0xff, 0x81].as_slice(), 9, not_built),
+        (1098, [0x10, 0x14].as_slice(), 9, not_built),
+        (1098, [49, 0].as_slice(), 9, not_built),
+        (1162, [0x01, 0x14].as_slice(), 9, not_built),
+        (1154, [0, 0].as_slice(), 9, not_built),
+        (2080, [1, 0].as_slice(), 9, not_built),
+        (2080, [2, 0].as_slice(), 9, not_built),
+        (2080, [16, 0].as_slice(), 9, not_built),
+        (2080, [17, 0].as_slice(), 9, not_built),
+        (2080, [0xff, 0xff].as_slice(), 9, not_built),
         (
-            ROOT + ADDRESS,
+            1100,
             [0xff, 0xff, 0xff].as_slice(),
             0,
             b"1 a open /hello r = ENOENT\n2 a exit = 0\nend 2 faults 0 seal 2\n".as_slice(),
         ),
         (
-            HELLO_SLOT + 2,
+            2082,
             b"hellohellohell".as_slice(),
             0,
             b"1 a open /hello r = ENOENT\n2 a exit = 0\nend 2 faults 0 seal 2\n".as_slice(),
         ),
         (
-            HELLO_SLOT,
+            2080,
             [0, 0].as_slice(),
             0,
             b"1 a open /hello r = ENOENT\n2 a exit = 0\nend 2 faults 0 seal 2\n".as_slice(),

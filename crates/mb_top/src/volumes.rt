@@ -2,25 +2,14 @@ use mb_layout::{Chain, Dinode, Slot, Super};
 use std::alloc::{AllocError, Global};
 
 /// Where the super-block stands in the image.
-pub const SUPER_BLOCK: usize = 512;
+const SUPER_BLOCK: usize = 512;
 
-/// Where inode 2, the root, stands in the image.
-pub const ROOT: usize = 1024 + 64;
+/// Where inode 3, the file, has its mode, its time of change and that time's low word.
+pub const HELLO_MODE: usize = 1024 + 2 * 64;
 
-/// Where inode 3, the file `hello`, stands in the image.
-pub const HELLO: usize = 1024 + 2 * 64;
+const HELLO_CTIME: usize = HELLO_MODE + 60;
 
-/// Where the first slot of the root's block stands in the image.
-pub const ROOT_SLOTS: usize = 4 * 512;
-
-/// Where an inode has its link count, its size, its first address and its time of change.
-pub const NLINK: usize = 2;
-
-pub const SIZE: usize = 8;
-
-pub const ADDRESS: usize = 12;
-
-pub const CTIME: usize = 60;
+pub const HELLO_CTIME_LOW: usize = HELLO_CTIME + 2;
 
 const DIRECTORY: u16 = 0o040000;
 
@@ -212,7 +201,11 @@ pub fn hello_volume(alloc: Global) -> Result<Vec<u8>, AllocError> {
 /// The volume of the example after a call at that moment gave those permissions to the file.
 pub fn changed_volume(alloc: Global, mode: u16, moment: u8) -> Result<Vec<u8>, AllocError> {
     let mut image = hello_volume(alloc)?;
-    put(&mut image, HELLO, &(REGULAR + mode % 512).to_le_bytes());
-    put(&mut image, HELLO + CTIME, &[0, 0, moment, 0]);
+    put(
+        &mut image,
+        HELLO_MODE,
+        &(REGULAR + mode % 512).to_le_bytes(),
+    );
+    put(&mut image, HELLO_CTIME, &[0, 0, moment, 0]);
     Ok(image)
 }
