@@ -16,7 +16,7 @@ use Rattle.mb_tree.specs.Cost.{is_within, is_near, is_last, touched, first_parts
 use Rattle.mb_tree.proofs.FiniteMaps.{is_here}
 use Rattle.mb_tree.proofs.OpenCounts.{left_of, right_of}
 use Rattle.mb_blocks.specs.Laid.{AreOnce}
-use Rattle.mb_blocks.proofs.Groups.{counted}
+use Rattle.mb_tree.proofs.Groups.{counted}
 use Rattle.mb_blocks.proofs.Rearranged.{first_or_later, later, once_cons, own}
 use Rattle.mb_blocks.proofs.Shares.{any_found, any_of, is_in}
 

@@ -7,7 +7,6 @@ pub mod Frames
 pub mod Freeing
 pub mod FreeingAll
 pub mod Groupings
-pub mod Groups
 pub mod Growing
 pub mod Hanging
 pub mod HeldLists

@@ -27,7 +27,7 @@ use Rattle.mb_blocks.specs.Owners.{without}
 use Rattle.mb_blocks.specs.Pointing.{KeepsHeld}
 use Rattle.mb_blocks.proofs.Conserving.{conserved_by, conserved_less, conserved_more, conserved_same, conserved_then}
 use Rattle.mb_blocks.proofs.FreeingAll.{freed_all, onto_length}
-use Rattle.mb_blocks.proofs.Groups.{no_blocks}
+use Rattle.mb_tree.proofs.Groups.{no_blocks}
 use Rattle.mb_blocks.proofs.InodeStays.{inode_stays, top_stays}
 use Rattle.mb_blocks.proofs.Keeping.{laid_listed, listed_held, sizes_same}
 use Rattle.mb_blocks.proofs.LettingGo.{hole_under, laid_less, laid_more, lead_more}

@@ -14,7 +14,7 @@ use Rattle.mb_tree.specs.declared.nodes.PlainSlot.{PlainSlot}
 use Rattle.mb_tree.specs.declared.trees.Tree.{Tree}
 use Rattle.mb_tree.proofs.FiniteMaps.{get_here, get_there, one_or_not}
 use Rattle.mb_tree.proofs.Sums.{sum_but, sum_nothing}
-use Rattle.mb_blocks.proofs.Groups.{no_blocks}
+use Rattle.mb_tree.proofs.Groups.{no_blocks}
 use Rattle.mb_nodes.specs.Fresh.{fresh_root, fresh_tree}
 
 none_in : (n k : ℕ) → slice_index (replicate {A = ℕ} n 0) k ≡ 0

@@ -16,7 +16,7 @@ use Rattle.mb_tree.specs.declared.nodes.PlainSlot.{PlainSlot}
 use Rattle.mb_tree.specs.declared.trees.Tree.{Tree}
 use Rattle.mb_tree.proofs.FiniteMaps.{entries_none}
 use Rattle.mb_blocks.specs.Growing.{Reaches, missing}
-use Rattle.mb_blocks.proofs.Groups.{no_blocks}
+use Rattle.mb_tree.proofs.Groups.{no_blocks}
 use Rattle.mb_blocks.proofs.Keeping.{sizes_same}
 use Rattle.mb_blocks.proofs.LettingGo.{hole_under}
 use Rattle.mb_blocks.proofs.PartBytes.{part_missing}

@@ -13,7 +13,7 @@ use Rattle.mb_tree.specs.declared.nodes.Body.{Body}
 use Rattle.mb_tree.specs.declared.nodes.Body.TheVariants.{Regular, Directory, Special}
 use Rattle.mb_tree.specs.declared.nodes.Node.{Node}
 use Rattle.mb_tree.specs.declared.trees.Tree.{Tree}
-use Rattle.mb_blocks.proofs.Groups.{no_blocks}
+use Rattle.mb_tree.proofs.Groups.{no_blocks}
 use Rattle.mb_nodes.specs.Stored.{IsStored}
 use Rattle.mb_nodes.proofs.NodeParts.{node_cost}
 use Rattle.mb_rules.specs.Items.{Item, Holds}
