@@ -12,8 +12,9 @@
 //! for, `specs/Continuing.antt` how a row is decided from the results of its questions, `specs/Spots.antt`
 //! what is told beside a place, `specs/Following.antt` how far a path has been followed.
 //!
-//! There is no test here: a `FileSys` keeps its contract or is none, so the tests of `perform` stand above
-//! the V7 file system.
+//! The tests are of what needs no volume: calls that ask nothing, the order of refusals and Needs, where a path
+//! is cut. A `FileSys` keeps its contract or is none, so the tests of calls that look at a tree stand above the
+//! V7 file system.
 #![tactic(auto)]
 
 mod asks;
@@ -23,6 +24,8 @@ mod performing;
 mod planning;
 mod resuming;
 mod spots;
+#[cfg(test)]
+mod tests;
 mod walks;
 
 pub use performing::{Performed, Ready, perform};

@@ -1,7 +1,6 @@
-ghost use Rattle.std.specs.Prelude.{◌≡◌, ◌<◌, length};
+ghost use Rattle.std.specs.Prelude.{◌≡◌, ◌<◌, Some, length, slice_get};
 ghost use Rattle.mb_tree.specs.LocalLaws.{is_shared_call};
 ghost use Rattle.mb_tree.specs.PickLaws.{fresh_on};
-ghost use Rattle.mb_tree.specs.SessionLaws.{IsCall};
 ghost use Rattle.mb_calls.specs.Following.{IsGoingFor};
 ghost use Rattle.mb_calls.specs.Endings.{Ends, EndsNear, ready_refused};
 ghost use Rattle.mb_calls.specs.Performed.{FitsCall, IsNeeded, IsRight};
@@ -11,7 +10,7 @@ use crate::planning::plan_call;
 use crate::walks::{PathWalks, set_out};
 use mb_iface::{Acted, Changes, FileSys, Need, Opens, View};
 use mb_kinds::{Call, Errno, Reply};
-use mb_tree::{CallPlan, FsOp, Seat, SessionChange};
+use mb_tree::{CallPlan, FsOp, Seat, SessionChange, call_allowed};
 use std::alloc::Global;
 
 /// What a call comes to, before anything is changed.
@@ -124,6 +123,14 @@ fn is_shared_call(call: &Call) -> bool
     )
 }
 
+/// The session of a declared caller.
+pub fn seat_of(sessions: &[Seat], caller: u8) -> &Seat
+    requires { caller < length sessions.now }
+    ensures { slice_get sessions.now caller ≡ Some result.now }
+{
+    &sessions[usize::from(caller)]
+}
+
 /// Performs a call over gathered blocks, with its paths followed so far.
 pub fn perform_on<F: FileSys, V: View>(
     alloc: Global,
@@ -137,15 +144,13 @@ pub fn perform_on<F: FileSys, V: View>(
     walks: PathWalks,
 ) -> Performed
     requires declared { caller < length sessions.now }
-    requires lawful { IsCall call.now }
     requires going { IsGoingFor (V.shown view.now) sessions.now caller call.now walks }
     ensures right { IsRight (V.shown view.now) sessions.now opens.now caller call.now moment result }
     ensures needed { IsNeeded (V.shown view.now) sessions.now opens.now caller call.now result }
     ensures fit { FitsCall sessions.now caller call.now result }
 {
-    let Some(seat) = sessions.get(usize::from(caller)) else {
-        unreachable!()
-    };
+    call_allowed(call);
+    let seat = seat_of(sessions, caller);
     let shared = is_shared_call(call);
     match plan_call(alloc, fs, view, sessions, opens, seat, call, moment, walks) {
         Ok(plan) => complete(alloc, fs, view, opens, plan, shared),
@@ -171,14 +176,11 @@ pub fn perform<F: FileSys, V: View>(
     moment: u32,
 ) -> Performed
     requires declared { caller < length sessions.now }
-    requires lawful { IsCall call.now }
     ensures right { IsRight (V.shown view.now) sessions.now opens.now caller call.now moment result }
     ensures needed { IsNeeded (V.shown view.now) sessions.now opens.now caller call.now result }
     ensures fit { FitsCall sessions.now caller call.now result }
 {
-    let Some(seat) = sessions.get(usize::from(caller)) else {
-        unreachable!()
-    };
+    let seat = seat_of(sessions, caller);
     perform_on(
         alloc,
         fs,

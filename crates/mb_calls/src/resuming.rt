@@ -1,10 +1,9 @@
 ghost use Rattle.std.specs.Prelude.{◌<◌, IfSome, length};
-ghost use Rattle.mb_tree.specs.SessionLaws.{IsCall};
 ghost use Rattle.mb_calls.specs.Following.{BeginsWalks, IsGoing, IsGoingFor, IsKept, KeepsFirst, KeepsSecond, WalksGoOn};
 ghost use Rattle.mb_calls.specs.Looked.{IsFirst, IsSecond};
 ghost use Rattle.mb_calls.specs.Performed.{FitsCall, IsNeeded, IsRight};
 
-use crate::performing::{Performed, perform_on};
+use crate::performing::{Performed, perform_on, seat_of};
 use crate::walks::{PathWalk, PathWalks, follow, set_out};
 use mb_iface::{FileSys, Opens, View};
 use mb_kinds::{Call, Path};
@@ -148,16 +147,13 @@ impl Performing {
         moment: u32,
     ) -> Performed
         requires declared { caller < length sessions.now }
-        requires lawful { IsCall call.now }
         requires going { IsGoingFor (V.shown view.now) sessions.now caller call.now self.old.walks }
         ensures going { IsGoingFor (V.shown view.now) sessions.now caller call.now self.new.walks }
         ensures right { IsRight (V.shown view.now) sessions.now opens.now caller call.now moment result }
         ensures needed { IsNeeded (V.shown view.now) sessions.now opens.now caller call.now result }
         ensures fit { FitsCall sessions.now caller call.now result }
     {
-        let Some(seat) = sessions.get(usize::from(caller)) else {
-            unreachable!()
-        };
+        let seat = seat_of(sessions, caller);
         self.walks = advance(alloc, fs, view, seat, call, self.walks);
         perform_on(
             alloc, fs, view, sessions, opens, caller, call, moment, self.walks,

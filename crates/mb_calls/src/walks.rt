@@ -48,7 +48,7 @@ pub fn begin(seat: &Seat) -> PathWalk
 
 /// Where the component after the next one begins, from an index on; `None` in the last component, and
 /// wherever a look at the whole rest serves as well.
-fn cut(path: &[u8], from: usize) -> Option<usize>
+pub(crate) fn cut(path: &[u8], from: usize) -> Option<usize>
     ensures { IfSome result (λ next. IsCut path.now from next) }
 {
     for at in 2..path.len() {

@@ -12,30 +12,22 @@ use Rattle.mb_calls.proofs.performing.perform_on.Goals as goal
 
 pub returns-in-Ok-clause-right : goal.returns-in-Ok-clause-right
 returns-in-Ok-clause-right g c =
-    let at : slice_get c.args.sessions.now c.args.caller ≡ Some c.in-Some.seat.now = let looked = c.in-Some.ensures.lookup in
-    slice_get-get_or c.args.sessions.now c.args.caller c.in-Some.seat.now c.requires.declared ∙ ap Some (ap (λ i. get_or c.args.sessions.now i c.in-Some.seat.now) (sym c.from.ensures) ∙ sym looked.1) in
-    right_ended (g.V.View.shown c.args.view.now) c.args.sessions.now c.args.opens.now c.args.caller c.args.call.now c.args.moment c.in-Some.seat.now c.requires.lawful at c.in-Ok.plan c.complete.result c.in-Ok.ensures.says
+    right_ended (g.V.View.shown c.args.view.now) c.args.sessions.now c.args.opens.now c.args.caller c.args.call.now c.args.moment c.seat_of-seat.result.now c.call_allowed.ensures c.seat_of-seat.ensures c.in-Ok.plan c.complete.result c.in-Ok.ensures.says
     (subst (λ b. Ends (g.V.View.shown c.args.view.now) c.args.opens.now b c.in-Ok.plan c.complete.result) c.is_shared_call-shared.ensures c.complete.ensures.ends)
 
 pub returns-in-Refused-clause-right : goal.returns-in-Refused-clause-right
 returns-in-Refused-clause-right g c =
-    let at : slice_get c.args.sessions.now c.args.caller ≡ Some c.in-Some.seat.now = let looked = c.in-Some.ensures.lookup in
-    slice_get-get_or c.args.sessions.now c.args.caller c.in-Some.seat.now c.requires.declared ∙ ap Some (ap (λ i. get_or c.args.sessions.now i c.in-Some.seat.now) (sym c.from.ensures) ∙ sym looked.1) in
     subst (λ r. IsReadyFor (g.V.View.shown c.args.view.now) c.args.sessions.now c.args.opens.now c.args.caller c.args.call.now c.args.moment r) (ap (λ b. ready_refused b c.in-Refused.error) (sym c.is_shared_call-shared.ensures) ∙ sym c.refused.ensures)
-    (right_refused (g.V.View.shown c.args.view.now) c.args.sessions.now c.args.opens.now c.args.caller c.args.call.now c.args.moment c.in-Some.seat.now c.requires.lawful at c.in-Refused.error
-    (subst (λ s. Planned (g.V.View.shown c.args.view.now) c.args.sessions.now c.args.opens.now c.args.caller c.args.call.now c.args.moment c.in-Some.seat.now c.requires.lawful at (Err s)) c.in-Refused.is c.in-Err.ensures.says))
+    (right_refused (g.V.View.shown c.args.view.now) c.args.sessions.now c.args.opens.now c.args.caller c.args.call.now c.args.moment c.seat_of-seat.result.now c.call_allowed.ensures c.seat_of-seat.ensures c.in-Refused.error
+    (subst (λ s. Planned (g.V.View.shown c.args.view.now) c.args.sessions.now c.args.opens.now c.args.caller c.args.call.now c.args.moment c.seat_of-seat.result.now c.call_allowed.ensures c.seat_of-seat.ensures (Err s)) c.in-Refused.is c.in-Err.ensures.says))
 
 pub returns-in-Ok-clause-needed : goal.returns-in-Ok-clause-needed
 returns-in-Ok-clause-needed g c =
-    let at : slice_get c.args.sessions.now c.args.caller ≡ Some c.in-Some.seat.now = let looked = c.in-Some.ensures.lookup in
-    slice_get-get_or c.args.sessions.now c.args.caller c.in-Some.seat.now c.requires.declared ∙ ap Some (ap (λ i. get_or c.args.sessions.now i c.in-Some.seat.now) (sym c.from.ensures) ∙ sym looked.1) in
-    needed_ended (g.V.View.shown c.args.view.now) c.args.sessions.now c.args.opens.now c.args.caller c.args.call.now c.args.moment c.in-Some.seat.now c.requires.lawful at c.in-Ok.plan c.complete.result c.in-Ok.ensures.says c.complete.ensures.near
+    needed_ended (g.V.View.shown c.args.view.now) c.args.sessions.now c.args.opens.now c.args.caller c.args.call.now c.args.moment c.seat_of-seat.result.now c.call_allowed.ensures c.seat_of-seat.ensures c.in-Ok.plan c.complete.result c.in-Ok.ensures.says c.complete.ensures.near
 
 pub returns-in-Ok-clause-fit : goal.returns-in-Ok-clause-fit
 returns-in-Ok-clause-fit g c =
-    let at : slice_get c.args.sessions.now c.args.caller ≡ Some c.in-Some.seat.now = let looked = c.in-Some.ensures.lookup in
-    slice_get-get_or c.args.sessions.now c.args.caller c.in-Some.seat.now c.requires.declared ∙ ap Some (ap (λ i. get_or c.args.sessions.now i c.in-Some.seat.now) (sym c.from.ensures) ∙ sym looked.1) in
-    fit_ended (g.V.View.shown c.args.view.now) c.args.sessions.now c.args.opens.now c.args.caller c.args.call.now c.args.moment c.in-Some.seat.now c.requires.lawful at c.in-Ok.plan c.complete.result c.in-Ok.ensures.ready
+    fit_ended (g.V.View.shown c.args.view.now) c.args.sessions.now c.args.opens.now c.args.caller c.args.call.now c.args.moment c.seat_of-seat.result.now c.call_allowed.ensures c.seat_of-seat.ensures c.in-Ok.plan c.complete.result c.in-Ok.ensures.ready
     (subst (λ b. Ends (g.V.View.shown c.args.view.now) c.args.opens.now b c.in-Ok.plan c.complete.result) c.is_shared_call-shared.ensures c.complete.ensures.ends)
 
 pub returns-in-Refused-clause-fit : goal.returns-in-Refused-clause-fit
@@ -44,7 +36,5 @@ returns-in-Refused-clause-fit g c = λ seat is. subst (IsFit seat (is_shared_cal
 
 pub returns-in-Need-clause-needed : goal.returns-in-Need-clause-needed
 returns-in-Need-clause-needed g c =
-    let at : slice_get c.args.sessions.now c.args.caller ≡ Some c.in-Some.seat.now = let looked = c.in-Some.ensures.lookup in
-    slice_get-get_or c.args.sessions.now c.args.caller c.in-Some.seat.now c.requires.declared ∙ ap Some (ap (λ i. get_or c.args.sessions.now i c.in-Some.seat.now) (sym c.from.ensures) ∙ sym looked.1) in
-    needed_asked (g.V.View.shown c.args.view.now) c.args.sessions.now c.args.opens.now c.args.caller c.args.call.now c.args.moment c.in-Some.seat.now c.requires.lawful at c.in-Need.need
-    (λ image tree over. subst (λ s. Needs {X = CallPlan} (around image tree c.in-Some.seat.now c.args.call.now) (Err s)) c.in-Need.is (c.in-Err.ensures.near image tree over))
+    needed_asked (g.V.View.shown c.args.view.now) c.args.sessions.now c.args.opens.now c.args.caller c.args.call.now c.args.moment c.seat_of-seat.result.now c.call_allowed.ensures c.seat_of-seat.ensures c.in-Need.need
+    (λ image tree over. subst (λ s. Needs {X = CallPlan} (around image tree c.seat_of-seat.result.now c.args.call.now) (Err s)) c.in-Need.is (c.in-Err.ensures.near image tree over))
