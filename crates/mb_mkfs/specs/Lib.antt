@@ -1,5 +1,6 @@
 pub mod FreeLists
 pub mod Laws
+pub mod Made
 pub mod Sizes
 pub mod Volume
 pub mod Worked
