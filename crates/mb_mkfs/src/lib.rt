@@ -11,6 +11,8 @@ mod free_lists;
 mod laws;
 mod making;
 mod shapes;
+#[cfg(test)]
+mod tests;
 
 pub use laws::{fresh_is_volume, worked_numbers};
 pub use making::{MakeFault, make};
