@@ -1,4 +1,4 @@
-ghost use Rattle.mb_scan_laws.specs.Laws.{FilesCost, Stores, StoredWalks};
+ghost use Rattle.mb_scan_laws.specs.Laws.{Accepted, Accepts, FilesCost, ParentsAccept, SlotsAccept, Stores, StoredWalks};
 
 /// The addresses that the scan meets in the files number the cost of the tree.
 pub fn files_cost()
@@ -14,4 +14,24 @@ pub fn stores()
 /// The scan goes through these three parts of any image that holds a tree.
 pub fn stored_walks()
     ensures { StoredWalks }
+{}
+
+/// The scan goes through the slots exactly where each directory has those of a sound tree.
+pub fn slots_accept()
+    ensures { SlotsAccept }
+{}
+
+/// The scan goes through parents and link counts exactly where those of the tree are sound.
+pub fn parents_accept()
+    ensures { ParentsAccept }
+{}
+
+/// An image in which the scan finds nothing is a volume of the tree that its bytes show.
+pub fn accepts()
+    ensures { Accepts }
+{}
+
+/// The scan finds nothing in a volume.
+pub fn accepted()
+    ensures { Accepted }
 {}

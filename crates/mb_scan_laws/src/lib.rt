@@ -3,4 +3,6 @@
 
 mod laws;
 
-pub use laws::{files_cost, stored_walks, stores};
+pub use laws::{
+    accepted, accepts, files_cost, parents_accept, slots_accept, stored_walks, stores,
+};
