@@ -1,8 +1,6 @@
 -- The scan's sixth part holds exactly where each directory has its parent and each inode its link count.
-use Rattle.std.proofs.Common.{◌≡◌, ◌≢◌, inl, inr, ℕ, suc, zero, ◌+◌, ◌<◌, ◌≤◌, List, [], ◌∷◌, Bool, true, false, not, ◌&&◌, ◌||◌, nat_eq, nat_le, if◌then◌else◌, length, map, Option, Some, None, slice_get, refl, sym, ap, subst, ◌∙◌, arith}
+use Rattle.std.proofs.Common.{◌≡◌, ◌≢◌, ℕ, suc, zero, ◌<◌, ◌≤◌, List, [], ◌∷◌, Bool, true, false, not, ◌&&◌, ◌||◌, nat_eq, nat_le, if◌then◌else◌, length, Option, Some, None, slice_get, refl, sym, ap, subst, ◌∙◌, arith}
 use Rattle.std.specs.FinMap as fin
-use Rattle.std.specs.List.{range_with_len}
-use Rattle.std.proofs.lemmas.Bool.{cases_eq}
 use Rattle.std.proofs.lemmas.Bool.Decides.{nat_tests}
 use Rattle.std.proofs.lemmas.Option.{same_Some}
 use Rattle.mb_kinds.specs.Image.{Image}
@@ -10,8 +8,7 @@ use Rattle.mb_word.specs.Fields.{inode_block, inode_place, nlink_of}
 use Rattle.mb_tree.specs.Blocks.{slot_in}
 use Rattle.mb_tree.specs.Effect.{dot_dot}
 use Rattle.mb_tree.specs.Inodes.{is_directory}
-use Rattle.mb_tree.specs.Lookup.{is_used}
-use Rattle.mb_tree.specs.Trees.{AreSlots, Each, EachDirectory, HasParent, IsRoot, Leads, Reached, links, links_past}
+use Rattle.mb_tree.specs.Trees.{AreSlots, EachDirectory, HasParent, IsRoot, Reached, links, links_past}
 use Rattle.mb_tree.specs.Volume.{last_inode}
 use Rattle.mb_tree.specs.declared.nodes.Body.TheVariants.{Directory}
 use Rattle.mb_tree.specs.declared.nodes.Node.{Node}
@@ -28,8 +25,8 @@ use Rattle.mb_scan_laws.specs.Shown.{IsShown}
 use Rattle.mb_scan_laws.proofs.Modes.{HasNodes, node_in, node_used, none_free}
 use Rattle.mb_scan_laws.proofs.RowsOf.{row_has}
 use Rattle.mb_scan_laws.proofs.ShownDirectories.{IsListed, shown_nodes, listed, directory_has, directory_test, directory_two, directory_number}
-use Rattle.mb_scan_laws.proofs.ShownTrees.{not_true_false, shows_slots}
-use Rattle.mb_scan_laws.proofs.SlotRules.{and_both, not_is, there_to}
+use Rattle.mb_scan_laws.proofs.ShownTrees.{shows_slots}
+use Rattle.mb_scan_laws.proofs.SlotRules.{and_both, there_to}
 use Rattle.mb_scan_laws.proofs.WalkTests.{AreTests, tests_append, tests_each, walk_is}
 
 eq_is : (a b : ℕ) → nat_eq a b ≡ true → a ≡ b

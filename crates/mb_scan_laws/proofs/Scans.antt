@@ -1,12 +1,12 @@
 -- The scan finds nothing exactly where the image is a volume.
-use Rattle.std.proofs.Common.{◌≡◌, ℕ, ◌+◌, ◌≤◌, List, [], ◌∷◌, ◌++◌, true, length, Result, Ok, Err, Option, Some, None, refl, sym, ap, ◌∙◌, arith, append_assoc}
-use Rattle.std.specs.FinMap as fin
+use Rattle.std.proofs.Common.{◌≡◌, ℕ, List, [], ◌++◌, true, length, Result, Ok, Err, None, refl, sym, ap, subst, ◌∙◌, arith, append_assoc}
+use Rattle.std.proofs.lemmas.List.Sorted.{length_permutation}
 use Rattle.mb_kinds.specs.Image.{Image}
-use Rattle.mb_tree.specs.Cost.{cost}
 use Rattle.mb_tree.specs.Inodes.{is_directory}
 use Rattle.mb_tree.specs.Trees.{AreSlots, EachDirectory, IsSound}
-use Rattle.mb_tree.specs.Volume.{IsVolume}
 use Rattle.mb_tree.specs.declared.trees.Tree.{Tree}
+use Rattle.mb_tree.specs.Blocks.{first_list, list_in}
+use Rattle.mb_tree.proofs.OneTrees.{one_tree}
 use Rattle.mb_nodes.proofs.Volumes.{stored_of, volume_of}
 use Rattle.mb_rules.specs.Items.{Item, walked, walked_on, finding}
 use Rattle.mb_rules.specs.declared.findings.Finding.{Finding}
@@ -17,13 +17,15 @@ use Rattle.mb_rules.specs.Slots.{slots_items}
 use Rattle.mb_rules.specs.Parents.{parents_items}
 use Rattle.mb_rules.specs.Scan.{scan, scan_items}
 use Rattle.mb_rules.specs.TreeOf.{chain_of, tree_of}
-use Rattle.mb_scan_laws.specs.Laws.{Accepted, Accepts, HasParents, first_items}
+use Rattle.mb_scan_laws.specs.Laws.{Accepted, Accepts, CapacityMet, HasParents, TreeShown, first_items}
 use Rattle.mb_scan_laws.specs.Shown.{IsShown}
+use Rattle.mb_rules.proofs.FreeChains.{chain_accepts, none_once}
+use Rattle.mb_scan_laws.proofs.Costs.{files_cost}
 use Rattle.mb_scan_laws.proofs.ParentsAccepted.{parents_accept, parents_tests}
 use Rattle.mb_scan_laws.proofs.ShownDirectories.{directory_test}
 use Rattle.mb_scan_laws.proofs.SlotsAccepted.{slots_accept, slots_tests}
-use Rattle.mb_scan_laws.proofs.Storing.{stored_walks, stores, walk_then}
-use Rattle.mb_scan_laws.proofs.WalkTests.{AreTests, tests_walk, walk_is}
+use Rattle.mb_scan_laws.proofs.Storing.{few_free, stored_walks, stores, walk_then, walked_once}
+use Rattle.mb_scan_laws.proofs.WalkTests.{AreTests, tests_walk}
 use Rattle.mb_rules.proofs.Walks.{walk_append, walk_holds}
 
 nothing : (r : Result (List ℕ) Finding) → finding r ≡ None → (met : List ℕ) × (r ≡ Ok met)
@@ -102,3 +104,19 @@ accepted image tree volume =
     none_scan image first.0 (ap (walked []) (parts image) ∙ walk_then [] (first_items image) (late_items image) first.0 first.0 first.1
     (walk_then first.0 (root_items image.at) (slots_items image.at ++ parents_items image.at) first.0 first.0 root_walk
     (walk_then first.0 (slots_items image.at) (parents_items image.at) first.0 first.0 slots_walk parents_walk)))
+
+pub tree_shown : TreeShown
+tree_shown image tree volume = one_tree image tree (tree_of image) volume (accepts image volume.bytes (accepted image tree volume))
+
+pub capacity_met : CapacityMet
+capacity_met image met bytes h =
+    let one = split [] (super_block_items image) (chain_items image.at ++ files_items image.at) met h in
+    let none : [] ≡ one.mid = (walk_holds [] (super_block_items image) one.mid one.one).1 in
+    let two = split [] (chain_items image.at) (files_items image.at) met (subst (λ before. walked before (chain_items image.at ++ files_items image.at) ≡ Ok met) (sym none) one.two) in
+    let shown = stores image met bytes h in
+    let few = few_free (list_in image.at) (first_list image.at) (chain_of image.at) shown.stored.spare.listed in
+    let same = (chain_accepts image.at two.mid shown.stored.sizes.some_inodes few two.one).1 in
+    let paid = files_cost image (tree_of image) (chain_of image.at) two.mid met shown.stored shown.kinds (walked_once [] (chain_items image.at) two.mid two.one none_once) two.two in
+    let chain : length two.mid ≡ length (chain_of image.at) = sym (length_permutation two.mid (chain_of image.at) same) in
+    let whole = shown.stored.capacity in
+    omega (arith, paid, chain, whole)

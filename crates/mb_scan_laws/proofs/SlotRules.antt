@@ -1,8 +1,8 @@
 -- Rules 10 to 12 of a directory's slots are what a sound tree asks of them.
-use Rattle.std.proofs.Common.{◌≡◌, ◌≢◌, inl, inr, ℕ, zero, suc, ◌+◌, ◌*◌, ◌/◌, ◌%◌, ◌<◌, ◌≤◌, List, [], ◌∷◌, Bool, true, false, not, ◌&&◌, ◌||◌, nat_eq, nat_le, length, map, take, drop, unwrap_or, Option, Some, None, slice_get, slice_index, replicate, refl, sym, ap, subst, ◌∙◌, arith}
-use Rattle.std.specs.Prelude.{bytes_eq, ◌==◌}
+use Rattle.std.proofs.Common.{◌≡◌, ◌≢◌, inl, inr, ℕ, zero, suc, ◌+◌, ◌*◌, ◌/◌, ◌%◌, ◌<◌, ◌≤◌, List, Bool, true, false, not, ◌&&◌, ◌||◌, nat_eq, nat_le, length, map, take, drop, unwrap_or, Option, Some, None, slice_get, refl, sym, ap, subst, ◌∙◌, arith}
+use Rattle.std.specs.Prelude.{bytes_eq}
 use Rattle.std.specs.FinMap as fin
-use Rattle.std.specs.List.{range_with_len, list_any}
+use Rattle.std.specs.List.{range_with_len}
 use Rattle.std.proofs.lemmas.Bool.{cases_lt, cases_eq}
 use Rattle.std.proofs.lemmas.Bool.Decides.{nat_tests}
 use Rattle.std.proofs.lemmas.List.{length-take-le, length-drop, length-replicate}
@@ -12,7 +12,7 @@ use Rattle.mb_kinds.specs.Image.{zeros}
 use Rattle.mb_tree.specs.Blocks.{part_in, part_bytes, slot_in}
 use Rattle.mb_tree.specs.Counting.{any_from}
 use Rattle.mb_tree.specs.Effect.{dot, dot_dot}
-use Rattle.mb_tree.specs.Lookup.{is_used, is_named, slash}
+use Rattle.mb_tree.specs.Lookup.{is_used, is_named}
 use Rattle.mb_tree.specs.Rows.{is_dots}
 use Rattle.mb_tree.specs.Trees.{AreSlots, IsName, IsThere, IsUsedAt}
 use Rattle.mb_tree.specs.Volume.{last_inode}
@@ -21,9 +21,8 @@ use Rattle.mb_tree.specs.declared.nodes.PlainSlot.{PlainSlot}
 use Rattle.mb_tree.specs.declared.trees.Tree.{Tree}
 use Rattle.mb_blocks.proofs.PartBytes.{held_part}
 use Rattle.mb_rules.specs.Files.{mode_at}
-use Rattle.mb_rules.specs.Slots.{has_dots, leads_there, is_named_once, is_padded}
+use Rattle.mb_rules.specs.Slots.{has_dots, leads_there, is_named_once}
 use Rattle.mb_rules.proofs.Walks.{both}
-use Rattle.mb_rules.proofs.Ways.{or_true}
 use Rattle.mb_scan_laws.proofs.Modes.{HasNodes, node_used, none_free}
 use Rattle.mb_scan_laws.proofs.NameTests.{name_test, name_tests, test_name}
 use Rattle.mb_scan_laws.proofs.RowsOf.{row_at, row_has}

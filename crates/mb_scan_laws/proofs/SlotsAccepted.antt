@@ -1,13 +1,9 @@
 -- The scan's fifth part holds exactly where each directory has the slots of a sound tree.
-use Rattle.std.proofs.Common.{◌≡◌, ℕ, ◌+◌, ◌/◌, ◌<◌, ◌≤◌, List, [], Bool, true, false, if◌then◌else◌, length, Some, refl, sym, ap, subst, ◌∙◌, arith}
-use Rattle.std.specs.FinMap as fin
+use Rattle.std.proofs.Common.{◌≡◌, ℕ, ◌/◌, ◌<◌, ◌≤◌, List, [], Bool, true, false, if◌then◌else◌, refl, sym, subst, arith}
 use Rattle.mb_kinds.specs.Image.{Image}
 use Rattle.mb_tree.specs.Inodes.{is_directory}
 use Rattle.mb_tree.specs.Trees.{AreSlots, EachDirectory}
 use Rattle.mb_tree.specs.Volume.{last_inode}
-use Rattle.mb_tree.specs.declared.nodes.Body.TheVariants.{Directory}
-use Rattle.mb_tree.specs.declared.nodes.Node.{Node}
-use Rattle.mb_tree.specs.declared.nodes.PlainSlot.{PlainSlot}
 use Rattle.mb_tree.specs.declared.trees.Tree.{Tree}
 use Rattle.mb_rules.specs.Items.{Item, each_from}
 use Rattle.mb_rules.specs.Files.{mode_at, size_at}
@@ -15,7 +11,7 @@ use Rattle.mb_rules.specs.Slots.{slot_items, directory_items, slots_items}
 use Rattle.mb_rules.proofs.Walks.{AllHold, each_hold, hold_each}
 use Rattle.mb_scan_laws.specs.Laws.{SlotsAccept}
 use Rattle.mb_scan_laws.specs.Shown.{IsShown}
-use Rattle.mb_scan_laws.proofs.ShownDirectories.{IsListed, shown_nodes, listed, directory_has, directory_test, directory_slots, directory_two, directory_number}
+use Rattle.mb_scan_laws.proofs.ShownDirectories.{shown_nodes, listed, directory_has, directory_test, directory_slots, directory_two, directory_number}
 use Rattle.mb_scan_laws.proofs.SlotRules.{KeepsSlots, are_slots, keeps_slots}
 use Rattle.mb_scan_laws.proofs.WalkTests.{AreTests, tests_each, walk_is}
 

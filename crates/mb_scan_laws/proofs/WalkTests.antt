@@ -1,5 +1,5 @@
 -- Items that are tests alone: a walk goes through where they hold, and meets nothing.
-use Rattle.std.proofs.Common.{◌≡◌, ℕ, zero, suc, ◌+◌, List, [], ◌∷◌, ◌++◌, true, Ok, refl, arith}
+use Rattle.std.proofs.Common.{◌≡◌, ℕ, zero, suc, ◌+◌, List, [], ◌∷◌, ◌++◌, Ok, refl}
 use Rattle.std.specs.Prelude.{◌↔◌}
 use Rattle.mb_rules.specs.Items.{Item, Holds, Held, walked, each_from}
 use Rattle.mb_rules.proofs.Walks.{AllHold, walk_holds}

@@ -61,3 +61,12 @@ Accepts = (image : Image) → ((block : ℕ) → length (image.at block) ≡ 512
 -- in a volume it finds nothing
 abbrev pub Accepted : Type 0
 Accepted = (image : Image) (tree : Tree) → IsVolume image tree → scan image ≡ None
+
+-- the tree of a volume is the one that its bytes show
+abbrev pub TreeShown : Type 0
+TreeShown = (image : Image) (tree : Tree) → IsVolume image tree → tree ≡ tree_of image
+
+-- the addresses that the first three parts meet number the capacity: the cost of the files and the free blocks
+abbrev pub CapacityMet : Type 0
+CapacityMet = (image : Image) (met : List ℕ) → ((block : ℕ) → length (image.at block) ≡ 512) → walked [] (first_items image) ≡ Ok met
+    → length met ≡ (tree_of image).cap
