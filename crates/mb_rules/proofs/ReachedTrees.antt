@@ -116,13 +116,24 @@ module _ (blocks : ℕ → List ℕ) (tree : Tree) (shows : ShowsSlots blocks tr
   slots_of_node : (dir : ℕ) (node : Node) (slots : List PlainSlot) → fin.get tree.nodes dir ≡ Some node → node.body ≡ Directory slots → slots ≡ slots_at blocks dir
   slots_of_node dir node slots has body = sym (ap body_slots body) ∙ sym (ap node_slots has) ∙ shows.slots dir (let low = numbers dir node has in let same = shows.last in omega (arith, low, same))
 
-  leads_late : (dir at ino : ℕ) → Leads tree.nodes dir at ino → 0 < late_from blocks ino dir
+  pub leads_late : (dir at ino : ℕ) → Leads tree.nodes dir at ino → 0 < late_from blocks ino dir
   leads_late dir at ino leads =
       let same = slots_of_node dir leads.node leads.slots leads.has leads.body in
       let to : leads_to ino leads.slot ≡ true = (let is = leads.leads in grind (arith, nat_tests)) in
       let one = weight_one (leads_to ino) (slice_get leads.slots at) leads.slot leads.entry.has to in
       let some = count_some (leads_to ino) 2 leads.slots at leads.late in
       subst (λ slots. 0 < count_by (leads_to ino) (drop 2 slots)) same (omega arith)
+
+  -- and where such a slot is shown, a directory has it
+  pub late_leads : (ino dir : ℕ) → 0 < ino → dir ≤ last_inode blocks → 0 < late_from blocks ino dir → (at : ℕ) × Leads tree.nodes dir at ino
+  late_leads ino dir some low many =
+      let shown : 0 < count_by (leads_to ino) (drop 2 (node_slots (fin.get tree.nodes dir))) = subst (λ slots. 0 < count_by (leads_to ino) (drop 2 slots)) (sym (shows.slots dir low)) many in
+      let node = has_slots (fin.get tree.nodes dir) (longer (leads_to ino) _ shown) in
+      let same = slots_of_node dir node.node node.slots node.has node.body in
+      let place = late_in (leads_to ino) node.slots (subst (λ slots. 0 < count_by (leads_to ino) (drop 2 slots)) (sym same) many) in
+      let leads : place.1.ino ≡ ino = (let test = place.4 in grind (arith, nat_tests)) in
+      let used : is_used place.1 ≡ true = (let no_hole : nat_eq place.1.ino 0 ≡ false = grind (arith, nat_tests) in rw no_hole refl) in
+      (place.0, record { node = node.node; slots = node.slots; slot = place.1; has = node.has; body = node.body; late = place.2; entry = record { has = place.3; used = used }; leads = leads })
 
   reached_walks : (ino : ℕ) → Reached tree.nodes ino → (steps : ℕ) × (is_reached blocks steps ino ≡ true)
   unfolding is_reached
@@ -148,14 +159,8 @@ module _ (blocks : ℕ → List ℕ) (tree : Tree) (shows : ShowsSlots blocks tr
             let dir : ℕ = found.0 in
             let two = both (is_reached blocks steps dir) (not (nat_eq (late_from blocks ino dir) 0)) found.3 in
             let many : 0 < late_from blocks ino dir = some_late (late_from blocks ino dir) two.1 in
-            let shown : 0 < count_by (leads_to ino) (drop 2 (node_slots (fin.get tree.nodes dir))) = subst (λ slots. 0 < count_by (leads_to ino) (drop 2 slots)) (sym (shows.slots dir (let below = found.2 in omega (arith, below)))) many in
-            let node = has_slots (fin.get tree.nodes dir) (longer (leads_to ino) _ shown) in
-            let same = slots_of_node dir node.node node.slots node.has node.body in
-            let place = late_in (leads_to ino) node.slots (subst (λ slots. 0 < count_by (leads_to ino) (drop 2 slots)) (sym same) many) in
-            let leads : place.1.ino ≡ ino = (let test = place.4 in grind (arith, nat_tests)) in
-            let used : is_used place.1 ≡ true = (let no_hole : nat_eq place.1.ino 0 ≡ false = grind (arith, nat_tests) in rw no_hole refl) in
-            down dir place.0 (walks_reached steps dir (low_dir blocks ino dir many) two.0)
-            (record { node = node.node; slots = node.slots; slot = place.1; has = node.has; body = node.body; late = place.2; entry = record { has = place.3; used = used }; leads = leads })
+            let place = late_leads ino dir some (let below = found.2 in omega (arith, below)) many in
+            down dir place.0 (walks_reached steps dir (low_dir blocks ino dir many) two.0) place.1
       ]
 
 pub reached_is : ReachedIs

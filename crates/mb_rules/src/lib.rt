@@ -9,8 +9,8 @@
 //! The crate is theory alone: its public functions are laws, each the contract of a function without a body.
 //! They say that the scan goes through the free chain and the addresses of files exactly where these are as the
 //! definition of a volume asks (`specs/FreeChainLaws.antt`, `specs/FilesLaws.antt`), and that what it counts and
-//! reaches is what the tree has (`specs/ReachedLaws.antt`). That it finds nothing exactly where the image is a
-//! volume is not put together here yet: the slots, the parents and the cost are open.
+//! reaches is what the tree has (`specs/ReachedLaws.antt`). `mb_scan_laws` puts them together: the scan finds nothing
+//! exactly where the image is a volume.
 #![tactic(auto)]
 
 mod findings;

@@ -6,3 +6,10 @@ pub mod RowsOf
 pub mod ShownTrees
 pub mod TreeNodes
 pub mod Storing
+pub mod NameTests
+pub mod WalkTests
+pub mod SlotRules
+pub mod ShownDirectories
+pub mod SlotsAccepted
+pub mod ParentsAccepted
+pub mod Scans

@@ -181,7 +181,7 @@ walk_then met xs ys mid after one two = walk_append met xs ys ∙ ap (λ r. walk
 pub walked_once : (met : List ℕ) (items : List Item) (after : List ℕ) → walked met items ≡ Ok after → IsDistinct nat_eq met → IsDistinct nat_eq after
 walked_once met items after h once = subst (IsDistinct nat_eq) (walk_holds met items after h).1 (walk_once met items after h once)
 
-few_free : (lists : ℕ → Listed) (it : Listed) (chain : List ℕ) → IsChain lists it chain → it.count ≤ 50
+pub few_free : (lists : ℕ → Listed) (it : Listed) (chain : List ℕ) → IsChain lists it chain → it.count ≤ 50
 few_free lists it [] h = elim h [ inl none ↦ omega (arith, none) | inr last ↦ (let e = last.0 in omega (arith, e)) ]
 few_free lists it (b ∷ bs) h = h.0.few
 
