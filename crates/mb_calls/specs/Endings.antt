@@ -9,7 +9,6 @@ use Rattle.mb_iface.specs.Needs.{IsNeed}
 use Rattle.mb_iface.specs.OpenCounts.{count_of}
 use Rattle.mb_tree.specs.Fits.{Fits}
 use Rattle.mb_tree.specs.PickLaws.{fresh_on}
-use Rattle.mb_tree.specs.Rows.{plan}
 use Rattle.mb_tree.specs.Views.{IsPart}
 use Rattle.mb_tree.specs.Volume.{IsVolume}
 use Rattle.mb_tree.specs.declared.operations.FsOp.{FsOp}

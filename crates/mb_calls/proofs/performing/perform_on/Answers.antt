@@ -1,6 +1,4 @@
-use Rattle.std.proofs.Common.{Err, Some, ap, refl, sym, subst, ◌∙◌, ◌≡◌}
-use Rattle.std.specs.Prelude.{get_or, slice_get}
-use Rattle.std.proofs.lemmas.Option.{slice_get-get_or}
+use Rattle.std.proofs.Common.{Err, ap, refl, sym, subst, ◌∙◌}
 use Rattle.mb_calls.specs.Endings.{Ends, ready_refused}
 use Rattle.mb_calls.specs.Performed.{IsFit, IsReadyFor}
 use Rattle.mb_tree.specs.LocalLaws.{is_shared_call}
