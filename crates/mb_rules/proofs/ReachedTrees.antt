@@ -36,8 +36,8 @@ links_shown : (skip : ℕ) (blocks : ℕ → List ℕ) (tree : Tree) → ShowsSl
     → links_past skip tree ino ≡ sum_below (λ dir. count_by (leads_to ino) (drop skip (slots_at blocks dir))) (last_inode blocks + 1)
 links_shown skip blocks tree shows ino =
     ap (sum_below (λ dir. links_at skip ino (fin.get tree.nodes dir))) (ap (λ n. n + 1) shows.last)
-      ∙ sum_same (λ dir. count_by (leads_to ino) (drop skip (slots_at blocks dir))) (λ dir. links_at skip ino (fin.get tree.nodes dir)) (last_inode blocks + 1)
-      (λ dir small. node_links skip ino (fin.get tree.nodes dir) ∙ ap (λ slots. count_by (leads_to ino) (drop skip slots)) (shows.slots dir (omega (arith, small))))
+    ∙ sum_same (λ dir. count_by (leads_to ino) (drop skip (slots_at blocks dir))) (λ dir. links_at skip ino (fin.get tree.nodes dir)) (last_inode blocks + 1)
+    (λ dir small. node_links skip ino (fin.get tree.nodes dir) ∙ ap (λ slots. count_by (leads_to ino) (drop skip slots)) (shows.slots dir (omega (arith, small))))
 
 pub counts_links : CountsLinks
 counts_links blocks tree shows ino = (links_shown 0 blocks tree shows ino, links_shown 2 blocks tree shows ino)
