@@ -87,10 +87,12 @@ module _ (blocks : ℕ → List ℕ) (ino : ℕ) where
   only_claimed block h =
       let top = each_claims (own_items blocks ino) 0 13 block h in
       let below = top.below in
-      let way = way_claims blocks (top.number - 9) (inode_block ino) (own blocks ino top.number) block top.claims in
-      (way.some, extend (Top ino top.number) way.places,
-      place_extended (nat_eq ino) (Top ino top.number) (top.number - 9) way.places refl (same_ino, omega (arith, below)) way.way,
-      at_extended blocks (Top ino top.number) way.places ∙ way.leads)
+      let way = way_claims blocks (top.number - 9) (inode_block ino) (own blocks ino top.number) block top.claims in (
+        way.some,
+        extend (Top ino top.number) way.places,
+        place_extended (nat_eq ino) (Top ino top.number) (top.number - 9) way.places refl (same_ino, omega (arith, below)) way.way,
+        at_extended blocks (Top ino top.number) way.places ∙ way.leads,
+      )
 
   claimed_alone : (block : ℕ) → is_met held block ≡ true → claimed (area_items blocks ino) block ≡ true
   claimed_alone block h = elim (met_from (area_items blocks ino) [] block h) [ inl is ↦ is | inr wrong ↦ absurd (cc) ]

@@ -194,9 +194,10 @@ module _ (image : Image) (tree : Tree) (chain : List ℕ) (shown : IsShown image
         let skip : (nat_eq (mode_at image.at ino) 0 || nat_eq ino 1) ≡ false = ap (λ b. b || nat_eq ino 1) (node_used image.at tree nodes ino node has) ∙ not_eq ino 1 off in
         let test = (subst (λ b. AllHold (link_by image.at ino b)) skip (hold_each (link_items image.at) 1 (last_inode image.at) links_all ino r.0 (omega (arith, low, l)))).0 in
         let two = both (nat_eq (nlink image.at ino) (all_to image.at ino)) (nat_le (nlink image.at ino) 32767) test in
-        let is = (node_in image.at tree nodes ino node has).nlink in
-        (sym is ∙ eq_is (nlink image.at ino) (all_to image.at ino) two.0 ∙ sym (counts_links image.at tree shows ino).0,
-        subst (λ n. n ≤ 32767) is (le_is (nlink image.at ino) 32767 two.1))
+        let is = (node_in image.at tree nodes ino node has).nlink in (
+          sym is ∙ eq_is (nlink image.at ino) (all_to image.at ino) two.0 ∙ sym (counts_links image.at tree shows ino).0,
+          subst (λ n. n ≤ 32767) is (le_is (nlink image.at ino) 32767 two.1),
+        )
 
     pub parents_are : HasParents tree
     parents_are = record {

@@ -128,9 +128,10 @@ module _ (blocks : ℕ → List ℕ) (tree : Tree) (nodes : HasNodes blocks tree
         let one = both (not (nat_eq i 1) && nat_le i (last_inode blocks)) (not (nat_eq (mode_at blocks i) 0)) all in
         let two_tests = both (not (nat_eq i 1)) (nat_le i (last_inode blocks)) one.0 in
         let off = not_true_false (nat_eq i 1) two_tests.0 in
-        let le = two_tests.1 in
-        (λ e. (let is : nat_eq i 1 ≡ true = ap (λ n. nat_eq n 1) e in cc),
-        there_from blocks tree nodes i (grind (arith, nat_tests)) (not_true_false (nat_eq (mode_at blocks i) 0) one.1))
+        let le = two_tests.1 in (
+          λ e. (let is : nat_eq i 1 ≡ true = ap (λ n. nat_eq n 1) e in cc),
+          there_from blocks tree nodes i (grind (arith, nat_tests)) (not_true_false (nat_eq (mode_at blocks i) 0) one.1),
+        )
 
     named_at : (at : ℕ) → at < length slots → is_used (f at) ≡ true → (name_test (f at).name ≡ true) × (any_from (earlier at) 0 at ≡ false)
     named_at at low t =
@@ -189,26 +190,26 @@ module _ (blocks : ℕ → List ℕ) (tree : Tree) (nodes : HasNodes blocks tree
     leads_hold at low =
         let i : ℕ = (f at).ino in
         or_unused (is_used (f at)) (not (nat_eq i 1) && nat_le i (last_inode blocks) && not (nat_eq (mode_at blocks i) 0)) (λ t.
-            (let leads = are.leads at (f at) (used_slot at low t) in
-            let there = there_to blocks tree nodes i leads.1 in
-            let below = there.0 in
-            let apart : i ≢ 1 = leads.0 in
-            let le : nat_le i (last_inode blocks) ≡ true = grind (arith, nat_tests) in
-            let off : nat_eq i 1 ≡ false = grind (arith, nat_tests) in
-            and_both (not (nat_eq i 1) && nat_le i (last_inode blocks)) (not (nat_eq (mode_at blocks i) 0)) (and_both (not (nat_eq i 1)) (nat_le i (last_inode blocks)) (not_is _ off) le) (not_is _ there.1)))
+        (let leads = are.leads at (f at) (used_slot at low t) in
+        let there = there_to blocks tree nodes i leads.1 in
+        let below = there.0 in
+        let apart : i ≢ 1 = leads.0 in
+        let le : nat_le i (last_inode blocks) ≡ true = grind (arith, nat_tests) in
+        let off : nat_eq i 1 ≡ false = grind (arith, nat_tests) in
+        and_both (not (nat_eq i 1) && nat_le i (last_inode blocks)) (not (nat_eq (mode_at blocks i) 0)) (and_both (not (nat_eq i 1)) (nat_le i (last_inode blocks)) (not_is _ off) le) (not_is _ there.1)))
 
     no_earlier : (at k : ℕ) → at < length slots → k < at → is_used (f at) ≡ true → (b : Bool) → earlier at k ≡ b → b ≡ false
     no_earlier at k low less t true e = absurd (
-      let parts = both (is_used (f k)) (bytes_eq (f k).name (f at).name) e in
-      let is = are.distinct k at (f k) (f at) (used_slot k (omega (arith, low, less)) parts.0) (used_slot at low t) (same_name (f k).name (f at).name parts.1) in
-      omega (arith, is, less))
+        let parts = both (is_used (f k)) (bytes_eq (f k).name (f at).name) e in
+        let is = are.distinct k at (f k) (f at) (used_slot k (omega (arith, low, less)) parts.0) (used_slot at low t) (same_name (f k).name (f at).name parts.1) in
+        omega (arith, is, less))
     no_earlier at k low less t false e = refl
 
     named_hold : (at : ℕ) → at < length slots → is_named_once blocks ino at (f at) ≡ true
     named_hold at low =
         or_unused (is_used (f at)) (name_test (f at).name && not (any_from (earlier at) 0 at)) (λ t.
-            and_both (name_test (f at).name) (not (any_from (earlier at) 0 at)) (name_tests (f at).name (are.names at (f at) (used_slot at low t)))
-            (not_is _ (none_found (earlier at) 0 at (λ k from below. no_earlier at k low (omega (arith, below)) t (earlier at k) refl))))
+        and_both (name_test (f at).name) (not (any_from (earlier at) 0 at)) (name_tests (f at).name (are.names at (f at) (used_slot at low t)))
+        (not_is _ (none_found (earlier at) 0 at (λ k from below. no_earlier at k low (omega (arith, below)) t (earlier at k) refl))))
 
     pub keeps_slots : KeepsSlots blocks ino (length slots)
     keeps_slots = record { dots = dots_hold; leads = leads_hold; named = named_hold }

@@ -192,13 +192,15 @@ stored_walks image tree chain shown =
     let nodes = nodes_of image tree chain stored shown.kinds in
     let walk = chain_accepted image.at chain low (record { listed = stored.spare.listed; in_range = stored.spare.in_range; once = stored.spare.once }) in
     let files = files_accepted image.at (has_addresses tree) walk.met low (are_addressed image.at tree nodes) (walked_once [] (chain_items image.at) walk.met walk.walks none_once) (keep_kinds image.at tree nodes shown.sizes)
-        (record {
-          in_range = stored.held.in_range;
-          once = stored.held.once;
-          leads_on = stored.held.leads_on;
-          apart = chain_apart image.at (has_addresses tree) low walk.met chain walk.same stored.spare.in_range stored.spare.apart;
-        }) in
+    (record {
+      in_range = stored.held.in_range;
+      once = stored.held.once;
+      leads_on = stored.held.leads_on;
+      apart = chain_apart image.at (has_addresses tree) low walk.met chain walk.same stored.spare.in_range stored.spare.apart;
+    }) in
     let first : walked [] (super_block_items image) ≡ Ok [] =
-    walks [] (super_block_items image) (super_holds image stored.sizes (few_free (list_in image.at) (first_list image.at) chain stored.spare.listed) stored.cached) none_once in
-    (files.after, walk_then [] (super_block_items image) (chain_items image.at ++ files_items image.at) [] files.after first
-    (walk_then [] (chain_items image.at) (files_items image.at) walk.met files.after walk.walks files.walks))
+    walks [] (super_block_items image) (super_holds image stored.sizes (few_free (list_in image.at) (first_list image.at) chain stored.spare.listed) stored.cached) none_once in (
+      files.after,
+      walk_then [] (super_block_items image) (chain_items image.at ++ files_items image.at) [] files.after first
+          (walk_then [] (chain_items image.at) (files_items image.at) walk.met files.after walk.walks files.walks),
+    )
