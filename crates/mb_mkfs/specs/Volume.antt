@@ -33,8 +33,11 @@ root_inode isize = record {
 abbrev pub root_slot : List ℕ → Slot
 root_slot name = record { ino = 2; name = name }
 
+abbrev pub with_root_slots : List ℕ → List ℕ
+with_root_slots bytes = put_at (put_at bytes 0 (slot_bytes (root_slot dot))) 16 (slot_bytes (root_slot dot_dot))
+
 abbrev pub root_slots : List ℕ
-root_slots = put_at (put_at zeros 0 (slot_bytes (root_slot dot))) 16 (slot_bytes (root_slot dot_dot))
+root_slots = with_root_slots zeros
 
 -- a block of a volume of `top` blocks whose i-list ends before `isize`: inode 2 is the second in block 2
 unfoldable pub fresh_block : ℕ → ℕ → ℕ → List ℕ

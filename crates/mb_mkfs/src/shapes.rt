@@ -1,10 +1,7 @@
 ghost use Rattle.std.specs.Prelude.{◌≡◌, ◌+◌, ◌≤◌, ◌<◌, IsNone, IfSome};
-ghost use Rattle.mb_word.specs.Numbers.{put_at};
-ghost use Rattle.mb_layout.specs.SlotEntry.{slot_bytes};
-ghost use Rattle.mb_tree.specs.Effect.{dot, dot_dot};
 ghost use Rattle.mb_mkfs.specs.FreeLists.{super_with};
 ghost use Rattle.mb_mkfs.specs.Sizes.{AreSizes, isize_for};
-ghost use Rattle.mb_mkfs.specs.Volume.{fresh_block, root_inode, root_slot};
+ghost use Rattle.mb_mkfs.specs.Volume.{fresh_block, root_inode, with_root_slots};
 
 use crate::free_lists::{first_list, free_count, has_list, list_after};
 use mb_kinds::Name;
@@ -28,7 +25,8 @@ impl Shape {
     /// The sizes for so many blocks and inodes, where a volume can be made with them.
     pub(crate) fn new(blocks: u32, inodes: u32) -> Option<Shape>
         ensures sizes { IfSome result (λ shape. AreSizes blocks inodes) }
-        ensures shape { IfSome result (λ shape. shape ≡ record { s_isize = isize_for inodes; s_fsize = blocks }) }
+        ensures isize { IfSome result (λ shape. shape.s_isize ≡ isize_for inodes) }
+        ensures fsize { IfSome result (λ shape. shape.s_fsize ≡ blocks) }
         ensures none { IsNone result → AreSizes blocks inodes → ⊥ }
     {
         if inodes == 0 || inodes > 65528 || inodes % 8 != 0 {
@@ -105,7 +103,7 @@ fn root_inode(s_isize: u16) -> Dinode
 }
 
 fn write_root_slots(bytes: &mut [u8; 512])
-    ensures { bytes.new ≡ put_at (put_at bytes.old 0 (slot_bytes (root_slot dot))) 16 (slot_bytes (root_slot dot_dot)) }
+    ensures { bytes.new ≡ with_root_slots bytes.old }
 {
     let own = Slot {
         ino: ROOT,
