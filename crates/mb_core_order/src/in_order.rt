@@ -1,0 +1,40 @@
+ghost use Rattle.mb_core_order.specs.Readings.{FreshIsPart, FloorIsNotStale, InsideFlies, OneIsInside, RecordsOfOthers, OthersStand, TablesByRule, EntersAtOnce, LogIsShort};
+
+use mb_edge::Disk;
+
+/// Fresh copies are a part of what is seen.
+pub fn fresh_is_part()
+    ensures { FreshIsPart }
+{}
+
+/// Nothing is stale of what the holder of the right to commit alone gathered.
+pub fn floor_is_not_stale()
+    ensures { FloorIsNotStale }
+{}
+
+/// Who is inside has a call in flight with a ticket, and where one caller is inside, somebody is.
+pub fn inside_flies()
+    ensures flies { InsideFlies }
+    ensures some { OneIsInside }
+{}
+
+/// An event of one caller leaves every other caller's public state as it was.
+pub fn others_stand()
+    ensures records { RecordsOfOthers }
+    ensures stand { OthersStand }
+{}
+
+/// The tables move as others may see them by the rule of their stamp.
+pub fn tables_by_rule()
+    ensures { TablesByRule }
+{}
+
+/// A call that begins and enters at once does the two events after each other.
+pub fn enters_at_once<F, D: Disk>()
+    ensures { EntersAtOnce F D }
+{}
+
+/// The log is short.
+pub fn log_is_short<F, D: Disk>()
+    ensures { LogIsShort F D }
+{}
