@@ -4,6 +4,7 @@ pub mod Callers
 pub mod Conditions
 pub mod Copies
 pub mod Events
+pub mod Examples
 pub mod Faults
 pub mod Flights
 pub mod Histories

@@ -19,11 +19,13 @@
 #![tactic(auto)]
 
 mod config;
+mod examples;
 mod ready;
 mod stages;
 mod steps;
 
 pub use config::Config;
+pub use examples::{refused_traces, worked_floor, worked_numbers, worked_records, worked_traces};
 pub use ready::Ready;
 pub use stages::Stage;
 pub use steps::Step;

@@ -1,0 +1,5 @@
+use Rattle.std.proofs.Common.{refl}
+use Rattle.mb_core_spec.proofs.examples.refused_traces.Goals as goal
+
+pub returns : goal.returns
+returns c = (refl, refl, refl, refl, refl)
