@@ -1,12 +1,11 @@
 -- A walk one component further.
-use Rattle.std.proofs.Common.{◌≡◌, ◌≢◌, ℕ, suc, ◌+◌, ◌-◌, ◌<◌, true, false, List, ◌∷◌, ◌++◌, length, take, get_or, Option, Some, Result, Ok, Err, sym, ap, subst, ◌∙◌, arith}
+use Rattle.std.proofs.Common.{◌≡◌, ◌≢◌, ℕ, suc, ◌+◌, ◌-◌, ◌<◌, true, List, ◌∷◌, ◌++◌, length, take, get_or, Option, Some, Result, Ok, Err, sym, ap, subst, ◌∙◌, arith}
 use Rattle.std.proofs.lemmas.List.{drop-drop, get_or-drop, length-drop, length-take, take-append-drop}
 use Rattle.std.proofs.Math.Seq.{drop-cons}
 use Rattle.std.specs.Prelude.{drop, slice_index}
 use Rattle.std.specs.List.{Contains}
 use Rattle.mb_kinds.specs.Image.{Image}
 use Rattle.mb_kinds.specs.declared.calls.Call.{Call}
-use Rattle.mb_kinds.specs.declared.errors.Errno.TheVariants.{ENOTDIR}
 use Rattle.mb_kinds.specs.declared.replies.Stat.{Stat}
 use Rattle.mb_iface.specs.Near.{IsOnWay}
 use Rattle.mb_tree.specs.Inodes.{is_directory}
@@ -14,8 +13,8 @@ use Rattle.mb_tree.specs.Lookup.{components, find_path, find_place, slash, start
 use Rattle.mb_tree.specs.declared.lookups.Placed.{Placed}
 use Rattle.mb_tree.specs.declared.seats.Seat.{Seat}
 use Rattle.mb_tree.specs.declared.trees.Tree.{Tree}
-use Rattle.mb_calls.specs.Following.{AsksNear, IsCut, IsGoing, IsKept, HaltsNear}
-use Rattle.mb_calls.specs.Halts.{Matches, IsOver, Needs, HaltMatches}
+use Rattle.mb_calls.specs.Following.{AsksNear, IsCut, IsGoing, IsKept}
+use Rattle.mb_calls.specs.Halts.{Matches, IsOver, Needs}
 use Rattle.mb_calls.specs.Following.{ViewGrows}
 use Rattle.mb_calls.specs.Looked.{IsLooked, paths_of}
 use Rattle.mb_calls.specs.Looked.IsLooked.{passed}
@@ -25,7 +24,7 @@ use Rattle.mb_calls.specs.declared.halts.Halt.TheVariants as why
 use Rattle.mb_calls.specs.declared.walks.PathWalk.{PathWalk}
 use Rattle.mb_calls.specs.declared.walks.PathWalks.{PathWalks}
 use Rattle.mb_calls.proofs.Nearby.{near_more}
-use Rattle.mb_calls.proofs.Walking.{find_followed, place_followed, way_followed, ended_find, ended_place, followed_on, grown_part, head_way, stopped_find, stopped_place}
+use Rattle.mb_calls.proofs.Walking.{find_followed, place_followed, way_followed, followed_on, grown_part}
 
 abbrev pub head_of : List ℕ → ℕ → ℕ → List ℕ
 head_of path from next = take (next - 1 - from) (drop from path)
@@ -68,34 +67,6 @@ module _ (shown : ℕ → Option (List ℕ)) (seat : Seat) (path : List ℕ) (wa
     followed = λ image tree over. followed_on tree over.volume.sound seat.cred seat.cwd path walk.dir (drop walk.from path) head (drop next path) (kept.followed image tree over) cut_with some_with
         (tail_some path walk.from next cut) (tail_other path walk.from next cut) stat (found image tree over) d;
   }
-
-  module _ (image : Image) (tree : Tree) (over : IsOver shown seat image tree) where
-    pub no_directory_find : (stat : Stat) → is_directory stat.mode ≡ false → find_path tree.nodes seat.cred walk.dir head ≡ Ok stat → find_path tree.nodes seat.cred seat.cwd path ≡ Err ENOTDIR
-    no_directory_find stat d found = ended_find tree over.volume.sound seat.cred seat.cwd path walk.dir (drop walk.from path) head (drop next path) (kept.followed image tree over) cut_with some_with
-        (tail_some path walk.from next cut) (tail_other path walk.from next cut) stat found d
-
-    pub no_directory_place : (stat : Stat) → is_directory stat.mode ≡ false → find_path tree.nodes seat.cred walk.dir head ≡ Ok stat → find_place tree.nodes seat.cred seat.cwd path ≡ Err ENOTDIR
-    no_directory_place stat d found = ended_place tree over.volume.sound seat.cred seat.cwd path walk.dir (drop walk.from path) head (drop next path) (kept.followed image tree over) cut_with some_with
-        (tail_some path walk.from next cut) (tail_other path walk.from next cut) stat found d
-
-    pub refused_find : (stop : Halt) → HaltMatches stop (find_path tree.nodes seat.cred walk.dir head) → HaltMatches stop (find_path tree.nodes seat.cred seat.cwd path)
-    refused_find (why.Refused e) h = stopped_find tree over.volume.sound seat.cred seat.cwd path walk.dir (drop walk.from path) head (drop next path) (kept.followed image tree over) cut_with some_with
-        (tail_some path walk.from next cut) (tail_other path walk.from next cut) e h
-    refused_find (why.Need need) h = tt
-    refused_find why.NoMemory h = tt
-
-    pub refused_place : (stop : Halt) → HaltMatches stop (find_path tree.nodes seat.cred walk.dir head) → HaltMatches stop (find_place tree.nodes seat.cred seat.cwd path)
-    refused_place (why.Refused e) h = stopped_place tree over.volume.sound seat.cred seat.cwd path walk.dir (drop walk.from path) head (drop next path) (kept.followed image tree over) cut_with some_with
-        (tail_some path walk.from next cut) (tail_other path walk.from next cut) e h
-    refused_place (why.Need need) h = tt
-    refused_place why.NoMemory h = tt
-
-    pub near_on : (stop : Halt) → HaltsNear image tree seat.cred walk.dir head stop → HaltsNear image tree seat.cred seat.cwd path stop
-    near_on (why.Need need) h = near_more image tree (IsOnWay tree.nodes seat.cred (start_of walk.dir head) (components head)) (IsOnWay tree.nodes seat.cred (start_of seat.cwd path) (components path)) need.first
-        (head_way tree over.volume.sound seat.cred seat.cwd path walk.dir (drop walk.from path) head (drop next path) (kept.followed image tree over) cut_with some_with
-        (tail_some path walk.from next cut) (tail_other path walk.from next cut)) h
-    near_on (why.Refused e) h = tt
-    near_on why.NoMemory h = tt
 
 -- what the rest of a walk finds is what the path finds
 module _ (shown : ℕ → Option (List ℕ)) (seat : Seat) (path : List ℕ) (walk : PathWalk) (rest : List ℕ) (kept : IsKept shown seat path walk) (is : rest ≡ drop walk.from path) (image : Image) (tree : Tree) (over : IsOver shown seat image tree) where

@@ -1,32 +1,26 @@
 -- A path is found by its components one after another.
-use Rattle.std.proofs.Common.{◌≡◌, ◌≢◌, inl, inr, ℕ, zero, suc, ◌+◌, ◌<◌, ◌≤◌, Bool, true, false, cond, not, if◌then◌else◌, List, [], ◌∷◌, ◌++◌, append_assoc, length, map, filter, take, get_or, Option, Some, None, Ok, Err, refl, sym, ap, subst, ◌∙◌, arith}
+use Rattle.std.proofs.Common.{◌≡◌, ◌≢◌, inl, inr, ℕ, ◌+◌, ◌<◌, ◌≤◌, Bool, true, false, cond, not, if◌then◌else◌, List, [], ◌∷◌, ◌++◌, append_assoc, length, map, filter, take, get_or, Option, Some, None, Ok, Err, refl, sym, ap, subst, ◌∙◌, arith}
 use Rattle.std.proofs.lemmas.Bool.Decides.{nat_tests}
 use Rattle.std.proofs.lemmas.List.{map-append}
 use Rattle.std.proofs.lemmas.List.Elements.{filter-append}
-use Rattle.std.proofs.Math.Seq.{take-append-add, take-append-le}
+use Rattle.std.proofs.Math.Seq.{take-append-add}
 use Rattle.std.specs.Prelude.{slice_index, ◌==◌, IfSome}
 use Rattle.std.specs.List.{slice_split, onto_first}
 use Rattle.mb_kinds.specs.declared.credentials.Cred.{Cred}
-use Rattle.mb_kinds.specs.declared.errors.Errno.{Errno}
-use Rattle.mb_kinds.specs.declared.errors.Errno.TheVariants.{ENOENT, ENOTDIR, EACCES}
 use Rattle.mb_kinds.specs.declared.replies.Stat.{Stat}
 use Rattle.mb_iface.specs.Near.{IsOnWay}
-use Rattle.mb_tree.specs.Answers.{Answer, ◌>>=◌, ◌>>◌, need, some}
-use Rattle.mb_tree.specs.Fits.{IsLeafAt}
-use Rattle.mb_tree.specs.Inodes.{is_directory, may, slots_of, stat_of}
-use Rattle.mb_tree.specs.Lookup.{components, enter, find_path, find_place, look, number_of, padded, place_under, slash, start_of, stat_in, walk}
+use Rattle.mb_tree.specs.Answers.{Answer, ◌>>=◌, some}
+use Rattle.mb_tree.specs.Inodes.{is_directory}
+use Rattle.mb_tree.specs.Lookup.{components, enter, find_path, find_place, look, padded, place_under, slash, start_of, stat_in, walk}
 use Rattle.mb_tree.specs.Maps.{Numbered}
-use Rattle.mb_tree.specs.Trees.{IsDirectoryAt, IsSound, IsThere}
+use Rattle.mb_tree.specs.Trees.{IsDirectoryAt, IsSound}
 use Rattle.mb_tree.specs.Views.{IsPart}
 use Rattle.mb_tree.specs.declared.lookups.Placed.TheVariants.{At}
 use Rattle.mb_tree.specs.declared.nodes.Node.{Node}
-use Rattle.mb_tree.specs.declared.nodes.PlainSlot.{PlainSlot}
 use Rattle.mb_tree.specs.declared.trees.Tree.{Tree}
-use Rattle.mb_tree.proofs.Always.{bind_ok, same_ok}
-use Rattle.mb_tree.proofs.PlacedNames.{IsLooked, look_ok, numbered}
-use Rattle.mb_tree.proofs.InodeKinds.{is_directory_at, is_leaf_at, path_ok}
+use Rattle.mb_tree.proofs.Always.{same_ok}
+use Rattle.mb_tree.proofs.InodeKinds.{is_directory_at, path_ok}
 use Rattle.mb_calls.specs.Following.{ViewGrows, IsFollowed}
-use Rattle.mb_tree.proofs.KnownPlaces.{start_there}
 
 -- ---- the components of two pieces of a path
 
@@ -96,9 +90,6 @@ module _ (nodes : Numbered Node) (cred : Cred) where
   pub walk_past : (s m : ℕ) (a b : List (List ℕ)) → walk nodes cred s a ≡ Ok m → walk nodes cred s (a ++ b) ≡ walk nodes cred m b
   walk_past s m a b h = walk_append s a b ∙ ap (λ (r : Answer ℕ). r >>= λ m. walk nodes cred m b) h
 
-  pub walk_stopped : (s : ℕ) (a b : List (List ℕ)) (e : Errno) → walk nodes cred s a ≡ Err e → walk nodes cred s (a ++ b) ≡ Err e
-  walk_stopped s a b e h = walk_append s a b ∙ ap (λ (r : Answer ℕ). r >>= λ m. walk nodes cred m b) h
-
   place_step : (s : ℕ) (first name : List ℕ) (names : List (List ℕ)) → place_under nodes cred s (first ∷ name ∷ names) ≡ (enter nodes cred s first >>= λ next. place_under nodes cred next (name ∷ names))
   place_step s first name names = go (enter nodes cred s first)
     where
@@ -124,24 +115,6 @@ module _ (nodes : Numbered Node) (cred : Cred) where
       go : ((next : ℕ) → place_under nodes cred next (a ++ b) ≡ (walk nodes cred next a >>= λ m. place_under nodes cred m b)) → (r : Answer ℕ) → (r >>= (λ next. place_under nodes cred next (a ++ b))) ≡ ((r >>= (λ next. walk nodes cred next a)) >>= λ m. place_under nodes cred m b)
       go by (Ok next) = by next
       go by (Err e) = refl
-
-  -- ---- no walk goes on at an inode that is no directory
-  leaf_look : (ino : ℕ) (name : List ℕ) → IsLeafAt nodes ino → look nodes cred ino name ≡ Err ENOTDIR
-  leaf_look ino name leaf =
-      ap (λ (o : Option Node). some o ENOTDIR >>= (λ node. some (slots_of node.body) ENOTDIR >>= (λ slots. need (may cred (stat_of ino node) 1) EACCES >> Ok (number_of slots name)))) leaf.has
-      ∙ ap (λ (o : Option (List PlainSlot)). some o ENOTDIR >>= (λ slots. need (may cred (stat_of ino leaf.node) 1) EACCES >> Ok (number_of slots name))) leaf.body
-
-  leaf_enter : (ino : ℕ) (name : List ℕ) → IsLeafAt nodes ino → enter nodes cred ino name ≡ Err ENOTDIR
-  leaf_enter ino name leaf = ap (λ (r : Answer (Option ℕ)). r >>= λ found. some found ENOENT) (leaf_look ino name leaf)
-
-  pub leaf_walk : (ino : ℕ) (names : List (List ℕ)) → 0 < length names → IsLeafAt nodes ino → walk nodes cred ino names ≡ Err ENOTDIR
-  leaf_walk ino [] some leaf = absurd (omega (arith, some))
-  leaf_walk ino (name ∷ names) some leaf = ap (λ (r : Answer ℕ). r >>= λ next. walk nodes cred next names) (leaf_enter ino name leaf)
-
-  pub leaf_place : (ino : ℕ) (names : List (List ℕ)) → 0 < length names → IsLeafAt nodes ino → place_under nodes cred ino names ≡ Err ENOTDIR
-  leaf_place ino [] some leaf = absurd (omega (arith, some))
-  leaf_place ino (name ∷ []) some leaf = ap (λ (r : Answer (Option ℕ)). r >>= λ found. Ok (At ino name found)) (leaf_look ino name leaf)
-  leaf_place ino (name ∷ second ∷ names) some leaf = place_step ino name second names ∙ ap (λ (r : Answer ℕ). r >>= λ next. place_under nodes cred next (second ∷ names)) (leaf_enter ino name leaf)
 
 -- ---- a path followed
 
@@ -198,74 +171,6 @@ module _ (tree : Tree) (sound : IsSound tree) (cred : Cred) (cwd : ℕ) (path : 
         directory = is_directory_at tree sound stat.ino stat found_at.1 d;
         more = inr names_left;
       }
-
-  -- a component that leads to no directory ends the walk
-  pub ended_find : (stat : Stat) → find_path tree.nodes cred dir head ≡ Ok stat → is_directory stat.mode ≡ false → find_path tree.nodes cred cwd path ≡ Err ENOTDIR
-  ended_find stat found d =
-      let found_at = path_ok tree.nodes cred dir head stat found in
-      find_followed tree.nodes cred cwd path dir rest at ∙ ap (λ names. walk tree.nodes cred (start_of dir rest) names >>= stat_in tree.nodes) rest_names
-      ∙ ap (λ (r : Answer ℕ). r >>= stat_in tree.nodes) (walk_past tree.nodes cred (start_of dir rest) stat.ino (components head) (components tail) (ap (λ s. walk tree.nodes cred s (components head)) start_is ∙ found_at.0)
-      ∙ leaf_walk tree.nodes cred stat.ino (components tail) names_left (is_leaf_at tree sound stat.ino stat found_at.1 d))
-
-  pub ended_place : (stat : Stat) → find_path tree.nodes cred dir head ≡ Ok stat → is_directory stat.mode ≡ false → find_place tree.nodes cred cwd path ≡ Err ENOTDIR
-  ended_place stat found d =
-      let found_at = path_ok tree.nodes cred dir head stat found in
-      place_followed tree.nodes cred cwd path dir rest at ∙ ap (place_under tree.nodes cred (start_of dir rest)) rest_names
-      ∙ place_append tree.nodes cred (start_of dir rest) (components head) (components tail) names_left
-      ∙ ap (λ (r : Answer ℕ). r >>= λ m. place_under tree.nodes cred m (components tail)) (ap (λ s. walk tree.nodes cred s (components head)) start_is ∙ found_at.0)
-      ∙ leaf_place tree.nodes cred stat.ino (components tail) names_left (is_leaf_at tree sound stat.ino stat found_at.1 d)
-
-  walk_there : (s : ℕ) (names : List (List ℕ)) (ino : ℕ) → IsThere tree.nodes s → walk tree.nodes cred s names ≡ Ok ino → IsThere tree.nodes ino
-  walk_there s [] ino there h = subst (IsThere tree.nodes) (same_ok s ino h) there
-  walk_there s (name ∷ names) ino there h =
-      let one = bind_ok (enter tree.nodes cred s name) _ ino h in
-      let two = bind_ok (look tree.nodes cred s name) _ one.0 one.1 in
-      walk_there one.0 names ino (entered two.0 two.1 one.0 two.2) one.2
-    where
-      led_there : (other : ℕ) → IsLooked tree.nodes s name (Some other) → IsThere tree.nodes other
-      led_there other looked =
-          let by = numbered looked.slots name other looked.number in
-          subst (IsThere tree.nodes) by.3 ((sound.slots s looked.node looked.slots looked.has looked.body).leads by.0 by.1 by.2).1
-
-      entered : (found : Option ℕ) → look tree.nodes cred s name ≡ Ok found → (next : ℕ) → some found ENOENT ≡ Ok next → IsThere tree.nodes next
-      entered None h next e = cc
-      entered (Some other) h next e = subst (IsThere tree.nodes) (same_ok other next e) (led_there other (look_ok tree.nodes cred s name (Some other) h))
-
-  -- a component that is refused refuses the walk
-  head_stopped : (e : Errno) → find_path tree.nodes cred dir head ≡ Err e → walk tree.nodes cred (start_of dir rest) (components head) ≡ Err e
-  head_stopped e h = ap (λ s. walk tree.nodes cred s (components head)) start_is ∙ go (walk tree.nodes cred (start_of dir head) (components head)) refl h
-    where
-      go : (r : Answer ℕ) → walk tree.nodes cred (start_of dir head) (components head) ≡ r → (r >>= stat_in tree.nodes) ≡ Err e → r ≡ Err e
-      go (Err d) is h = let same : d ≡ e = cc in ap Err same
-      go (Ok ino) is h =
-          let there = walk_there (start_of dir head) (components head) ino (start_there tree sound dir head at.directory) is in
-          let no : Ok (stat_of ino there.node) ≡ Err e = ap (λ (o : Option Node). some o ENOENT >>= (λ (node : Node). Ok (stat_of ino node))) (sym there.has) ∙ h in cc
-
-  pub stopped_find : (e : Errno) → find_path tree.nodes cred dir head ≡ Err e → find_path tree.nodes cred cwd path ≡ Err e
-  stopped_find e h =
-      find_followed tree.nodes cred cwd path dir rest at ∙ ap (λ names. walk tree.nodes cred (start_of dir rest) names >>= stat_in tree.nodes) rest_names
-      ∙ ap (λ (r : Answer ℕ). r >>= stat_in tree.nodes) (walk_stopped tree.nodes cred (start_of dir rest) (components head) (components tail) e (head_stopped e h))
-
-  pub stopped_place : (e : Errno) → find_path tree.nodes cred dir head ≡ Err e → find_place tree.nodes cred cwd path ≡ Err e
-  stopped_place e h =
-      place_followed tree.nodes cred cwd path dir rest at ∙ ap (place_under tree.nodes cred (start_of dir rest)) rest_names
-      ∙ place_append tree.nodes cred (start_of dir rest) (components head) (components tail) names_left
-      ∙ ap (λ (r : Answer ℕ). r >>= λ m. place_under tree.nodes cred m (components tail)) (head_stopped e h)
-
-  pub head_way : (ino : ℕ) → IsOnWay tree.nodes cred (start_of dir head) (components head) ino → IsOnWay tree.nodes cred (start_of cwd path) (components path) ino
-  head_way ino on = way_followed tree.nodes cred cwd path dir rest at ino (subst (λ s. IsOnWay tree.nodes cred s (components rest) ino) (sym start_is)
-      (subst (λ names. IsOnWay tree.nodes cred (start_of dir head) names ino) (sym rest_names) (longer_way (components head) on)))
-    where
-      longer_way : (names : List (List ℕ)) → IsOnWay tree.nodes cred (start_of dir head) names ino → IsOnWay tree.nodes cred (start_of dir head) (names ++ components tail) ino
-      longer_way names on = (on.0, farther names on.0 on.1, ap (walk tree.nodes cred (start_of dir head)) (shorter names on.0 on.1) ∙ on.2)
-        where
-          farther : (names : List (List ℕ)) (n : ℕ) → n ≤ length names → n ≤ length (names ++ components tail)
-          farther [] n h = omega (arith, h)
-          farther (x ∷ xs) zero h = omega arith
-          farther (x ∷ xs) (suc n) h = omega (arith, farther xs n (omega (arith, h)))
-
-          shorter : (names : List (List ℕ)) (n : ℕ) → n ≤ length names → take n (names ++ components tail) ≡ take n names
-          shorter names n h = take-append-le n names (components tail) h
 
 -- ---- a view that grew is a part of fewer images
 pub grown_part : (shown later : ℕ → Option (List ℕ)) (blocks : ℕ → List ℕ) → ViewGrows shown later → IsPart later blocks → IsPart shown blocks

@@ -20,7 +20,7 @@ use Rattle.mb_tree.specs.declared.seats.PlainFile.{PlainFile}
 use Rattle.mb_tree.specs.declared.seats.Seat.{Seat}
 use Rattle.mb_tree.specs.declared.trees.Tree.{Tree}
 use Rattle.mb_calls.specs.Continuing.{BusyAlike, CountMap, bytes_in}
-use Rattle.mb_calls.specs.Following.{AsksNear, HaltsOn}
+use Rattle.mb_calls.specs.Following.{AsksNear}
 use Rattle.mb_calls.specs.Halts.{IsOver, Matches, Needs, Says}
 use Rattle.mb_calls.specs.Halts.Scope.{around}
 use Rattle.mb_calls.specs.Looked.{IsLooked, paths_of}
@@ -108,14 +108,7 @@ PlacesFrom shown cred dir path result = (image : Image) (tree : Tree) → IsPart
 abbrev pub NearFrom : {X : Type 0} → Shown → Cred → ℕ → List ℕ → Result X Halt → Type 0
 NearFrom shown cred dir path result = (image : Image) (tree : Tree) → IsPart shown image.at → IsVolume image tree → IsDirectoryAt tree.nodes dir → AsksNear image tree cred dir path result
 
--- ---- of a walk of a session's path
-
--- where it halts with a refusal the path is refused alike, and so is its place
-abbrev pub HaltsFinding : {X : Type 0} → Shown → Seat → List ℕ → Result X Halt → Type 0
-HaltsFinding shown seat path result = (image : Image) (tree : Tree) → IsOver shown seat image tree → HaltsOn result (find_path tree.nodes seat.cred seat.cwd path)
-
-abbrev pub HaltsPlacing : {X : Type 0} → Shown → Seat → List ℕ → Result X Halt → Type 0
-HaltsPlacing shown seat path result = (image : Image) (tree : Tree) → IsOver shown seat image tree → HaltsOn result (find_place tree.nodes seat.cred seat.cwd path)
+-- ---- of the rest of a walk
 
 -- a block on the way of the path
 abbrev pub NearWay : {X : Type 0} → Shown → Seat → List ℕ → Result X Halt → Type 0

@@ -4,14 +4,13 @@ use Rattle.mb_kinds.specs.Image.{Image}
 use Rattle.mb_kinds.specs.declared.calls.Call.{Call}
 use Rattle.mb_kinds.specs.declared.credentials.Cred.{Cred}
 use Rattle.mb_iface.specs.Near.{IsNear, IsOnWay}
-use Rattle.mb_tree.specs.Answers.{Answer}
 use Rattle.mb_tree.specs.Lookup.{components, start_of, walk}
 use Rattle.mb_tree.specs.Maps.{Numbered}
 use Rattle.mb_tree.specs.Trees.{IsDirectoryAt}
 use Rattle.mb_tree.specs.declared.nodes.Node.{Node}
 use Rattle.mb_tree.specs.declared.seats.Seat.{Seat}
 use Rattle.mb_tree.specs.declared.trees.Tree.{Tree}
-use Rattle.mb_calls.specs.Halts.{HaltMatches, IsOver}
+use Rattle.mb_calls.specs.Halts.{IsOver}
 use Rattle.mb_calls.specs.Looked.{IsFirst, IsSecond}
 use Rattle.mb_calls.specs.declared.halts.Halt.{Halt}
 use Rattle.mb_calls.specs.declared.halts.Halt.TheVariants as why
@@ -39,15 +38,11 @@ pub record IsCut (path : List ℕ) (from : ℕ) (next : ℕ) : Type 0 where
   pub ends : slice_index path (next - 1) ≡ 47
   pub begins : slice_index path next ≢ 47
 
-abbrev pub HaltsOn : {X Y : Type 0} → Result X Halt → Answer Y → Type 0
-HaltsOn (Ok x) row = Unit {0}
-HaltsOn (Err stop) row = HaltMatches stop row
-
+-- the block of a Need is on the way of the path
 abbrev pub HaltsNear : Image → Tree → Cred → ℕ → List ℕ → Halt → Type 0
 HaltsNear image tree cred dir path (why.Need need) = IsNear image tree (IsOnWay tree.nodes cred (start_of dir path) (components path)) need.first
 HaltsNear image tree cred dir path _ = Unit {0}
 
--- what is asked for is on the way of the path
 abbrev pub AsksNear : {X : Type 0} → Image → Tree → Cred → ℕ → List ℕ → Result X Halt → Type 0
 AsksNear image tree cred dir path (Ok x) = Unit {0}
 AsksNear image tree cred dir path (Err stop) = HaltsNear image tree cred dir path stop

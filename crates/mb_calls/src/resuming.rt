@@ -1,5 +1,5 @@
 ghost use Rattle.std.specs.Prelude.{◌<◌, IfSome, length};
-ghost use Rattle.mb_calls.specs.Following.{BeginsWalks, IsGoing, IsGoingFor, IsKept, KeepsFirst, KeepsSecond, WalksGoOn};
+ghost use Rattle.mb_calls.specs.Following.{BeginsWalks, IsGoing, IsGoingFor, KeepsFirst, KeepsSecond, WalksGoOn};
 ghost use Rattle.mb_calls.specs.Looked.{IsFirst, IsSecond};
 ghost use Rattle.mb_calls.specs.Performed.{FitsCall, IsNeeded, IsRight};
 
@@ -21,24 +21,6 @@ pub struct Performing {
 pub fn walks_go_on()
     ensures { WalksGoOn }
 {}
-
-/// The walk of a path, as far as the view has the blocks for it. Where it halts is dropped here and found again
-/// when the path is asked for in its turn, so the second path of link(2) does not overtake the first.
-fn farther<F: FileSys, V: View>(
-    alloc: Global,
-    fs: &F,
-    view: &V,
-    seat: &Seat,
-    path: &Path,
-    walk: PathWalk,
-) -> PathWalk
-    requires kept { IsKept (V.shown view.now) seat.now path.now walk }
-    ensures { IsKept (V.shown view.now) seat.now path.now result }
-{
-    let mut further = walk;
-    let _halted = follow(alloc, fs, view, seat, path, &mut further);
-    further
-}
 
 /// The first path of a call.
 fn first_path(call: &Call) -> Option<&Path>
@@ -84,7 +66,7 @@ fn first_on<F: FileSys, V: View>(
     ensures { KeepsFirst (V.shown view.now) seat.now call.now result }
 {
     match first_path(call) {
-        Some(path) => farther(alloc, fs, view, seat, path, walk),
+        Some(path) => follow(alloc, fs, view, seat, path, walk),
         None => walk,
     }
 }
@@ -102,7 +84,7 @@ fn second_on<F: FileSys, V: View>(
     ensures { KeepsSecond (V.shown view.now) seat.now call.now result }
 {
     match second_path(call) {
-        Some(path) => farther(alloc, fs, view, seat, path, walk),
+        Some(path) => follow(alloc, fs, view, seat, path, walk),
         None => walk,
     }
 }

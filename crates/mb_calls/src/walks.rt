@@ -1,12 +1,12 @@
 ghost use Rattle.std.specs.Prelude.{◌≡◌, ◌≤◌, ◌-◌, IfOk, IfSome, drop, length, take};
-ghost use Rattle.mb_calls.specs.Asks.{FindsFrom, FindsInode, FindsPlace, HaltsFinding, HaltsPlacing, NearFrom, NearWay, PlacesFrom};
+ghost use Rattle.mb_calls.specs.Asks.{FindsFrom, FindsInode, FindsPlace, NearFrom, NearWay, PlacesFrom};
 ghost use Rattle.mb_calls.specs.Following.{BeginsWalk, BeginsWalks, IsCut, IsKept};
 ghost use Rattle.mb_calls.specs.Halts.{Needs};
 ghost use Rattle.mb_calls.specs.Halts.Scope.{lacking};
 
 use crate::halts::Halt;
 use mb_iface::{Answer, Asked, FileSys, Query, View};
-use mb_kinds::{Cred, Errno, Path, Stat};
+use mb_kinds::{Cred, Path, Stat};
 use mb_tree::{Placed, Seat, is_directory};
 use std::alloc::{AllocError, Global};
 
@@ -105,8 +105,8 @@ fn find_at<F: FileSys, V: View>(
     }
 }
 
-/// One component further, to the one that begins at `next`. Halts with `ENOTDIR` where it leads to no
-/// directory, else as the look-up of the component does.
+/// One component further, to the one that begins at `next`. `None` where the component leads to no
+/// directory, or is refused, or where blocks or memory are missing for it.
 fn step<F: FileSys, V: View>(
     alloc: Global,
     fs: &F,
@@ -115,58 +115,53 @@ fn step<F: FileSys, V: View>(
     path: &Path,
     walk: PathWalk,
     next: usize,
-) -> Result<PathWalk, Halt>
+) -> Option<PathWalk>
     requires kept { IsKept (V.shown view.now) seat.now path.now walk }
     requires cut { IsCut path.now walk.from next }
-    ensures kept { IfOk result (λ walk. IsKept (V.shown view.now) seat.now path.now walk) }
-    ensures wants { Needs (lacking (V.shown view.now)) result }
-    ensures finds { HaltsFinding (V.shown view.now) seat.now path.now result }
-    ensures places { HaltsPlacing (V.shown view.now) seat.now path.now result }
-    ensures near { NearWay (V.shown view.now) seat.now path.now result }
+    ensures { IfSome result (λ walk. IsKept (V.shown view.now) seat.now path.now walk) }
 {
-    let head = piece(alloc, path, walk.from, next - 1)?;
+    let Ok(head) = piece(alloc, path, walk.from, next - 1) else {
+        return None;
+    };
     match find_at(alloc, fs, view, walk.dir, seat.cred, head) {
         Ok(stat) => {
             if is_directory(stat.mode) {
-                Ok(PathWalk {
+                Some(PathWalk {
                     dir: stat.ino,
                     from: next,
                 })
             } else {
-                Err(Halt::Refused(Errno::ENOTDIR))
+                None
             }
         }
-        Err(stop) => Err(stop),
+        Err(_) => None,
     }
 }
 
-/// Follows a path to the directory of its last component, as far as the view has the blocks for it. Where it
-/// halts the walk stays at the directory that it has reached.
+/// Follows a path to the directory of its last component, as far as that goes. What stops it is found again
+/// when the rest is asked for in its turn, so the second path of link(2) does not overtake the first.
 pub fn follow<F: FileSys, V: View>(
     alloc: Global,
     fs: &F,
     view: &V,
     seat: &Seat,
     path: &Path,
-    walk: &mut PathWalk,
-) -> Result<(), Halt>
-    requires kept { IsKept (V.shown view.now) seat.now path.now walk.old }
-    ensures kept { IsKept (V.shown view.now) seat.now path.now walk.new }
-    ensures wants { Needs (lacking (V.shown view.now)) result }
-    ensures finds { HaltsFinding (V.shown view.now) seat.now path.now result }
-    ensures places { HaltsPlacing (V.shown view.now) seat.now path.now result }
-    ensures near { NearWay (V.shown view.now) seat.now path.now result }
+    walk: PathWalk,
+) -> PathWalk
+    requires kept { IsKept (V.shown view.now) seat.now path.now walk }
+    ensures { IsKept (V.shown view.now) seat.now path.now result }
 {
+    let mut further = walk;
     for _ in 0..path.as_slice().len() {
-        let Some(next) = cut(path.as_slice(), walk.from) else {
-            return Ok(());
+        let Some(next) = cut(path.as_slice(), further.from) else {
+            return further;
         };
-        match step(alloc, fs, view, seat, path, *walk, next) {
-            Ok(further) => *walk = further,
-            Err(stop) => return Err(stop),
+        match step(alloc, fs, view, seat, path, further, next) {
+            Some(walk) => further = walk,
+            None => return further,
         }
     }
-    Ok(())
+    further
 }
 
 /// The place of a path from a directory.
