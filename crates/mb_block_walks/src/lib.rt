@@ -1,0 +1,12 @@
+//! Worked examples of blocks on small volumes: the free chain, the ways to parts, and calls that are
+//! run to their end by the blocks that they ask for. They are tests alone.
+#![tactic(auto)]
+
+#[cfg(test)]
+mod chain_tests;
+#[cfg(test)]
+mod fill_tests;
+#[cfg(test)]
+mod part_tests;
+#[cfg(test)]
+mod volumes;

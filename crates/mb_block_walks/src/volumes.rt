@@ -1,0 +1,73 @@
+use mb_alloc::{Hung, Taken, free_block, take_block};
+use mb_iface::{Changes, Need, View};
+use std::alloc::Global;
+use std::test::Fail;
+
+/// The blocks that somebody has gathered.
+#[derive(Drop)]
+pub struct Gathered {
+    pub blocks: Changes,
+}
+
+impl View for Gathered {
+    ghost use Rattle.mb_iface.specs.Changed.{changed};
+
+    ghost shown = { λ g. changed g.blocks };
+
+    fn get(&self, block: u32) -> Option<&[u8; 512]> {
+        self.blocks.get(block)
+    }
+}
+
+/// No block.
+pub fn nothing(heap: Global) -> Gathered {
+    Gathered {
+        blocks: Changes::new(heap),
+    }
+}
+
+/// A volume of 4,000 blocks and 16 inodes, of which so many last blocks are free, put back from the
+/// last one down.
+pub fn fresh(heap: Global, free: u32) -> Result<Gathered, Fail> {
+    let mut disk = nothing(heap);
+    for block in 0..4000 {
+        disk.blocks.put(block, &[0; 512])?;
+    }
+    let first = [4, 0, 0, 0, 160, 15, 1, 0];
+    let _ = disk.blocks.patch(1, 0, &first);
+    let mut made = Changes::new(heap);
+    for passed in 0..free.min(3995) {
+        match free_block(&disk, &mut made, 3999 - passed) {
+            Hung::Done => {}
+            _ => return Err("a block is not put back".into()),
+        }
+    }
+    disk.blocks.absorb(made)?;
+    Ok(disk)
+}
+
+/// Gathers the blocks that are asked for, the first of which has to be lacking.
+pub fn gather(disk: &Gathered, view: &mut Gathered, need: Need) -> Result<(), Fail> {
+    if view.get(need.first).is_some() {
+        return Err("a block is asked for that is there".into());
+    }
+    for block in need.first..need.first.saturating_add(need.count).min(4000) {
+        if let Some(bytes) = disk.get(block) {
+            view.blocks.put(block, bytes)?;
+        }
+    }
+    Ok(())
+}
+
+/// Takes a block, by trying anew with the blocks that are asked for; 0 where none is left.
+pub fn take_next(disk: &Gathered, view: &mut Gathered, changes: &mut Changes) -> Result<u32, Fail> {
+    for _ in 0..4 {
+        match take_block(view, changes) {
+            Taken::Block(block) => return Ok(block),
+            Taken::NoneLeft => return Ok(0),
+            Taken::Need(need) => gather(disk, view, need)?,
+            Taken::NoMemory => return Err("no memory".into()),
+        }
+    }
+    Err("a take asks too often".into())
+}
