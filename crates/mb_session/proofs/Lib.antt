@@ -1,1 +1,3 @@
 pub mod Held
+mod Ranges
+mod Lists

@@ -1,10 +1,11 @@
-ghost use Rattle.std.specs.Prelude.{◌≡◌, ◌<◌, ◌≤◌, [], Some, length, map, slice_get, option_map, option_and_then, IfOk, IfSome};
+ghost use Rattle.std.specs.Prelude.{◌≡◌, ◌<◌, ◌≤◌, [], Some, length, map, slice_get, option_map, option_and_then, Decides, IfOk, IfSome};
 ghost use Rattle.mb_tree.specs.Opening.{first_seat};
 ghost use Rattle.mb_tree.specs.Sessions.{HasDescriptorInRange, counts, free_descriptor, free_place, is_shared, with_change};
 ghost use Rattle.mb_session.specs.OpenFiles.{TellsCounts, open_file};
 
 use crate::counting::count_seats;
 use crate::open_files::OpenFile;
+use crate::sameness::{same_at, same_seats};
 use mb_edge::NoMemory;
 use mb_iface::Opens;
 use mb_kinds::{Cred, Creds};
@@ -29,6 +30,7 @@ impl Model for Sessions {
     ghost use Rattle.std.specs.Ordering.{nat_cmp};
     ghost use Rattle.mb_tree.specs.contracts.seats.PlainFile as file;
     ghost use Rattle.mb_tree.specs.declared.seats.Seat.{Seat};
+    ghost use Rattle.mb_session.specs.Ranges.{AreInRange};
 
     ghost Value = { List Seat };
 
@@ -36,7 +38,7 @@ impl Model for Sessions {
 
     ghost view = { λ a. a.seats.items };
 
-    ghost invariant = { λ a. length a.seats.items ≤ 8 };
+    ghost invariant = { λ a. (length a.seats.items ≤ 8) × AreInRange a.seats.items };
 }
 
 impl Sessions {
@@ -134,6 +136,21 @@ impl Sessions {
         seats.reserve(self.seats.len())?;
         fill(&mut seats, self.seats.as_slice());
         Ok(Sessions { seats })
+    }
+
+    /// Whether a caller's own session is the same in both, or missing in both.
+    pub fn agrees(&self, caller: u8, other: &Sessions) -> bool
+        ensures { Decides result (slice_get self.now caller ≡ slice_get other.now caller) }
+    {
+        let at = usize::from(caller);
+        same_at(self.seats.as_slice(), other.seats.as_slice(), at)
+    }
+
+    /// Whether both are the same sessions.
+    pub fn same(&self, other: &Sessions) -> bool
+        ensures { Decides result (self.now ≡ other.now) }
+    {
+        same_seats(self.seats.as_slice(), other.seats.as_slice())
     }
 
     /// Becomes a copy of other sessions of as many callers, in the room of its own; needs no memory.
