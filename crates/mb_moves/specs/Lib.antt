@@ -1,2 +1,6 @@
 pub mod Advancing
+pub mod Laws
 pub mod Looking
+pub mod Midway
+pub mod NeedLaws
+pub mod TreeLaws
