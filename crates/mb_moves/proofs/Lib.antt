@@ -1,0 +1,4 @@
+pub mod Growth
+pub mod InARow
+pub mod Nearness
+pub mod Setting
