@@ -1,6 +1,7 @@
 -- Steps that end at the tree after an operation's effect do the operation.
-use Rattle.std.proofs.Common.{ℕ, ◌≡◌, Bool, List, [], Option, Some, None, Ok, ap, subst, sym}
+use Rattle.std.proofs.Common.{ℕ, ◌≡◌, Bool, List, [], Option, Some, None, Ok, Err, ap, subst, sym}
 use Rattle.mb_kinds.specs.Image.{Image}
+use Rattle.mb_kinds.specs.declared.errors.Errno.{Errno}
 use Rattle.mb_tree.specs.Answers.{Answer, ◌>>=◌}
 use Rattle.mb_tree.specs.Effect.{TreeAndOpens, opens_after, tree_after}
 use Rattle.mb_tree.specs.Fits.{Fits, FitsNew}
@@ -11,7 +12,7 @@ use Rattle.mb_tree.specs.declared.operations.FsOp.{FsOp}
 use Rattle.mb_tree.specs.declared.operations.FsOp.TheVariants.{Create, Empty, MakeDir, RemoveDir, Enlink, Delink, Put, SetMode, SetOwner, SetTimes, Hold, Release}
 use Rattle.mb_tree.specs.declared.trees.Tree.{Tree}
 use Rattle.mb_tree.proofs.EachOperation.{operation_kept}
-use Rattle.mb_iface.specs.Acting.{HasDone, Picks, PicksNumber, with_changes}
+use Rattle.mb_iface.specs.Acting.{HasDone, HasRefused, Picks, PicksNumber, with_changes}
 use Rattle.mb_iface.specs.Changed.{ChangeList, IsWithinView}
 use Rattle.mb_nodes.proofs.Volumes.{volume_of}
 use Rattle.mb_moves.specs.Advancing.{AdvancesTo}
@@ -47,6 +48,17 @@ operation_done shown image tree next looks opens op demanded picked changes volu
   volume = volume_of (with_changes image changes) next step.0 step.1.follows.stored (operation_kept tree opens op picked next volume.sound (fits_picked tree opens op demanded picked fits picks) after);
   kept = subst (λ i. Kept tree i next (with_changes image changes)) (itself image) step.1.follows.kept;
   within = inside;
+}
+  where
+    effect_of : Tree → Answer TreeAndOpens
+    effect_of found = Ok (record { tree = found; opens = opens_after opens op picked })
+
+pub operation_refused : (tree : Tree) (opens : Counts) (op : FsOp) (demanded picked : Option ℕ) (e : Errno) → Picks tree op demanded picked → tree_after tree opens op picked ≡ Err e
+    → HasRefused tree opens op demanded e
+operation_refused tree opens op demanded picked e picks after = record {
+  picked = picked;
+  picks = picks;
+  effect = ap (λ (answer : Answer Tree). answer >>= effect_of) after;
 }
   where
     effect_of : Tree → Answer TreeAndOpens
