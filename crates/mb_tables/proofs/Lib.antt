@@ -1,0 +1,4 @@
+mod OneCount
+mod Following
+mod Seen
+mod Strokes
