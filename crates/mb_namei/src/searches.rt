@@ -123,12 +123,15 @@ fn search_part<V: View>(
             ino,
         },
         Glimpse::Unnamed { empty: place } => {
-            if place < here && 32 * part + place < empty {
-                return PartSought::Unnamed {
-                    empty: 32 * part + place,
-                };
+            if place >= here {
+                return PartSought::Unnamed { empty };
             }
-            PartSought::Unnamed { empty }
+            if 32 * part + place >= empty {
+                return PartSought::Unnamed { empty };
+            }
+            PartSought::Unnamed {
+                empty: 32 * part + place,
+            }
         }
     }
 }
