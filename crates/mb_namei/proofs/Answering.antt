@@ -1,19 +1,18 @@
 -- The answers to the queries on a volume.
-use Rattle.std.proofs.Common.{ℕ, ◌≡◌, inl, inr, ◌<◌, ◌≤◌, List, [], ◌∷◌, length, Option, Some, None, Ok, Err, option_map, unwrap_or, refl, sym, ap, subst, ◌∙◌, arith}
+use Rattle.std.proofs.Common.{ℕ, ◌≡◌, ◌<◌, List, [], ◌∷◌, length, Option, Some, None, Ok, Err, option_map, unwrap_or, refl, sym, ap, subst, ◌∙◌, arith}
 use Rattle.std.specs.Prelude.{count_by, option_and_then}
-use Rattle.std.specs.FinMap as fin
 use Rattle.mb_kinds.specs.Image.{Image}
 use Rattle.mb_kinds.specs.declared.credentials.Cred.{Cred}
 use Rattle.mb_kinds.specs.declared.errors.Errno.{Errno}
 use Rattle.mb_kinds.specs.declared.errors.Errno.TheVariants.{ENOENT}
 use Rattle.mb_kinds.specs.declared.replies.Stat.{Stat}
-use Rattle.mb_word.specs.Fields.{inode_block, inode_place, size_of}
+use Rattle.mb_word.specs.Fields.{inode_block}
 use Rattle.mb_layout.specs.declared.dinodes.Dinode.{Dinode}
 use Rattle.mb_tree.specs.Answers as reference
 use Rattle.mb_tree.specs.Answers.{◌>>=◌}
 use Rattle.mb_tree.specs.Inodes.{slots_of}
-use Rattle.mb_tree.specs.Lookup.{components, start_of, look, stat_in, find_path, find_place, used_in, slots_in, is_used}
-use Rattle.mb_tree.specs.Trees.{IsThere, IsDirectoryAt}
+use Rattle.mb_tree.specs.Lookup.{components, start_of, look, slots_in, is_used}
+use Rattle.mb_tree.specs.Trees.{IsDirectoryAt}
 use Rattle.mb_tree.specs.Views.{over, IsPart}
 use Rattle.mb_tree.specs.Volume.{IsVolume}
 use Rattle.mb_tree.specs.declared.lookups.Placed.{Placed}
@@ -29,7 +28,6 @@ use Rattle.mb_iface.specs.Near.IsNear.{super_block, inode_list, free, held}
 use Rattle.mb_iface.specs.declared.queries.Query.{Query}
 use Rattle.mb_iface.specs.declared.queries.Query.TheVariants as query
 use Rattle.mb_iface.specs.declared.replies.Need.{Need}
-use Rattle.mb_iface.specs.declared.replies.Answer.{Answer}
 use Rattle.mb_iface.specs.declared.replies.Answer.TheVariants as answer
 use Rattle.mb_iface.specs.declared.replies.Asked.{Asked}
 use Rattle.mb_iface.specs.declared.replies.Asked.TheVariants as asked
@@ -37,7 +35,7 @@ use Rattle.mb_namei.specs.Directories.{IsBlockOf, IsDirectoryOn}
 use Rattle.mb_namei.specs.Inodes.{inode_in, stat_by}
 use Rattle.mb_namei.specs.Lookups.{OnVolume}
 use Rattle.mb_namei.specs.Searching.{OnDirectory}
-use Rattle.mb_namei.proofs.Looking.{stat_found, near_asked, in_directory, near_searched, directory_there}
+use Rattle.mb_namei.proofs.Looking.{stat_found}
 use Rattle.mb_namei.proofs.Stepping as stepping
 use Rattle.mb_namei.proofs.Stepping.{IsWalked, as_it_is}
 use Rattle.mb_namei.proofs.TreeDirectories.{near_inode, near_block, holds_addresses, directory_on}
@@ -198,3 +196,6 @@ module _ (shown : ℕ → Option (List ℕ)) (changes : ChangeList) (none : chan
     used_needs need holds image tree part volume is =
         near_block image tree volume (λ n. n ≡ ino) ino need.first refl (record { node = is.node; has = is.has }) (holds_addresses image tree volume ino is)
         (slots_say (λ blocks slots. IsBlockOf blocks ino need.first) holds image tree part volume is)
+
+pub some_more : (path name : List ℕ) (more : List (List ℕ)) → components path ≡ name ∷ more → 0 < length (components path)
+some_more path name more e = (let n = ap length e in omega (arith, n))

@@ -1,16 +1,14 @@
 -- A part of a file read from the block to which its address leads.
-use Rattle.std.proofs.Common.{ℕ, zero, suc, ◌≡◌, inl, inr, ◌<◌, ◌≤◌, Bool, true, nat_eq, List, Option, Some, slice_index, refl, sym, ap, subst, ◌∙◌, arith}
+use Rattle.std.proofs.Common.{ℕ, zero, suc, ◌≡◌, inl, inr, ◌<◌, ◌≤◌, true, nat_eq, List, Option, Some, slice_index, sym, ap, ◌∙◌, arith}
 use Rattle.std.proofs.lemmas.Bool.{cases_eq}
 use Rattle.std.proofs.lemmas.Bool.Decides.{nat_tests}
-use Rattle.mb_word.specs.Fields.{inode_block}
 use Rattle.mb_tree.specs.Blocks.{pointers, part_address, part_in}
 use Rattle.mb_tree.specs.Places.{at}
-use Rattle.mb_tree.specs.Places.Place.{Under}
 use Rattle.mb_tree.specs.Views.{over, IsPart}
 use Rattle.mb_iface.specs.Changed.{ChangeList, changed}
 use Rattle.mb_blocks.proofs.PartBytes.{part_found}
 use Rattle.mb_blocks.proofs.Pointing.{zero_entry}
-use Rattle.mb_bmap.specs.Locating.{address_on, IsBounded, IsFirstHole, IsOnWayTo, OnWay}
+use Rattle.mb_bmap.specs.Locating.{address_on, IsFirstHole, IsOnWayTo, OnWay}
 use Rattle.mb_bmap.specs.Ways.{route_of, way}
 use Rattle.mb_bmap.specs.declared.routes.Route.{Route}
 use Rattle.mb_bmap.proofs.Walking.{route_is, place_way}

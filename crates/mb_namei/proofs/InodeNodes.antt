@@ -1,16 +1,14 @@
 -- An inode of a volume is the node of its tree.
-use Rattle.std.proofs.Common.{ℕ, ◌≡◌, inl, inr, ◌+◌, ◌*◌, ◌<◌, ◌≤◌, Bool, true, false, min, List, length, Option, Some, None, Ok, refl, sym, ap, subst, ◌∙◌, arith}
+use Rattle.std.proofs.Common.{ℕ, ◌≡◌, ◌*◌, true, false, min, length, Option, Some, None, Ok, refl, sym, ap, subst, ◌∙◌, arith}
 use Rattle.std.specs.FinMap as fin
 use Rattle.mb_kinds.specs.Image.{Image}
 use Rattle.mb_kinds.specs.declared.replies.Stat.{Stat}
 use Rattle.mb_kinds.specs.declared.errors.Errno.TheVariants.{ENOENT}
-use Rattle.mb_word.specs.Fields.{inode_block, inode_place, size_of, mode_of}
-use Rattle.mb_layout.specs.declared.dinodes.Dinode.{Dinode}
+use Rattle.mb_word.specs.Fields.{inode_block, inode_place, size_of}
 use Rattle.mb_tree.specs.Answers.{Answer, some, ◌>>=◌}
 use Rattle.std.proofs.lemmas.Option.{same_Some}
 use Rattle.mb_tree.specs.Inodes.{is_directory, body_size, stat_of}
-use Rattle.mb_tree.specs.Lookup.{stat_in}
-use Rattle.mb_tree.specs.Trees.{IsThere, IsDirectoryAt, HasKind}
+use Rattle.mb_tree.specs.Trees.{IsDirectoryAt, HasKind}
 use Rattle.mb_tree.specs.Volume.{IsVolume, HasBody, HasNode, HasInode}
 use Rattle.mb_tree.specs.declared.nodes.Body.{Body}
 use Rattle.mb_tree.specs.declared.nodes.Body.TheVariants.{Regular, Directory, Special}

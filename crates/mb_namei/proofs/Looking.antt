@@ -1,7 +1,5 @@
 -- One component looked up on a volume.
-use Rattle.std.proofs.Common.{ℕ, ◌≡◌, inl, inr, ◌<◌, Bool, true, false, List, [], Option, Some, None, Ok, Err, refl, sym, ap, subst, ◌∙◌, arith}
-use Rattle.std.specs.Prelude.{position, slice_get}
-use Rattle.std.specs.FinMap as fin
+use Rattle.std.proofs.Common.{ℕ, ◌≡◌, true, false, List, Option, Some, None, Ok, Err, refl, sym, ap, subst, ◌∙◌, arith}
 use Rattle.std.proofs.lemmas.Option.{same_Some}
 use Rattle.mb_kinds.specs.Image.{Image}
 use Rattle.mb_kinds.specs.declared.credentials.Cred.{Cred}
@@ -9,9 +7,9 @@ use Rattle.mb_kinds.specs.declared.replies.Stat.{Stat}
 use Rattle.mb_kinds.specs.declared.errors.Errno.TheVariants.{ENOENT, ENOTDIR, EACCES}
 use Rattle.mb_word.specs.Fields.{inode_block}
 use Rattle.mb_layout.specs.declared.dinodes.Dinode.{Dinode}
-use Rattle.mb_tree.specs.Answers.{Answer, ◌>>=◌, ◌>>◌, need, some}
+use Rattle.mb_tree.specs.Answers.{◌>>=◌, ◌>>◌, need, some}
 use Rattle.mb_tree.specs.Inodes.{is_directory, may, slots_of, stat_of}
-use Rattle.mb_tree.specs.Lookup.{look, is_named, number_of, stat_in}
+use Rattle.mb_tree.specs.Lookup.{look, number_of, stat_in}
 use Rattle.mb_tree.specs.Trees.{IsThere, IsDirectoryAt}
 use Rattle.mb_tree.specs.Views.{over, IsPart}
 use Rattle.mb_tree.specs.Volume.{IsVolume}
@@ -21,7 +19,7 @@ use Rattle.mb_tree.specs.declared.trees.Tree.{Tree}
 use Rattle.mb_tree.proofs.InodeKinds.{is_leaf_at}
 use Rattle.mb_iface.specs.Changed.{ChangeList, changed}
 use Rattle.mb_iface.specs.Near.{IsNear}
-use Rattle.mb_namei.specs.Directories.{IsBlockOf, IsDirectoryOn}
+use Rattle.mb_namei.specs.Directories.{IsBlockOf}
 use Rattle.mb_namei.specs.InodeLaws.{IsInodeOf, ReadsNode}
 use Rattle.mb_namei.specs.Inodes.{inode_in, stat_by}
 use Rattle.mb_namei.specs.Lookups.{OnVolume}
@@ -43,9 +41,6 @@ module _ (image : Image) (tree : Tree) (volume : IsVolume image tree) (ino : ℕ
   stat_found = ap (λ (o : Option Node). some o ENOENT >>= (λ (n : Node). Ok (stat_of ino n))) there.has ∙ ap Ok (sym stat_there)
 
   module _ (cred : Cred) (name : List ℕ) where
-
-
-
     looked : (slots : Option (List PlainSlot)) → slots_of there.node.body ≡ slots → look tree.nodes cred ino name ≡ (some slots ENOTDIR >>= (λ found. need (may cred (stat_of ino there.node) 1) EACCES >> Ok (number_of found name)))
     looked slots is =
         ap (λ (o : Option Node). some o ENOTDIR >>= (λ (n : Node). some (slots_of n.body) ENOTDIR >>= (λ found. need (may cred (stat_of ino n) 1) EACCES >> Ok (number_of found name)))) there.has

@@ -1,5 +1,5 @@
 -- The pieces between the slashes of a path, one after another.
-use Rattle.std.proofs.Common.{ℕ, zero, suc, ◌≡◌, ◌≢◌, ◌⊎◌, inl, inr, ◌+◌, ◌-◌, ◌<◌, ◌≤◌, Bool, true, false, cond, not, List, [], ◌∷◌, length, take, drop, map, filter, refl, sym, ap, subst, ◌∙◌, arith, add-one, drop-cons}
+use Rattle.std.proofs.Common.{ℕ, zero, suc, ◌≡◌, ◌≢◌, inl, inr, ◌+◌, ◌<◌, ◌≤◌, true, false, cond, not, List, [], ◌∷◌, length, take, drop, map, filter, refl, sym, ap, ◌∙◌, arith, add-one, drop-cons}
 use Rattle.std.specs.Prelude.{slice_index, ◌==◌}
 use Rattle.std.specs.List.{slice_split, onto_first}
 use Rattle.std.proofs.lemmas.Bool.Decides.{nat_tests}
@@ -54,7 +54,7 @@ later : (x : ℕ) (path : List ℕ) (n : ℕ) → IsPieceLen (x ∷ path) (suc n
 later x path n is = record {
   within = (let w = is.within in omega (arith, w));
   no_slash = λ at low. is.no_slash (suc at) (omega (arith, low));
-  ended = elim is.ended [ | inl all ↦ inl (omega (arith, all)) | inr at ↦ inr at ];
+  ended = elim is.ended [ inl all ↦ inl (omega (arith, all)) | inr at ↦ inr at ];
 }
 
 split_at : (path : List ℕ) (n : ℕ) → IsPieceLen path n → IsSplitAt path n
@@ -83,7 +83,7 @@ first_cut piece n is some =
     ap named s.whole ∙ named_some (take n piece) s.others some ∙ ap (λ xs. padded (take n piece) ∷ xs) (sym (ap named s.behind))
 
 piece_some : (piece : List ℕ) (n : ℕ) → IsPieceLen piece n → 0 < length piece → (0 < length piece → slice_index piece 0 ≢ slash) → 0 < n
-piece_some piece zero is some started = elim is.ended [ | inl all ↦ absurd (omega (arith, all, some)) | inr at ↦ absurd (started some at) ]
+piece_some piece zero is some started = elim is.ended [ inl all ↦ absurd (omega (arith, all, some)) | inr at ↦ absurd (started some at) ]
 piece_some piece (suc n) is some started = omega arith
 
 -- the first component of a path, and what is behind it
@@ -96,8 +96,7 @@ first_found path piece n name front rest starts is some is_front is_name is_rest
     let d = length-drop n piece in
     let r = ap length is_rest in
     let s = starts.shorter in
-    let cut = first_cut piece n is (omega (arith, up, w, t)) in
-    (
+    let cut = first_cut piece n is (omega (arith, up, w, t)) in (
       sym starts.same ∙ cut ∙ ap (λ x. x ∷ components (drop n piece)) (ap padded (sym is_front) ∙ sym is_name) ∙ ap (λ xs. name ∷ components xs) (sym is_rest),
       omega (arith, up, w, d, r, s),
     )

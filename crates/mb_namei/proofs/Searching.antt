@@ -1,16 +1,16 @@
 -- A directory gone through part by part.
-use Rattle.std.proofs.Common.{ℕ, ◌≡◌, inl, inr, ◌⊎◌, ◌+◌, ◌-◌, ◌*◌, ◌/◌, ◌<◌, ◌≤◌, min, List, length, map, Option, Some, None, refl, sym, ap, subst, ◌∙◌, arith}
+use Rattle.std.proofs.Common.{ℕ, ◌≡◌, inl, inr, ◌⊎◌, ◌+◌, ◌-◌, ◌*◌, ◌/◌, ◌<◌, ◌≤◌, min, List, length, map, Option, Some, None, sym, ap, subst, ◌∙◌, arith}
 use Rattle.std.specs.Prelude.{count_by, position}
 use Rattle.std.specs.List.{range_with_len}
 use Rattle.std.proofs.lemmas.Bool.{cases_lt}
 use Rattle.mb_tree.specs.Blocks.{part_address, part_in, slot_of, slot_in}
 use Rattle.mb_tree.specs.Lookup.{is_used, is_named, number_of}
-use Rattle.mb_tree.specs.Views.{over, IsPart}
+use Rattle.mb_tree.specs.Views.{over}
 use Rattle.mb_tree.specs.declared.nodes.PlainSlot.{PlainSlot}
 use Rattle.mb_iface.specs.Changed.{ChangeList, changed}
 use Rattle.mb_bmap.specs.Locating.{OnWay}
 use Rattle.mb_bmap.specs.Ways.{route_of}
-use Rattle.mb_namei.specs.Directories.{IsBlockOf, IsDirectoryOn}
+use Rattle.mb_namei.specs.Directories.{IsDirectoryOn}
 use Rattle.mb_namei.specs.PartSearches.{slots_before, IsPassedBy}
 use Rattle.mb_namei.specs.Searching.{OnDirectory, is_empty}
 use Rattle.mb_namei.specs.Slots.{AreUnnamed, IsFirstEmpty, IsFirstNamed, used_below}
@@ -98,7 +98,7 @@ module _ (shown : ℕ → Option (List ℕ)) (changes : ChangeList) (dir count :
     all_slots blocks slots is =
         let s = is.sized in
         let n : length slots ≡ count = omega (arith, s, is_count) in
-        let few : size ≤ 512 * 2113674 = elim (cases_lt (512 * 2113674) size) [ | inl far ↦ absurd (let h = (is.held 2113674 far).0 in omega (arith, h)) | inr near ↦ near ] in
+        let few : size ≤ 512 * 2113674 = elim (cases_lt (512 * 2113674) size) [ inl far ↦ absurd (let h = (is.held 2113674 far).0 in omega (arith, h)) | inr near ↦ near ] in
         (omega (arith, is_parts, few, is_count), is.each ∙ ap (λ m. map (slot_in blocks dir) (range_with_len 0 m)) n)
 
     module _ (empty : ℕ) (name : List ℕ) (has : HasPassed shown changes dir parts count empty name) where
@@ -106,8 +106,7 @@ module _ (shown : ℕ → Option (List ℕ)) (changes : ChangeList) (dir count :
       ends_empty some blocks slots is_part is =
           let b = over blocks (changed changes) in
           let all = all_slots b slots is in
-          let p = has.passed size blocks slots is_part is in
-          (
+          let p = has.passed size blocks slots is_part is in (
             named_none (slot_in b dir) slots count all.1 name (subst (AreUnnamed (slot_in b dir) name) all.0 p.unnamed),
             empty_at (slot_in b dir) slots count all.1 name empty (subst (λ n. IsFirstEmpty (slot_in b dir) n count empty) all.0 p.first) some,
           )
@@ -116,8 +115,7 @@ module _ (shown : ℕ → Option (List ℕ)) (changes : ChangeList) (dir count :
       ends_full none blocks slots is_part is =
           let b = over blocks (changed changes) in
           let all = all_slots b slots is in
-          let p = has.passed size blocks slots is_part is in
-          (
+          let p = has.passed size blocks slots is_part is in (
             named_none (slot_in b dir) slots count all.1 name (subst (AreUnnamed (slot_in b dir) name) all.0 p.unnamed),
             empty_none (slot_in b dir) slots count all.1 name empty (subst (λ n. IsFirstEmpty (slot_in b dir) n count empty) all.0 p.first) none,
           )

@@ -2,7 +2,7 @@
 use Rattle.std.proofs.Common.{ℕ, zero, suc, ◌≡◌, inl, inr, ◌⊎◌, ◌+◌, ◌-◌, ◌*◌, ◌/◌, ◌%◌, ◌<◌, ◌≤◌, Bool, true, false, not, cond, nat_lt, min, List, [], ◌∷◌, length, map, get_or, Option, Some, None, option_map, unwrap_or, refl, sym, ap, subst, ◌∙◌, arith, add-one}
 use Rattle.std.specs.Prelude.{position, find, slice_get, count_by}
 use Rattle.std.specs.List.{range_with_len, position_or_len}
-use Rattle.std.proofs.lemmas.Bool.{cases_lt, cases_eq}
+use Rattle.std.proofs.lemmas.Bool.{cases_lt}
 use Rattle.std.proofs.lemmas.Bool.Decides.{nat_tests}
 use Rattle.std.proofs.lemmas.List.Folds.{find_at}
 use Rattle.std.proofs.lemmas.List.FromFn.{length-map-range_with_len, get_or-map-range_with_len, map-range_with_len_more}
@@ -37,8 +37,7 @@ module _ {X : Type 0} (p : X → Bool) (f : ℕ → X) (n : ℕ) where
   pub row_first : (at : ℕ) → at < n → p (f at) ≡ true → ((k : ℕ) → k < at → p (f k) ≡ false) → (position p row ≡ Some at) × (find p row ≡ Some (f at))
   row_first at low here before =
       let e = place_is at (omega (arith, low)) before (λ less. here) in
-      let t : nat_lt at (length row) ≡ true = (let l : at < length row = omega (arith, low, long) in grind (arith, nat_tests)) in
-      (
+      let t : nat_lt at (length row) ≡ true = (let l : at < length row = omega (arith, low, long) in grind (arith, nat_tests)) in (
         ap (λ i. cond (nat_lt i (length row)) (Some i) None) e ∙ ap (λ b. cond b (Some at) None) t,
         find_at p row ∙ ap (slice_get row) e ∙ slice_get-get_or row at (f 0) (omega (arith, low, long)) ∙ ap Some (each at low),
       )
@@ -46,8 +45,7 @@ module _ {X : Type 0} (p : X → Bool) (f : ℕ → X) (n : ℕ) where
   pub row_none : ((k : ℕ) → k < n → p (f k) ≡ false) → (position p row ≡ None) × (find p row ≡ None)
   row_none fails =
       let e = place_is n (omega arith) fails (λ less. absurd (omega (arith, less))) in
-      let t : nat_lt n (length row) ≡ false = (let l : length row ≤ n = omega (arith, long) in grind (arith, nat_tests)) in
-      (
+      let t : nat_lt n (length row) ≡ false = (let l : length row ≤ n = omega (arith, long) in grind (arith, nat_tests)) in (
         ap (λ i. cond (nat_lt i (length row)) (Some i) None) e ∙ ap (λ b. cond b (Some n) None) t,
         find_at p row ∙ ap (slice_get row) e ∙ past row n (omega (arith, long)),
       )
@@ -149,7 +147,7 @@ module _ (blocks : ℕ → List ℕ) (dir part count empty here : ℕ) (name byt
           within = passed.first.within;
           here = passed.first.here;
           before = λ k less before. used_to here empty (omega arith) (omega arith)
-              (λ j lower sooner. first.before j lower (elim either [ | inl all ↦ omega (arith, all, lower) | inr was ↦ omega (arith, was, sooner) ])) k (omega (arith, less, ends)) before;
+              (λ j lower sooner. first.before j lower (elim either [ inl all ↦ omega (arith, all, lower) | inr was ↦ omega (arith, was, sooner) ])) k (omega (arith, less, ends)) before;
         };
       }
 

@@ -1,11 +1,11 @@
 -- The slots of one block, one further.
-use Rattle.std.proofs.Common.{ℕ, ◌≡◌, ◌≢◌, inl, inr, ◌⊎◌, ◌+◌, ◌<◌, ◌≤◌, Bool, true, false, not, ◌&&◌, min, List, refl, sym, ap, ◌∙◌, arith, below_more}
-use Rattle.std.specs.Prelude.{bytes_eq, ◌==◌}
+use Rattle.std.proofs.Common.{ℕ, ◌≡◌, ◌≢◌, inl, inr, ◌+◌, ◌<◌, Bool, true, false, ◌&&◌, min, List, refl, sym, ap, ◌∙◌, arith, below_more}
+use Rattle.std.specs.Prelude.{bytes_eq}
 use Rattle.std.proofs.lemmas.Bool.{cases_eq}
 use Rattle.std.proofs.lemmas.Bool.Decides.{nat_tests}
 use Rattle.mb_word.specs.Fields.{slot_ino, slot_name}
 use Rattle.mb_tree.specs.Blocks.{slot_of}
-use Rattle.mb_tree.specs.Lookup.{is_used, is_named}
+use Rattle.mb_tree.specs.Lookup.{is_used}
 use Rattle.mb_namei.specs.Slots.{AreUnnamed, IsFirstEmpty, IsFirstNamed}
 
 module _ (bytes name : List ℕ) (place ino : ℕ) (is : ino ≡ slot_ino bytes place) where

@@ -1,6 +1,6 @@
 -- A path followed component after component.
-use Rattle.std.proofs.Common.{ℕ, suc, ◌≡◌, inl, inr, ◌+◌, ◌-◌, ◌<◌, ◌≤◌, Bool, true, false, cond, List, [], ◌∷◌, ◌++◌, length, take, get_or, Option, Some, None, Ok, Err, refl, sym, ap, subst, ◌∙◌, arith, append_assoc}
-use Rattle.std.specs.Prelude.{◌==◌, ◌&&◌, bytes_eq, find, position, slice_get, slice_index, option_map}
+use Rattle.std.proofs.Common.{ℕ, suc, ◌≡◌, ◌+◌, ◌-◌, ◌<◌, Bool, true, false, cond, List, [], ◌∷◌, ◌++◌, length, take, get_or, Option, Some, None, Ok, Err, refl, sym, ap, subst, ◌∙◌, arith, append_assoc}
+use Rattle.std.specs.Prelude.{◌==◌, ◌&&◌, bytes_eq, find, slice_index, option_map}
 use Rattle.std.specs.FinMap as fin
 use Rattle.std.proofs.lemmas.List.{append-nil, length-append}
 use Rattle.mb_kinds.specs.Image.{Image}
@@ -8,7 +8,7 @@ use Rattle.mb_kinds.specs.declared.credentials.Cred.{Cred}
 use Rattle.mb_kinds.specs.declared.errors.Errno.{Errno}
 use Rattle.mb_kinds.specs.declared.errors.Errno.TheVariants.{ENOENT, ENOTDIR, EACCES}
 use Rattle.std.proofs.lemmas.Option.{same_Some}
-use Rattle.mb_tree.specs.Answers.{Answer, ◌>>=◌, ◌>>◌, need, some}
+use Rattle.mb_tree.specs.Answers.{Answer, ◌>>=◌, need, some}
 use Rattle.mb_tree.specs.Inodes.{may, slots_of, stat_of}
 use Rattle.mb_tree.specs.declared.nodes.PlainSlot.{PlainSlot}
 use Rattle.mb_tree.specs.declared.nodes.Body.{Body}
@@ -18,15 +18,14 @@ use Rattle.mb_tree.proofs.Outcomes.{some_ok}
 use Rattle.mb_tree.proofs.SlotLists.{found}
 use Rattle.mb_tree.specs.Lookup.{components, start_of, slash, look, enter, walk, is_named, is_used, number_of, stat_in, find_path, place_under, find_place}
 use Rattle.mb_tree.specs.Maps.{Numbered}
-use Rattle.mb_tree.specs.Trees.{IsThere, IsDirectoryAt, IsSound, IsUsedAt}
+use Rattle.mb_tree.specs.Trees.{IsThere, IsDirectoryAt, IsSound}
 use Rattle.mb_tree.specs.Views.{over, IsPart}
 use Rattle.mb_tree.specs.Volume.{IsVolume}
-use Rattle.mb_tree.specs.declared.lookups.Placed.{Placed}
 use Rattle.mb_tree.specs.declared.lookups.Placed.TheVariants.{At, Itself}
 use Rattle.mb_tree.specs.declared.nodes.Node.{Node}
 use Rattle.mb_tree.specs.declared.trees.Tree.{Tree}
 use Rattle.mb_iface.specs.Changed.{ChangeList, changed}
-use Rattle.mb_iface.specs.Near.{IsNear, IsOnWay, IsOnWayBefore}
+use Rattle.mb_iface.specs.Near.{IsOnWay, IsOnWayBefore}
 use Rattle.mb_iface.proofs.ChangedBlocks.{over_none}
 use Rattle.mb_namei.specs.Lookups.{OnVolume}
 
@@ -59,8 +58,8 @@ found_there tree sound cred dir ino name h =
     let slot = mapped (find (is_named name) two.0) ino is in
     let at = found (is_named name) two.0 slot.0 slot.1 in
     let body = slots_directory one.0.body two.0 (some_ok (slots_of one.0.body) ENOTDIR two.0 two.1) in
-    let used : is_used slot.0 ≡ true = first_and (is_used slot.0) (bytes_eq slot.0.name name) at.2.2 in
-    let leads = (sound.slots dir one.0 two.0 (some_ok (fin.get tree.nodes dir) ENOTDIR one.0 one.1) body).leads at.0 slot.0 (record { has = at.2.1; used = used }) in
+    let used : is_used slot.0 ≡ true = first_and (is_used slot.0) (bytes_eq slot.0.name name) at.3 in
+    let leads = (sound.slots dir one.0 two.0 (some_ok (fin.get tree.nodes dir) ENOTDIR one.0 one.1) body).leads at.0 slot.0 (record { has = at.2; used = used }) in
     subst (IsThere tree.nodes) slot.2 leads.1
   where
     mapped : (o : Option PlainSlot) (n : ℕ) → option_map (λ slot. slot.ino) o ≡ Some n → (slot : PlainSlot) × (o ≡ Some slot) × (slot.ino ≡ n)

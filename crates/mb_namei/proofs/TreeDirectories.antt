@@ -1,17 +1,14 @@
 -- A directory of a volume's tree, as it stands on the volume's blocks.
-use Rattle.std.proofs.Common.{ℕ, ◌≡◌, inl, inr, ◌+◌, ◌*◌, ◌/◌, ◌<◌, ◌≤◌, Bool, true, nat_eq, List, [], length, Option, Some, refl, sym, ap, subst, ◌∙◌, arith}
-use Rattle.std.specs.FinMap as fin
+use Rattle.std.proofs.Common.{ℕ, ◌≡◌, inl, inr, ◌*◌, ◌<◌, ◌≤◌, true, nat_eq, [], length, sym, ap, subst, ◌∙◌, arith}
 use Rattle.std.proofs.lemmas.Bool.{cases_lt}
 use Rattle.mb_kinds.specs.Image.{Image}
-use Rattle.mb_word.specs.Fields.{inode_block, inode_place, size_of, isize_of}
-use Rattle.mb_tree.specs.Blocks.{pointers, part_address}
-use Rattle.mb_tree.specs.Cost.{most_parts, first_parts, parts_for}
+use Rattle.mb_word.specs.Fields.{inode_block, inode_place, size_of}
+use Rattle.mb_tree.specs.Blocks.{pointers}
+use Rattle.mb_tree.specs.Cost.{parts_for}
 use Rattle.mb_tree.specs.Places.{Place, at, IsPlace}
 use Rattle.mb_tree.specs.Places.Place.{Top, Under}
 use Rattle.mb_tree.specs.Trees.{IsThere, IsDirectoryAt}
 use Rattle.mb_tree.specs.Volume.{IsVolume, HasDirectory, HasNode, HasBody, has_addresses, node_has_addresses, body_has_addresses}
-use Rattle.mb_tree.specs.declared.nodes.PlainSlot.{PlainSlot}
-use Rattle.mb_tree.specs.declared.nodes.Body.TheVariants.{Directory}
 use Rattle.mb_tree.specs.declared.trees.Tree.{Tree}
 use Rattle.std.proofs.lemmas.Bool.Decides.{nat_tests}
 use Rattle.mb_iface.specs.Near.{top_of, IsNear}
@@ -21,7 +18,6 @@ use Rattle.mb_blocks.proofs.Owning.{mine_place}
 use Rattle.mb_nodes.proofs.NodeParts.{slots_few, below_given, node_stored}
 use Rattle.mb_nodes.proofs.OneInode.{laid_stored, in_list}
 use Rattle.mb_nodes.proofs.Volumes.{stored_of}
-use Rattle.mb_bmap.specs.Locating.{address_on, IsBounded}
 use Rattle.mb_bmap.specs.Ways.{route_of, way}
 use Rattle.mb_bmap.proofs.Walking.{route_is, place_way}
 use Rattle.mb_namei.specs.Directories.{IsBlockOf, IsDirectoryOn}

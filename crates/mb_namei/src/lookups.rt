@@ -21,13 +21,7 @@ pub enum LookedUp {
 
 /// Looks one component up in an inode, which must be a directory that the caller may search (V7
 /// namei).
-pub fn look_up<V: View>(
-    view: &V,
-    changes: &Changes,
-    cred: Cred,
-    dir: u16,
-    name: &Name,
-) -> LookedUp
+pub fn look_up<V: View>(view: &V, changes: &Changes, cred: Cred, dir: u16, name: &Name) -> LookedUp
     ensures { LooksUp (V.shown view.now) changes.now cred dir name.now result }
 {
     let inode = match info(view, changes, dir) {

@@ -137,13 +137,7 @@ fn search_part<V: View>(
 }
 
 /// Counts the used slots of one part.
-fn count_part<V: View>(
-    view: &V,
-    changes: &Changes,
-    dir: u16,
-    part: u32,
-    count: u32,
-) -> PartCounted
+fn count_part<V: View>(view: &V, changes: &Changes, dir: u16, part: u32, count: u32) -> PartCounted
     requires part { 32 * part < count }
     requires few { part < 2113674 }
     requires slots { count ≤ 268435455 }

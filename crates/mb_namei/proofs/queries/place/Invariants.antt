@@ -1,5 +1,4 @@
-use Rattle.std.proofs.Common.{length, ◌∷◌}
-use Rattle.mb_tree.specs.Lookup.{components}
+use Rattle.std.proofs.Common.{length}
 use Rattle.mb_namei.proofs.Answering.{HasPlaced}
 use Rattle.mb_namei.proofs.queries.place.Given as goal
 

@@ -5,8 +5,7 @@ use Rattle.mb_namei.proofs.searches.count_part.Goals as goal
 
 pub returns-in-Bytes : goal.returns-in-Bytes
 returns-in-Bytes g c =
-    (let e = c.count_slots.ensures in
-    (
+    (let e = c.count_slots.ensures in (
       omega (arith, e.1, c.min.ensures),
       count_one (g.V.View.shown c.args.view.now) c.args.changes.now c.args.dir c.args.part c.args.count c.min.result c.in-Bytes.bytes.now c.requires.few c.requires.part c.min.ensures c.in-Bytes.ensures c.count_slots.result e.0,
     ))

@@ -1,5 +1,5 @@
 use Rattle.std.proofs.Common.{◌≡◌, ◌/◌, subst, refl, arith}
-use Rattle.mb_namei.proofs.Searching.{HasCounted, none_counted, count_next, ends_counted}
+use Rattle.mb_namei.proofs.Searching.{HasCounted, none_counted, ends_counted}
 use Rattle.mb_namei.proofs.searches.count_used.Goals as goal
 
 pub loop-part-init : goal.loop-part-init

@@ -14,8 +14,7 @@ returns-in-Need g c =
 pub returns-in-Named : goal.returns-in-Named
 returns-in-Named g c =
     (let e = c.in-Named.ensures in
-    let w = e.within in
-    (
+    let w = e.within in (
       omega (arith, w, c.min-here.ensures, c.requires.part),
       seek_named (g.V.View.shown c.args.view.now) c.args.changes.now c.args.dir c.args.part c.args.count c.min-here.result c.in-Bytes.bytes.now c.requires.few c.requires.part c.min-here.ensures c.in-Bytes.ensures c.args.empty c.in-Named.place c.in-Named.ino c.args.name.now e,
     ))

@@ -1,4 +1,3 @@
-use Rattle.std.proofs.Common.{◌≤◌}
 use Rattle.mb_tree.specs.Blocks.{slot_of}
 use Rattle.mb_namei.specs.Slots.{AreUnnamed, IsFirstEmpty}
 use Rattle.mb_namei.proofs.slots.scan_slots.Given as goal
