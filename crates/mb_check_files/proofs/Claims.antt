@@ -59,7 +59,7 @@ new blocks list flags bounds holder rule address are stands more less inside fla
     let range = within blocks bounds address are more less in
     rw (walked, range, met) refl
 
-count_more : (flags : List Bool) (at : ℕ) → at < length flags → slice_index_or flags at false ≡ false → count_by (λ flag. flag) (slice_set flags at true) ≡ suc (count_by (λ flag. flag) flags)
+pub count_more : (flags : List Bool) (at : ℕ) → at < length flags → slice_index_or flags at false ≡ false → count_by (λ flag. flag) (slice_set flags at true) ≡ suc (count_by (λ flag. flag) flags)
 count_more flags at inside flag =
     let e : count_by (λ b. b) (slice_set flags at true) + cond {A = ℕ} (slice_index_or flags at false) 1 0 ≡ count_by (λ b. b) flags + 1 = sum_by-set (λ (b : Bool). cond {A = ℕ} b 1 0) flags at true false inside in
     let z : cond {A = ℕ} (slice_index_or flags at false) 1 0 ≡ 0 = ap (λ (b : Bool). cond {A = ℕ} b 1 0) flag in

@@ -1,5 +1,6 @@
 -- The parts of a file that stand one after another from part 0 on, as a list of their addresses.
-use Rattle.std.specs.Prelude.{List, ℕ, ◌+◌, ◌<◌, ◌≤◌, ◌≡◌, length, slice_index}
+use Rattle.std.specs.Prelude.{List, ℕ, Bool, ◌+◌, ◌<◌, ◌≤◌, ◌≡◌, length, slice_index}
+use Rattle.mb_check_files.specs.Passes.{count_met}
 use Rattle.mb_check_files.specs.declared.part_lists.Run.{Run}
 use Rattle.mb_check_files.specs.declared.part_lists.Run.TheVariants.{Whole, Ended, Torn}
 use Rattle.mb_check_files.specs.declared.part_lists.PartList.{PartList}
@@ -36,6 +37,10 @@ pub record ListsParts (address : ℕ → ℕ) (from below : ℕ) (parts : PartLi
 -- the next n parts were gone through, which are at these addresses
 abbrev pub Notes : PartList → PartList → (ℕ → ℕ) → ℕ → Type 0
 Notes old new next n = (address : ℕ → ℕ) (from below : ℕ) → ((k : ℕ) → k < n → address (below + k) ≡ next k) → ListsParts address from below old → ListsParts address from (below + n) new
+
+-- for each address that was listed a block was met
+pub record IsPaid (old new : PartList) (before now : List Bool) : Type 0 where
+  pub paid : length new.addresses.items + count_met before ≤ length old.addresses.items + count_met now
 
 -- the run where the next part is missing
 abbrev pub run_passed : Run → Run

@@ -13,10 +13,14 @@ use Rattle.mb_check_files.specs.declared.bounds.Bounds.{Bounds}
 use Rattle.mb_check_files.specs.declared.stops.Stop.{Stop}
 use Rattle.mb_check_files.specs.declared.stops.Stop.TheVariants.{Broken, Device, NoMemory}
 
+-- how many blocks were met
+abbrev pub count_met : List Bool → ℕ
+count_met flags = count_by (λ flag. flag) flags
+
 -- the flags are true for just the blocks that were met, each of them once
 pub record Stands (flags : List Bool) (met : List ℕ) : Type 0 where
   pub each : (block : ℕ) → block < length flags → slice_get flags block ≡ Some (is_met met block)
-  pub count : count_by (λ flag. flag) flags ≡ length met
+  pub count : count_met flags ≡ length met
 
 -- the addresses that are open on an image
 pub record AreBounds (blocks : ℕ → List ℕ) (bounds : Bounds) : Type 0 where

@@ -5,8 +5,8 @@ ghost use Rattle.mb_tree.specs.Counting.{any_from};
 ghost use Rattle.mb_rules.specs.Items.{each_from, Holds, Held};
 ghost use Rattle.mb_rules.specs.Files.{address_items, leads_on};
 ghost use Rattle.mb_rules.specs.FreeChain.{is_open};
-ghost use Rattle.mb_check_files.specs.Passes.{Stands, AreBounds, Passes, IsDevice, DeviceCause};
-ghost use Rattle.mb_check_files.specs.PartLists.{Notes, Extends};
+ghost use Rattle.mb_check_files.specs.Passes.{Stands, AreBounds, Passes, IsDevice, DeviceCause, count_met};
+ghost use Rattle.mb_check_files.specs.PartLists.{Notes, Extends, IsPaid};
 ghost use Rattle.mb_check_files.specs.Indexes.{head_items, under_single, under_double, under_triple};
 
 use crate::bounds::Bounds;
@@ -29,6 +29,7 @@ pub fn part(
     ensures walk { (blocks : ℕ → List ℕ) (list : List ℕ) → AreBounds blocks bounds.now → Stands met.old list → Passes result met.new list (address_items blocks 0 holder address) }
     ensures notes { OnOk result (Notes parts.old parts.new (λ _. address) 1) }
     ensures kept { OnOk result (Extends parts.old.addresses.items parts.new.addresses.items) }
+    ensures few { OnOk result (IsPaid parts.old parts.new met.old met.new) }
     ensures cause { IsDevice result → ⊥ }
 {
     if address == 0 {
@@ -64,6 +65,7 @@ fn index<D: Disk>(
 ) -> Result<(), Stop>
     requires { bounds.now.high ≤ length met.old }
     ensures walk { IfSome (D.told disk.old) (λ image. (list : List ℕ) → AreBounds image.at bounds.now → Stands met.old list → Passes result met.new list (head_items image.at holder address)) }
+    ensures count { OnOk result (count_met met.new ≡ count_met met.old + 1) }
     ensures bytes { OnOk result (GivesBlock (D.told disk.old) address block.new) }
     ensures told { D.told disk.new ≡ D.told disk.old }
     ensures cause { DeviceCause (D.faults disk.old) (D.faults disk.new) result }
@@ -92,6 +94,7 @@ pub fn single<D: Disk>(
     ensures walk { IfSome (D.told disk.old) (λ image. (list : List ℕ) → AreBounds image.at bounds.now → Stands met.old list → Passes result met.new list (address_items image.at 1 holder address)) }
     ensures notes { OnOk result (IfSome (D.told disk.old) (λ image. Notes parts.old parts.new (under_single image.at address) 128)) }
     ensures kept { OnOk result (Extends parts.old.addresses.items parts.new.addresses.items) }
+    ensures few { OnOk result (IsPaid parts.old parts.new met.old met.new) }
     ensures told { D.told disk.new ≡ D.told disk.old }
     ensures cause { DeviceCause (D.faults disk.old) (D.faults disk.new) result }
 {
@@ -120,6 +123,7 @@ pub fn double<D: Disk>(
     ensures walk { IfSome (D.told disk.old) (λ image. (list : List ℕ) → AreBounds image.at bounds.now → Stands met.old list → Passes result met.new list (address_items image.at 2 holder address)) }
     ensures notes { OnOk result (IfSome (D.told disk.old) (λ image. Notes parts.old parts.new (under_double image.at address) 16384)) }
     ensures kept { OnOk result (Extends parts.old.addresses.items parts.new.addresses.items) }
+    ensures few { OnOk result (IsPaid parts.old parts.new met.old met.new) }
     ensures told { D.told disk.new ≡ D.told disk.old }
     ensures cause { DeviceCause (D.faults disk.old) (D.faults disk.new) result }
 {
@@ -148,6 +152,7 @@ pub fn triple<D: Disk>(
     ensures walk { IfSome (D.told disk.old) (λ image. (list : List ℕ) → AreBounds image.at bounds.now → Stands met.old list → Passes result met.new list (address_items image.at 3 holder address)) }
     ensures notes { OnOk result (IfSome (D.told disk.old) (λ image. Notes parts.old parts.new (under_triple image.at address) 2097152)) }
     ensures kept { OnOk result (Extends parts.old.addresses.items parts.new.addresses.items) }
+    ensures few { OnOk result (IsPaid parts.old parts.new met.old met.new) }
     ensures told { D.told disk.new ≡ D.told disk.old }
     ensures cause { DeviceCause (D.faults disk.old) (D.faults disk.new) result }
 {

@@ -1,4 +1,4 @@
-ghost use Rattle.std.specs.Prelude.{ℕ, ◌≡◌, ◌<◌, OnOk};
+ghost use Rattle.std.specs.Prelude.{ℕ, ◌≡◌, ◌<◌, ◌≤◌, ◌+◌, length, OnOk};
 ghost use Rattle.mb_check_files.specs.PartLists.{Notes, Extends, run_passed};
 
 use mb_kinds::NoMemory;
@@ -48,7 +48,8 @@ impl PartList {
     pub fn add(&mut self, address: u32) -> Result<(), NoMemory>
         requires { 0 < address }
         ensures notes { OnOk result (Notes self.old self.new (λ _. address) 1) }
-        ensures kept { OnOk result (Extends self.old.addresses.items self.new.addresses.items) }
+        ensures few { OnOk result (length self.new.addresses.items ≤ length self.old.addresses.items + 1) }
+    ensures kept { OnOk result (Extends self.old.addresses.items self.new.addresses.items) }
     {
         match self.run {
             Run::Whole => self.addresses.push(address)?,

@@ -30,6 +30,7 @@ loop-place-init g c = record {
   walk = if_told (g.D.Disk.told c.args.disk.now) _ (λ image told list are stands. (list, each_none _ list 0 0 refl, stands));
   notes = if_told (g.D.Disk.told c.args.disk.now) _ (λ image told. notes_none _ _);
   kept = extends_same _;
+  few = record { paid = omega arith };
 }
 
 pub returns-in_err-single-clause-walk : goal.returns-in_err-single-clause-walk
@@ -55,6 +56,7 @@ loop-place-preserved g c = record {
       (told_of (g.D.Disk.told c.args.disk.now) image _ told c.loop-place.invariant.notes)
       (told_of (g.D.Disk.told c.loop-place.disk) image _ (c.loop-place.invariant.told ∙ told) c.in_ok-single.ensures.notes));
   kept = extends_more _ _ _ c.loop-place.invariant.kept c.in_ok-single.ensures.kept;
+  few = (let a = c.loop-place.invariant.few.paid in let b = c.in_ok-single.ensures.few.paid in record { paid = omega (arith, a, b) });
 }
 
 pub returns-clause-walk : goal.returns-clause-walk
@@ -73,3 +75,6 @@ returns-clause-notes g c = if_told (g.D.Disk.told c.args.disk.now) _ (λ image t
     let past = c.loop-place-test.false in
     all_double image.at c.args.address c.if-address-eq0.false c.index.new.block same _ _ c.loop-place.place (omega arith)
     (told_of (g.D.Disk.told c.args.disk.now) image _ told c.loop-place.invariant.notes))
+
+pub returns-clause-few : goal.returns-clause-few
+returns-clause-few g c = (let a = c.loop-place.invariant.few.paid in let b = c.in_ok-index.ensures.count in record { paid = omega (arith, a, b) })

@@ -15,9 +15,9 @@ returns-then-address-eq0-clause-notes c = c.pass.ensures.notes (λ _. c.args.add
 pub returns-in_err-claim-clause-walk : goal.returns-in_err-claim-clause-walk
 returns-in_err-claim-clause-walk c blocks list are stands =
     rw (came_from c.from_residual.result (Broken c.in_err-claim.field-0.0) c.from_residual.ensures)
-    (ap (walked list) (sym (part_items blocks c.args.holder c.args.address c.if-address-eq0.false)) ∙ c.in_err-claim.ensures blocks list are stands)
+    (ap (walked list) (sym (part_items blocks c.args.holder c.args.address c.if-address-eq0.false)) ∙ c.in_err-claim.ensures.walk blocks list are stands)
 
 pub returns-clause-walk : goal.returns-clause-walk
 returns-clause-walk c blocks list are stands =
-    let on = c.in_ok-claim.ensures blocks list are stands in
+    let on = c.in_ok-claim.ensures.walk blocks list are stands in
     (on.0, ap (walked list) (sym (part_items blocks c.args.holder c.args.address c.if-address-eq0.false)) ∙ on.1, on.2)

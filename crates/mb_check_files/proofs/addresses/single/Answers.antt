@@ -28,6 +28,7 @@ loop-place-init g c = record {
   walk = λ blocks list are stands. (list, each_none _ list 0 0 refl, stands);
   notes = notes_none _ _;
   kept = extends_same _;
+  few = record { paid = omega arith };
 }
 
 pub returns-in_err-part-clause-walk : goal.returns-in_err-part-clause-walk
@@ -48,6 +49,7 @@ loop-place-preserved g c = record {
     (next.0, more_under blocks 0 c.args.address c.index.new.block list so.0 next.0 c.loop-place.place c.index_at.result c.index_at.ensures so.1 next.1, next.2));
   notes = more_single _ _ _ c.index.new.block c.loop-place.place c.index_at.result c.index_at.ensures c.loop-place.invariant.notes c.in_ok-part.ensures.notes;
   kept = extends_more _ _ _ c.loop-place.invariant.kept c.in_ok-part.ensures.kept;
+  few = (let a = c.loop-place.invariant.few.paid in let b = c.in_ok-part.ensures.few.paid in record { paid = omega (arith, a, b) });
 }
 
 pub returns-clause-walk : goal.returns-clause-walk
@@ -65,3 +67,6 @@ returns-clause-notes g c = if_told (g.D.Disk.told c.args.disk.now) _ (λ image t
     let most = c.loop-place.auto.place-end in
     let past = c.loop-place-test.false in
     all_single image.at c.args.address c.if-address-eq0.false c.index.new.block same _ _ c.loop-place.place (omega arith) c.loop-place.invariant.notes)
+
+pub returns-clause-few : goal.returns-clause-few
+returns-clause-few g c = (let a = c.loop-place.invariant.few.paid in let b = c.in_ok-index.ensures.count in record { paid = omega (arith, a, b) })
