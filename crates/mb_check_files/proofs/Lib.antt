@@ -6,3 +6,4 @@ pub mod Notings
 pub mod Addressing
 pub mod Stopping
 pub mod UnderIndexes
+pub mod AreaParts

@@ -1,3 +1,4 @@
 pub mod Indexes
+pub mod InodeTables
 pub mod Passes
 pub mod PartLists

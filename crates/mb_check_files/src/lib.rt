@@ -6,14 +6,19 @@
 #![tactic(auto)]
 
 mod addresses;
+mod areas;
 mod bounds;
 mod chains;
+mod inodes;
 mod met;
 mod part_lists;
 mod stops;
 
 pub use addresses::{double, part, single, triple};
+pub use areas::area;
 pub use bounds::Bounds;
 pub use chains::chain;
 pub use part_lists::{PartList, Run};
+pub use inodes::{InodeKept, InodeTable};
+pub use met::met_count;
 pub use stops::Stop;

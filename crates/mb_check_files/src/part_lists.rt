@@ -1,5 +1,8 @@
-ghost use Rattle.std.specs.Prelude.{ℕ, ◌≡◌, ◌<◌, ◌≤◌, ◌+◌, length, OnOk};
-ghost use Rattle.mb_check_files.specs.PartLists.{Notes, Extends, run_passed};
+ghost use Rattle.std.specs.Prelude.{ℕ, List, true, ◌≡◌, ◌<◌, ◌≤◌, ◌+◌, length, OnOk};
+ghost use Rattle.mb_tree.specs.Blocks.{part_address};
+ghost use Rattle.mb_tree.specs.Cost.{most_parts};
+ghost use Rattle.mb_rules.specs.Files.{are_parts, size_at};
+ghost use Rattle.mb_check_files.specs.PartLists.{Notes, Extends, ListsParts, run_passed};
 
 use mb_kinds::NoMemory;
 use std::alloc::Global;
@@ -36,6 +39,26 @@ pub struct PartList {
 }
 
 impl PartList {
+    /// Before part 0 of a file, the parts of which are listed where it is a directory.
+    pub fn begin(&mut self, directory: bool)
+        ensures begins { directory ≡ true → (address : ℕ → ℕ) → ListsParts address (length self.new.addresses.items) 0 self.new }
+        ensures kept { self.new.addresses ≡ self.old.addresses }
+    {
+        self.run = if directory { Run::Whole } else { Run::Torn };
+    }
+
+    /// Whether the parts of a directory of that size are those below the size, where all its parts were gone through and
+    /// the list of them begins at a place (rule 8).
+    pub fn covers(&self, from: usize, size: u32) -> bool
+        requires { from ≤ length self.now.addresses.items }
+        ensures { (blocks : ℕ → List ℕ) (ino : ℕ) → ListsParts (part_address blocks ino) from most_parts self.now → length self.now.addresses.items < from + most_parts → size_at blocks ino ≡ size → result ≡ are_parts blocks ino }
+    {
+        if self.run == Run::Torn {
+            return false;
+        }
+        self.addresses.len() - from == (size as usize + 511) / 512
+    }
+
     /// The next parts, at least one, are missing.
     pub fn pass(&mut self)
         ensures notes { (below : ℕ → ℕ) (n : ℕ) → 0 < n → ((k : ℕ) → k < n → below k ≡ 0) → Notes self.old self.new below n }
