@@ -7,3 +7,5 @@ pub mod Addressing
 pub mod Stopping
 pub mod UnderIndexes
 pub mod AreaParts
+pub mod Covering
+pub mod InodeWalks

@@ -122,7 +122,7 @@ fn inode<D: Disk>(
     }
     let directory = is_directory(inode.mode);
     parts.begin(directory);
-    let from = parts.addresses.len();
+    let from = parts.listed();
     area(disk, met, bounds, parts, inode, holder)?;
     if !directory {
         return Ok(());

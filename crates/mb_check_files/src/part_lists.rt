@@ -39,6 +39,13 @@ pub struct PartList {
 }
 
 impl PartList {
+    /// How many addresses are listed.
+    pub fn listed(&self) -> usize
+        ensures { result ≡ length self.now.addresses.items }
+    {
+        self.addresses.as_slice().len()
+    }
+
     /// Before part 0 of a file, the parts of which are listed where it is a directory.
     pub fn begin(&mut self, directory: bool)
         ensures begins { directory ≡ true → (address : ℕ → ℕ) → ListsParts address (length self.new.addresses.items) 0 self.new }
@@ -53,10 +60,10 @@ impl PartList {
         requires { from ≤ length self.now.addresses.items }
         ensures { (blocks : ℕ → List ℕ) (ino : ℕ) → ListsParts (part_address blocks ino) from most_parts self.now → length self.now.addresses.items < from + most_parts → size_at blocks ino ≡ size → result ≡ are_parts blocks ino }
     {
-        if self.run == Run::Torn {
+        if let Run::Torn = self.run {
             return false;
         }
-        self.addresses.len() - from == (size as usize + 511) / 512
+        self.listed() - from == (size as usize + 511) / 512
     }
 
     /// The next parts, at least one, are missing.
