@@ -9,3 +9,4 @@ pub mod UnderIndexes
 pub mod AreaParts
 pub mod Covering
 pub mod InodeWalks
+pub mod Tables

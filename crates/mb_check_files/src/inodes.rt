@@ -135,3 +135,60 @@ fn inode<D: Disk>(
     }
     Ok(())
 }
+
+/// The eight inodes of a block of the i-list, which has that number.
+fn block_inodes<D: Disk>(
+    disk: &mut D,
+    met: &mut [bool],
+    bounds: &Bounds,
+    table: &mut InodeTable,
+    block: &[u8; 512],
+    number: u32,
+) -> Result<(), Stop>
+    requires high { bounds.now.high ≤ length met.old }
+    requires small { length met.old ≤ 262144 }
+    requires number { 2 ≤ number }
+    requires paid { length table.old.parts.addresses.items ≤ count_met met.old }
+    ensures walk { IfSome (D.told disk.old) (λ image. (list : List ℕ) → block.now ≡ image.at number → AreBounds image.at bounds.now → Stands met.old list → Passes result met.new list (each_from (inode_items image.at) (8 * (number - 2) + 1) 8)) }
+    ensures kept { OnOk result (IfSome (D.told disk.old) (λ image. block.now ≡ image.at number → KeepsInodes image.at table.old (8 * (number - 2)) → KeepsInodes image.at table.new (8 * (number - 2) + 8))) }
+    ensures few { OnOk result (length table.new.parts.addresses.items ≤ count_met met.new) }
+    ensures told { D.told disk.new ≡ D.told disk.old }
+    ensures cause { DeviceCause (D.faults disk.old) (D.faults disk.new) result }
+{
+    for place in 0..8 {
+        let found = Dinode::read(block, place);
+        let first = table.parts.place();
+        inode(disk, met, bounds, &mut table.parts, &found, number)?;
+        table.inodes.push(InodeKept {
+            mode: found.mode,
+            nlink: found.nlink,
+            size: found.size,
+            first,
+        })?;
+    }
+    Ok(())
+}
+
+/// The inodes in increasing number, each with its addresses.
+pub fn each_inode<D: Disk>(
+    disk: &mut D,
+    met: &mut [bool],
+    bounds: &Bounds,
+    table: &mut InodeTable,
+) -> Result<(), Stop>
+    requires low { 2 ≤ bounds.now.low }
+    requires high { bounds.now.high ≤ length met.old }
+    requires small { length met.old ≤ 262144 }
+    requires paid { length table.old.parts.addresses.items ≤ count_met met.old }
+    ensures walk { IfSome (D.told disk.old) (λ image. (list : List ℕ) → AreBounds image.at bounds.now → Stands met.old list → Passes result met.new list (files_items image.at)) }
+    ensures kept { OnOk result (IfSome (D.told disk.old) (λ image. KeepsInodes image.at table.old 0 → KeepsInodes image.at table.new (8 * (bounds.now.low - 2)))) }
+    ensures told { D.told disk.new ≡ D.told disk.old }
+    ensures cause { DeviceCause (D.faults disk.old) (D.faults disk.new) result }
+{
+    let mut block = [0; 512];
+    for number in 2..bounds.low {
+        disk.read(number, &mut block)?;
+        block_inodes(disk, met, bounds, table, &block, number)?;
+    }
+    Ok(())
+}

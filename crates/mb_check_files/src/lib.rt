@@ -19,6 +19,6 @@ pub use areas::area;
 pub use bounds::Bounds;
 pub use chains::chain;
 pub use part_lists::{PartList, Run};
-pub use inodes::{InodeKept, InodeTable};
+pub use inodes::{InodeKept, InodeTable, each_inode};
 pub use met::met_count;
 pub use stops::Stop;

@@ -46,6 +46,14 @@ impl PartList {
         self.addresses.as_slice().len()
     }
 
+    /// The place at which the next address is listed.
+    pub fn place(&self) -> u32
+        requires { length self.now.addresses.items ≤ 262144 }
+        ensures { result ≡ length self.now.addresses.items }
+    {
+        self.listed() as u32
+    }
+
     /// Before part 0 of a file, the parts of which are listed where it is a directory.
     pub fn begin(&mut self, directory: bool)
         ensures begins { directory ≡ true → (address : ℕ → ℕ) → ListsParts address (length self.new.addresses.items) 0 self.new }
