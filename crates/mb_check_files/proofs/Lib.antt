@@ -10,3 +10,4 @@ pub mod AreaParts
 pub mod Covering
 pub mod InodeWalks
 pub mod Tables
+pub mod SuperTests

@@ -13,6 +13,8 @@ mod inodes;
 mod met;
 mod part_lists;
 mod stops;
+mod super_blocks;
+mod surveys;
 
 pub use addresses::{double, part, single, triple};
 pub use areas::area;
@@ -22,3 +24,5 @@ pub use part_lists::{PartList, Run};
 pub use inodes::{InodeKept, InodeTable, each_inode};
 pub use met::met_count;
 pub use stops::Stop;
+pub use super_blocks::super_block;
+pub use surveys::{VolumeFiles, volume_files};
