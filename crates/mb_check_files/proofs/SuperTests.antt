@@ -110,3 +110,9 @@ module _ (image : Image) where
       files_length =
           let shown = stores image after whole (files_end mid (Ok after) one two) in
           files_cost image (tree_of image) (chain_of image.at) mid after shown.stored shown.kinds (walked_once [] (chain_items image.at) mid one none_once) two
+
+pub bounds_of : (image : Image) (block : List ℕ) (bounds : Bounds) → AreSized block bounds → block ≡ image.at 1 → AreBounds image.at bounds
+bounds_of image block bounds sized same = record { low = ap isize_of (sym same) ∙ sized.low; high = ap fsize_of (sym same) ∙ sized.high }
+
+pub paid_by : (held all free met chain paid : ℕ) → held ≡ all - free → all ≡ met → free ≡ chain → met ≡ paid + chain → held ≡ paid
+paid_by held all free met chain paid a b c d = omega (arith, a, b, c, d)

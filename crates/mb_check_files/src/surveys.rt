@@ -1,11 +1,11 @@
-ghost use Rattle.std.specs.Prelude.{ℕ, List, ◌≤◌, ◌≡◌, [], length, IfSome, IfOk};
-ghost use Rattle.mb_word.specs.Numbers.{word_at};
-ghost use Rattle.mb_rules.specs.Files.{files_items};
-ghost use Rattle.mb_rules.specs.FreeChain.{chain_items};
+ghost use Rattle.std.specs.Prelude.{ℕ, List, ◌≡◌, ◌-◌, ◌*◌, [], Ok, length, IfSome, IfOk, OnOk};
+ghost use Rattle.mb_rules.specs.Items.{walked};
+ghost use Rattle.mb_rules.specs.SuperBlock.{super_block_items};
 ghost use Rattle.mb_scan_laws.specs.Laws.{first_items};
-ghost use Rattle.mb_check_files.specs.Findings.{Finds};
-ghost use Rattle.mb_check_files.specs.Passes.{AreBounds, DeviceCause, Stands};
-ghost use Rattle.mb_check_files.specs.Surveyed.{TellsFiles};
+ghost use Rattle.mb_check_files.specs.Findings.{AreSized, Finds};
+ghost use Rattle.mb_check_files.specs.InodeTables.{KeepsInodes};
+ghost use Rattle.mb_check_files.specs.Passes.{DeviceCause, Stands};
+ghost use Rattle.mb_check_files.specs.Surveyed.{TellsFiles, TellsSpace};
 
 use crate::bounds::Bounds;
 use crate::chains::chain;
@@ -29,6 +29,39 @@ pub struct VolumeFiles {
     pub free: u32,
 }
 
+/// How many blocks the files hold, and how many the free chain.
+#[derive(Clone, Copy, Debug, PartialEq, Drop)]
+struct Space {
+    held: u32,
+    free: u32,
+}
+
+/// The free chain, and the inodes with their addresses. `first` is the super-block, and no block was met before.
+fn chain_and_files<D: Disk>(
+    disk: &mut D,
+    met: &mut [bool],
+    bounds: &Bounds,
+    first: &[u8; 512],
+    table: &mut InodeTable,
+) -> Result<Space, Stop>
+    requires sized { AreSized first.now bounds.now }
+    requires high { length met.old ≡ bounds.now.high }
+    requires empty { table.old.parts.addresses.items ≡ [] }
+    ensures walk { IfSome (D.told disk.old) (λ image. first.now ≡ image.at 1 → walked [] (super_block_items image) ≡ Ok [] → Stands met.old [] → Finds result [] (first_items image)) }
+    ensures tells { IfOk result (λ space. IfSome (D.told disk.old) (λ image. first.now ≡ image.at 1 → walked [] (super_block_items image) ≡ Ok [] → Stands met.old [] → TellsSpace image space.held space.free)) }
+    ensures kept { OnOk result (IfSome (D.told disk.old) (λ image. KeepsInodes image.at table.old 0 → KeepsInodes image.at table.new (8 * (bounds.now.low - 2)))) }
+    ensures told { D.told disk.new ≡ D.told disk.old }
+    ensures cause { DeviceCause (D.faults disk.old) (D.faults disk.new) result }
+{
+    chain(disk, met, bounds, first)?;
+    let free = met_count(met);
+    each_inode(disk, met, bounds, table)?;
+    Ok(Space {
+        held: met_count(met).saturating_sub(free),
+        free,
+    })
+}
+
 /// The super-block, the free chain, and the inodes with their addresses, in the order of the rules.
 pub fn volume_files<D: Disk>(alloc: Global, disk: &mut D) -> Result<VolumeFiles, Stop>
     ensures walk { IfSome (D.told disk.old) (λ image. Finds result [] (first_items image)) }
@@ -40,14 +73,11 @@ pub fn volume_files<D: Disk>(alloc: Global, disk: &mut D) -> Result<VolumeFiles,
     let bounds = super_block(disk, &mut block)?;
     let mut met = vec![in alloc; false; bounds.high as usize]?;
     let mut table = InodeTable::new(alloc)?;
-    chain(disk, &mut met, &bounds, &block)?;
-    let free = met_count(&met);
-    each_inode(disk, &mut met, &bounds, &mut table)?;
-    let all = met_count(&met);
+    let Space { held, free } = chain_and_files(disk, &mut met, &bounds, &block, &mut table)?;
     Ok(VolumeFiles {
         table,
         last: 8 * (bounds.low - 2) as u16,
-        held: all.saturating_sub(free),
+        held,
         free,
     })
 }
