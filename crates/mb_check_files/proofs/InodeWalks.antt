@@ -106,8 +106,8 @@ pub directory_size : (mode size : ℕ) → is_directory mode ≡ true → is_siz
 directory_size mode size d fits =
     let tests = directory_tests mode d in
     let two : (nat_le 32 size && nat_eq (size % 16) 0) ≡ true =
-        sym (ap (λ b. if b then nat_le size 1082201088 else if is_directory mode then nat_le 32 size && nat_eq (size % 16) 0 else true) tests.regular_is
-        ∙ ap (λ b. if b then nat_le 32 size && nat_eq (size % 16) 0 else true) d) ∙ fits in
+    sym (ap (λ b. if b then nat_le size 1082201088 else if is_directory mode then nat_le 32 size && nat_eq (size % 16) 0 else true) tests.regular_is
+    ∙ ap (λ b. if b then nat_le 32 size && nat_eq (size % 16) 0 else true) d) ∙ fits in
     let parts = both (nat_le 32 size) (nat_eq (size % 16) 0) two in
     ((let t = parts.0 in grind (arith, nat_tests)), (let t = parts.1 in grind (arith, nat_tests)))
 

@@ -11,15 +11,21 @@ use Rattle.mb_check_files.specs.PartLists.{Extends, IsTorn, RunsTo, ListsParts, 
 module _ (address : ℕ → ℕ) (from count below n : ℕ) (some : 0 < n) (holes : (k : ℕ) → k < n → address (below + k) ≡ 0) where
   run_holes : (run : Run) → RunsTo address count below run → RunsTo address count (below + n) (run_passed run)
   run_holes Whole same = (omega (arith, same), λ p low high. subst (λ q. address q ≡ 0) (let e : below + (p - below) ≡ p = omega (arith, same, low) in e) (holes (p - below) (omega arith)))
-  run_holes Ended ended = (let less = ended.0 in omega arith, λ p low high. elim (cases_lt p below) [
-    | inl old ↦ ended.1 p low old
-    | inr past ↦ subst (λ q. address q ≡ 0) (let e : below + (p - below) ≡ p = omega arith in e) (holes (p - below) (omega arith))
-  ])
+  run_holes Ended ended = (
+    let less = ended.0 in omega arith,
+    λ p low high. elim (cases_lt p below) [
+      | inl old ↦ ended.1 p low old
+      | inr past ↦ subst (λ q. address q ≡ 0) (let e : below + (p - below) ≡ p = omega arith in e) (holes (p - below) (omega arith))
+    ],
+  )
   run_holes Torn torn = (let less = torn.low in record { hole = torn.hole; part = torn.part; order = torn.order; low = omega arith; missing = torn.missing; there = torn.there })
 
 pub passed_notes : (old : PartList) (next : ℕ → ℕ) (n : ℕ) → 0 < n → ((k : ℕ) → k < n → next k ≡ 0) → Notes old (record { addresses = old.addresses; run = run_passed old.run }) next n
 passed_notes old next n some holes address from below same lists = record {
-  count = lists.count; whole = lists.whole; listed = lists.listed; there = lists.there;
+  count = lists.count;
+  whole = lists.whole;
+  listed = lists.listed;
+  there = lists.there;
   run = run_holes address from lists.count below n some (λ k low. same k low ∙ holes k low) old.run lists.run;
 }
 

@@ -61,11 +61,11 @@ module _ (blocks : ℕ → List ℕ) (old new : InodeTable) (last : ℕ) (kept :
   each_new : (ino : ℕ) (found : InodeKept) → 1 ≤ ino → ino ≤ last + 1 → slice_get new.inodes.items ino ≡ Some found → KeepsInode blocks new.parts.addresses.items ino found
   each_new ino found low high e = elim (get_new ino found e) [
     | inl was ↦ (let one = keeps.each ino found low (let n = keeps.count in let k = was.0 in omega (arith, n, k)) was.1 in record {
-        mode = one.mode;
-        nlink = one.nlink;
-        size = one.size;
-        parts = λ d. has_more old.parts.addresses.items new.parts.addresses.items (part_address blocks ino) found.first found.size more (one.parts d);
-      })
+      mode = one.mode;
+      nlink = one.nlink;
+      size = one.size;
+      parts = λ d. has_more old.parts.addresses.items new.parts.addresses.items (part_address blocks ino) found.first found.size more (one.parts d);
+    })
     | inr is ↦ (let there : last + 1 ≡ ino = (let n = keeps.count in let k = is.0 in omega (arith, n, k)) in
         subst (λ i. KeepsInode blocks new.parts.addresses.items i found) there (subst (KeepsInode blocks new.parts.addresses.items (last + 1)) is.1 here))
   ]

@@ -43,9 +43,9 @@ module _ (blocks : ℕ → List ℕ) (address : ℕ) (some : address ≡ 0 → �
   all_triple old new place all notes =
       notes_same old new (λ k. under_double blocks (index_entry block (k / 16384)) (k % 16384)) (under_triple blocks address) 2097152
       (λ k low.
-          ap (λ a. entry_in blocks (entry_in blocks a (k % 16384 / 128)) (k % 16384 % 128)) (entry_read (k / 16384))
-          ∙ ap (λ p. entry_in blocks (entry_in blocks (entry_in blocks address (k / 16384)) p) (k % 16384 % 128)) (let e : k % 16384 / 128 ≡ k / 128 % 128 = omega arith in e)
-          ∙ ap (λ p. entry_in blocks (entry_in blocks (entry_in blocks address (k / 16384)) (k / 128 % 128)) p) (let e : k % 16384 % 128 ≡ k % 128 = omega arith in e))
+      ap (λ a. entry_in blocks (entry_in blocks a (k % 16384 / 128)) (k % 16384 % 128)) (entry_read (k / 16384))
+      ∙ ap (λ p. entry_in blocks (entry_in blocks (entry_in blocks address (k / 16384)) p) (k % 16384 % 128)) (let e : k % 16384 / 128 ≡ k / 128 % 128 = omega arith in e)
+      ∙ ap (λ p. entry_in blocks (entry_in blocks (entry_in blocks address (k / 16384)) (k / 128 % 128)) p) (let e : k % 16384 % 128 ≡ k % 128 = omega arith in e))
       (subst (Notes old new (λ k. under_double blocks (index_entry block (k / 16384)) (k % 16384))) (let e : 16384 * place ≡ 2097152 = omega (arith, all) in e) notes)
 
 pub more_single : (old mid new : PartList) (block : List ℕ) (place entry : ℕ) → entry ≡ index_entry block place → Notes old mid (index_entry block) place → Notes mid new (λ _. entry) 1 → Notes old new (index_entry block) (place + 1)
@@ -57,9 +57,9 @@ pub more_double : (blocks : ℕ → List ℕ) (old mid new : PartList) (block : 
 more_double blocks old mid new block place entry is one two =
     subst (Notes old new (λ k. under_single blocks (index_entry block (k / 128)) (k % 128))) (let e : 128 * place + 128 ≡ 128 * (place + 1) = omega arith in e)
     (notes_more old mid new (λ k. under_single blocks (index_entry block (k / 128)) (k % 128)) (under_single blocks entry) (128 * place) 128 one two (λ k low.
-        ap (λ p. under_single blocks (index_entry block p) ((128 * place + k) % 128)) (let e : (128 * place + k) / 128 ≡ place = omega arith in e)
-        ∙ ap (λ p. under_single blocks (index_entry block place) p) (let e : (128 * place + k) % 128 ≡ k = omega arith in e)
-        ∙ ap (λ a. under_single blocks a k) (sym is)))
+    ap (λ p. under_single blocks (index_entry block p) ((128 * place + k) % 128)) (let e : (128 * place + k) / 128 ≡ place = omega arith in e)
+    ∙ ap (λ p. under_single blocks (index_entry block place) p) (let e : (128 * place + k) % 128 ≡ k = omega arith in e)
+    ∙ ap (λ a. under_single blocks a k) (sym is)))
 
 pub more_triple : (blocks : ℕ → List ℕ) (old mid new : PartList) (block : List ℕ) (place entry : ℕ) → entry ≡ index_entry block place
     → Notes old mid (λ k. under_double blocks (index_entry block (k / 16384)) (k % 16384)) (16384 * place) → Notes mid new (under_double blocks entry) 16384
@@ -67,6 +67,6 @@ pub more_triple : (blocks : ℕ → List ℕ) (old mid new : PartList) (block : 
 more_triple blocks old mid new block place entry is one two =
     subst (Notes old new (λ k. under_double blocks (index_entry block (k / 16384)) (k % 16384))) (let e : 16384 * place + 16384 ≡ 16384 * (place + 1) = omega arith in e)
     (notes_more old mid new (λ k. under_double blocks (index_entry block (k / 16384)) (k % 16384)) (under_double blocks entry) (16384 * place) 16384 one two (λ k low.
-        ap (λ p. under_double blocks (index_entry block p) ((16384 * place + k) % 16384)) (let e : (16384 * place + k) / 16384 ≡ place = omega arith in e)
-        ∙ ap (λ p. under_double blocks (index_entry block place) p) (let e : (16384 * place + k) % 16384 ≡ k = omega arith in e)
-        ∙ ap (λ a. under_double blocks a k) (sym is)))
+    ap (λ p. under_double blocks (index_entry block p) ((16384 * place + k) % 16384)) (let e : (16384 * place + k) / 16384 ≡ place = omega arith in e)
+    ∙ ap (λ p. under_double blocks (index_entry block place) p) (let e : (16384 * place + k) % 16384 ≡ k = omega arith in e)
+    ∙ ap (λ a. under_double blocks a k) (sym is)))

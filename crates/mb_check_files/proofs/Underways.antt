@@ -19,7 +19,10 @@ told_of (Some other) image P e h = let same : other ≡ image = cc in subst P sa
 module _ (image : Image) (bounds : Bounds) where
   pub begins : (flags : List Bool) (first : List ℕ) → first ≡ image.at 1 → AreBounds image.at bounds → Stands flags [] → Underway image flags first 6 1 (bounds.high + 1) 0
   begins flags first same are stands = record {
-    met = []; lists = bounds.high + 1; left = omega arith; stands = stands;
+    met = [];
+    lists = bounds.high + 1;
+    left = omega arith;
+    stands = stands;
     walks = ap (λ n. walked [] (list_items image.at (n + 1) 1 (first_list image.at))) are.high
         ∙ ap (λ (b : List ℕ). walked [] (list_items image.at (bounds.high + 1) 1 (listed_at b 6))) (sym same);
   }
@@ -49,7 +52,10 @@ module _ (image : Image) (bounds : Bounds) where
         let left = under.left in
         let fewer = more.1 in
         record {
-          met = last.0; lists = more.0; left = omega arith; stands = last.2;
+          met = last.0;
+          lists = more.0;
+          left = omega arith;
+          stands = last.2;
           walks = whole more.0 more.1 ∙ last.1 ∙ ap (λ (b : List ℕ). walked last.0 (list_items image.at more.0 next (listed_at b 0))) (sym lists.0);
         }
 

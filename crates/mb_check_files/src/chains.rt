@@ -12,7 +12,13 @@ use mb_rules::Finding;
 use mb_word::{long_at, word_at};
 
 /// The places 1, 2, .. of a list below its count, which stands at `base`.
-fn upper(met: &mut [bool], bounds: &Bounds, bytes: &[u8; 512], base: usize, holder: u32) -> Result<(), Finding>
+fn upper(
+    met: &mut [bool],
+    bounds: &Bounds,
+    bytes: &[u8; 512],
+    base: usize,
+    holder: u32,
+) -> Result<(), Finding>
     requires high { bounds.now.high ≤ length met.old }
     requires base { base ≤ 6 }
     requires few { word_at bytes.now base ≤ 50 }
@@ -31,7 +37,14 @@ fn upper(met: &mut [bool], bounds: &Bounds, bytes: &[u8; 512], base: usize, hold
 
 /// One list of the chain; the number of the block with the next one, whose bytes are then in `bytes`, or nothing where
 /// the chain ends.
-fn list<D: Disk>(disk: &mut D, met: &mut [bool], bounds: &Bounds, bytes: &mut [u8; 512], base: usize, holder: u32) -> Result<Option<u32>, Stop>
+fn list<D: Disk>(
+    disk: &mut D,
+    met: &mut [bool],
+    bounds: &Bounds,
+    bytes: &mut [u8; 512],
+    base: usize,
+    holder: u32,
+) -> Result<Option<u32>, Stop>
     requires high { bounds.now.high ≤ length met.old }
     requires base { base ≤ 6 }
     requires few { word_at bytes.old base ≤ 50 }
@@ -60,13 +73,21 @@ fn list<D: Disk>(disk: &mut D, met: &mut [bool], bounds: &Bounds, bytes: &mut [u
         Err(Failed) => return Err(Stop::Device),
     }
     if word_at(bytes, 0) > 50 {
-        return Err(Stop::Broken(Finding { block: next, rule: 3 }));
+        return Err(Stop::Broken(Finding {
+            block: next,
+            rule: 3,
+        }));
     }
     Ok(Some(next))
 }
 
 /// The lists of the free chain, that of the super-block first.
-pub fn chain<D: Disk>(disk: &mut D, met: &mut [bool], bounds: &Bounds, first: &[u8; 512]) -> Result<(), Stop>
+pub fn chain<D: Disk>(
+    disk: &mut D,
+    met: &mut [bool],
+    bounds: &Bounds,
+    first: &[u8; 512],
+) -> Result<(), Stop>
     requires high { bounds.now.high ≤ length met.old }
     requires small { bounds.now.high ≤ 262144 }
     requires few { word_at first.now 6 ≤ 50 }

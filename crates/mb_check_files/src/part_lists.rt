@@ -87,7 +87,7 @@ impl PartList {
         requires { 0 < address }
         ensures notes { OnOk result (Notes self.old self.new (λ _. address) 1) }
         ensures few { OnOk result (length self.new.addresses.items ≤ length self.old.addresses.items + 1) }
-    ensures kept { OnOk result (Extends self.old.addresses.items self.new.addresses.items) }
+        ensures kept { OnOk result (Extends self.old.addresses.items self.new.addresses.items) }
     {
         match self.run {
             Run::Whole => self.addresses.push(address)?,

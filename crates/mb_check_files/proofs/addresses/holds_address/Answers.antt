@@ -16,6 +16,6 @@ pub returns : goal.returns
 returns c =
     let past = c.loop-place-test.false in
     sym (none_from (λ place. not (nat_eq (index_entry c.args.block.now place) 0)) 0 128 (λ k a b.
-        let hole = c.loop-place.invariant k (omega arith) in
-        let test : nat_eq (index_entry c.args.block.now k) 0 ≡ true = grind (arith, nat_tests) in
-        ap not test))
+    let hole = c.loop-place.invariant k (omega arith) in
+    let test : nat_eq (index_entry c.args.block.now k) 0 ≡ true = grind (arith, nat_tests) in
+    ap not test))

@@ -44,9 +44,9 @@ returns-in_err-part-clause-walk g c = if_told (g.D.Disk.told c.args.disk.now) _ 
 pub loop-place-preserved : goal.loop-place-preserved
 loop-place-preserved g c = record {
   walk = λ blocks list are stands. (
-    let so = c.loop-place.invariant.walk blocks list are stands in
-    let next = c.in_ok-part.ensures.walk blocks so.0 are so.2 in
-    (next.0, more_under blocks 0 c.args.address c.index.new.block list so.0 next.0 c.loop-place.place c.index_at.result c.index_at.ensures so.1 next.1, next.2));
+      let so = c.loop-place.invariant.walk blocks list are stands in
+      let next = c.in_ok-part.ensures.walk blocks so.0 are so.2 in
+      (next.0, more_under blocks 0 c.args.address c.index.new.block list so.0 next.0 c.loop-place.place c.index_at.result c.index_at.ensures so.1 next.1, next.2));
   notes = more_single _ _ _ c.index.new.block c.loop-place.place c.index_at.result c.index_at.ensures c.loop-place.invariant.notes c.in_ok-part.ensures.notes;
   kept = extends_more _ _ _ c.loop-place.invariant.kept c.in_ok-part.ensures.kept;
   few = (let a = c.loop-place.invariant.few.paid in let b = c.in_ok-part.ensures.few.paid in record { paid = omega (arith, a, b) });

@@ -22,16 +22,19 @@ returns-in_err-part-clause-walk c blocks list are stands =
     rw (came_from c.from_residual.result c.in_err-part.field-0.0 c.from_residual.ensures)
     (passes_on c.in_err-part.field-0.0 c.part.new.met c.part.new.met so.0 list _ _
     (λ broken h. each_stops (λ place. address_items blocks 0 c.args.holder (address_in c.args.inode.now place)) list so.0 broken 0 c.loop-place.place c.loop-place.place 10 (omega arith) c.loop-place-test.true so.1
-        (ap (λ a. walked so.0 (address_items blocks 0 c.args.holder a)) (sym c.address.ensures) ∙ h))
+    (ap (λ a. walked so.0 (address_items blocks 0 c.args.holder a)) (sym c.address.ensures) ∙ h))
     (c.in_err-part.ensures.walk blocks so.0 are so.2))
 
 pub loop-place-preserved : goal.loop-place-preserved
 loop-place-preserved c = record {
   walk = λ blocks list are stands. (
-    let so = c.loop-place.invariant.walk blocks list are stands in
-    let next = c.in_ok-part.ensures.walk blocks so.0 are so.2 in
-    (next.0, each_more (λ place. address_items blocks 0 c.args.holder (address_in c.args.inode.now place)) list so.0 next.0 0 c.loop-place.place c.loop-place.place (c.loop-place.place + 1) (omega arith) (omega arith) so.1
-        (ap (λ a. walked so.0 (address_items blocks 0 c.args.holder a)) (sym c.address.ensures) ∙ next.1), next.2));
+      let so = c.loop-place.invariant.walk blocks list are stands in
+      let next = c.in_ok-part.ensures.walk blocks so.0 are so.2 in (
+        next.0,
+        each_more (λ place. address_items blocks 0 c.args.holder (address_in c.args.inode.now place)) list so.0 next.0 0 c.loop-place.place c.loop-place.place (c.loop-place.place + 1) (omega arith) (omega arith) so.1
+            (ap (λ a. walked so.0 (address_items blocks 0 c.args.holder a)) (sym c.address.ensures) ∙ next.1),
+        next.2,
+      ));
   notes = notes_more _ _ _ (address_in c.args.inode.now) (λ _. c.address.result) c.loop-place.place 1 c.loop-place.invariant.notes c.in_ok-part.ensures.notes
       (λ k low. (let e : c.loop-place.place + k ≡ c.loop-place.place = omega arith in ap (address_in c.args.inode.now) e) ∙ sym c.address.ensures);
   kept = extends_more _ _ _ c.loop-place.invariant.kept c.in_ok-part.ensures.kept;

@@ -21,12 +21,16 @@ returns-in-Err-clause-chain g c = if_told (g.D.Disk.told c.args.disk.now) _ (λ 
     stops_so image c.args.bounds.now c.loop.met c.loop.bytes c.loop.base c.loop.holder (c.args.bounds.now.high + 1) c.loop.counter under c.list.new.met c.list.new.bytes c.in-Err.stop c.loop-test.true lists)
 
 pub loop-preserved : goal.loop-preserved
-loop-preserved g c = (omega arith, (rw c.in-Ok-Some.field-0-is at c.in-Ok-Some.ensures.few), c.list.ensures.told ∙ c.loop.invariant.2,
-    (let before = c.loop.invariant.3 in let now = c.list.ensures.cause.later in omega (arith, before, now)),
-    if_told (g.D.Disk.told c.args.disk.now) _ (λ image told same are stands.
-        let under = told_of (g.D.Disk.told c.args.disk.now) image _ told c.loop.invariant.4 same are stands in
-        let lists = told_of (g.D.Disk.told c.loop.disk) image _ (c.loop.invariant.2 ∙ told) (rw c.in-Ok-Some.field-0-is at c.in-Ok-Some.ensures.list) under.met are under.stands in
-        goes_on image c.args.bounds.now c.loop.met c.loop.bytes c.loop.base c.loop.holder (c.args.bounds.now.high + 1) c.loop.counter under c.list.new.met c.list.new.bytes c.in-Ok-Some.next c.loop-test.true lists))
+loop-preserved g c = (
+  omega arith,
+  (rw c.in-Ok-Some.field-0-is at c.in-Ok-Some.ensures.few),
+  c.list.ensures.told ∙ c.loop.invariant.2,
+  (let before = c.loop.invariant.3 in let now = c.list.ensures.cause.later in omega (arith, before, now)),
+  if_told (g.D.Disk.told c.args.disk.now) _ (λ image told same are stands.
+      let under = told_of (g.D.Disk.told c.args.disk.now) image _ told c.loop.invariant.4 same are stands in
+      let lists = told_of (g.D.Disk.told c.loop.disk) image _ (c.loop.invariant.2 ∙ told) (rw c.in-Ok-Some.field-0-is at c.in-Ok-Some.ensures.list) under.met are under.stands in
+      goes_on image c.args.bounds.now c.loop.met c.loop.bytes c.loop.base c.loop.holder (c.args.bounds.now.high + 1) c.loop.counter under c.list.new.met c.list.new.bytes c.in-Ok-Some.next c.loop-test.true lists),
+)
 
 pub returns-clause-chain : goal.returns-clause-chain
 returns-clause-chain g c = if_told (g.D.Disk.told c.args.disk.now) _ (λ image told same are stands.

@@ -30,8 +30,8 @@ pub returns-in-Err-claim-clause-list : goal.returns-in-Err-claim-clause-list
 returns-in-Err-claim-clause-list g c = if_told (g.D.Disk.told c.args.disk.now) _ (λ image told list are stands lists.
     let so = c.in-Ok.ensures image.at list are stands in
     stops_next image.at c.args.holder (listed_at c.args.bytes.now c.args.base) list c.long_at-next.result
-        (at_first c.args.bytes.now c.args.base c.long_at-next.result c.long_at-next.ensures) (real c.long_at-next.result c.if-next-eq0.false) (real_at c.args.bytes.now c.args.base c.word_at.result c.word_at.ensures c.if-word_at-eq0.false)
-        so.0 so.1 c.in-Err-claim.broken lists (c.in-Err-claim.ensures.walk image.at so.0 are so.2))
+    (at_first c.args.bytes.now c.args.base c.long_at-next.result c.long_at-next.ensures) (real c.long_at-next.result c.if-next-eq0.false) (real_at c.args.bytes.now c.args.base c.word_at.result c.word_at.ensures c.if-word_at-eq0.false)
+    so.0 so.1 c.in-Err-claim.broken lists (c.in-Err-claim.ensures.walk image.at so.0 are so.2))
 
 -- src/chains.rt:63:9
 pub returns-then-word_at-gt50-clause-list : goal.returns-then-word_at-gt50-clause-list
@@ -40,15 +40,21 @@ returns-then-word_at-gt50-clause-list g c = if_told (g.D.Disk.told c.args.disk.n
     let on = c.in-Ok-claim.ensures.walk image.at so.0 are so.2 in
     let same = given (g.D.Disk.told c.args.disk.now) image c.read.new.into c.long_at-next.result told c.in-Ok-read.ensures.bytes in
     stops_count image.at c.args.holder (listed_at c.args.bytes.now c.args.base) list c.long_at-next.result
-        (at_first c.args.bytes.now c.args.base c.long_at-next.result c.long_at-next.ensures) (real c.long_at-next.result c.if-next-eq0.false) (real_at c.args.bytes.now c.args.base c.word_at.result c.word_at.ensures c.if-word_at-eq0.false)
-        so.0 so.1 on.0 lists on.1 (more_at c.read.new.into (image.at c.long_at-next.result) c.word_at-2.result same c.word_at-2.ensures c.if-word_at-gt50.true))
+    (at_first c.args.bytes.now c.args.base c.long_at-next.result c.long_at-next.ensures) (real c.long_at-next.result c.if-next-eq0.false) (real_at c.args.bytes.now c.args.base c.word_at.result c.word_at.ensures c.if-word_at-eq0.false)
+    so.0 so.1 on.0 lists on.1 (more_at c.read.new.into (image.at c.long_at-next.result) c.word_at-2.result same c.word_at-2.ensures c.if-word_at-gt50.true))
 
 -- src/chains.rt:34:1
 pub returns-clause-list : goal.returns-clause-list
 returns-clause-list g c = if_told (g.D.Disk.told c.args.disk.now) _ (λ image told list are stands.
     let so = c.in-Ok.ensures image.at list are stands in
     let on = c.in-Ok-claim.ensures.walk image.at so.0 are so.2 in
-    let same = given (g.D.Disk.told c.args.disk.now) image c.read.new.into c.long_at-next.result told c.in-Ok-read.ensures.bytes in
-    (same, λ lists. (on.0, leads_next image.at c.args.holder (listed_at c.args.bytes.now c.args.base) list c.long_at-next.result
-        (at_first c.args.bytes.now c.args.base c.long_at-next.result c.long_at-next.ensures) (real c.long_at-next.result c.if-next-eq0.false) (real_at c.args.bytes.now c.args.base c.word_at.result c.word_at.ensures c.if-word_at-eq0.false)
-        so.0 so.1 on.0 lists on.1 (few_at c.read.new.into (image.at c.long_at-next.result) c.word_at-2.result same c.word_at-2.ensures c.if-word_at-gt50.false), on.2)))
+    let same = given (g.D.Disk.told c.args.disk.now) image c.read.new.into c.long_at-next.result told c.in-Ok-read.ensures.bytes in (
+      same,
+      λ lists. (
+        on.0,
+        leads_next image.at c.args.holder (listed_at c.args.bytes.now c.args.base) list c.long_at-next.result
+            (at_first c.args.bytes.now c.args.base c.long_at-next.result c.long_at-next.ensures) (real c.long_at-next.result c.if-next-eq0.false) (real_at c.args.bytes.now c.args.base c.word_at.result c.word_at.ensures c.if-word_at-eq0.false)
+            so.0 so.1 on.0 lists on.1 (few_at c.read.new.into (image.at c.long_at-next.result) c.word_at-2.result same c.word_at-2.ensures c.if-word_at-gt50.false),
+        on.2,
+      ),
+    ))

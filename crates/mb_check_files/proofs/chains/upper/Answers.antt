@@ -19,16 +19,22 @@ returns-in-Err c blocks list are stands =
     let wide = c.from-count.ensures in
     let stop = c.in-Err.ensures.walk blocks so.0 are so.2 in
     each_stops (λ place. free_items blocks c.args.holder (long_at c.args.bytes.now (c.args.base + 2 + 4 * place))) list so.0 c.in-Err.broken 1 (p - 1) p (word_at c.args.bytes.now c.args.base - 1)
-        (omega arith) (omega arith) so.1 (subst (λ a. walked so.0 (free_items blocks c.args.holder a) ≡ Err c.in-Err.broken) c.long_at.ensures stop)
+    (omega arith) (omega arith) so.1 (subst (λ a. walked so.0 (free_items blocks c.args.holder a) ≡ Err c.in-Err.broken) c.long_at.ensures stop)
 
 pub loop-place-preserved : goal.loop-place-preserved
-loop-place-preserved c = (let less = c.loop-place-test.true in omega arith, λ blocks list are stands.
-    let so = c.loop-place.invariant.1 blocks list are stands in
-    let p : ℕ = c.loop-place.place in
-    let from = c.loop-place.auto.place in
-    let next = c.in-Ok.ensures.walk blocks so.0 are so.2 in
-    (next.0, each_more (λ place. free_items blocks c.args.holder (long_at c.args.bytes.now (c.args.base + 2 + 4 * place))) list so.0 next.0 1 (p - 1) p (p + 1 - 1)
-        (omega arith) (omega arith) so.1 (subst (λ a. walked so.0 (free_items blocks c.args.holder a) ≡ Ok next.0) c.long_at.ensures next.1), next.2))
+loop-place-preserved c = (
+  let less = c.loop-place-test.true in omega arith,
+  λ blocks list are stands.
+      let so = c.loop-place.invariant.1 blocks list are stands in
+      let p : ℕ = c.loop-place.place in
+      let from = c.loop-place.auto.place in
+      let next = c.in-Ok.ensures.walk blocks so.0 are so.2 in (
+        next.0,
+        each_more (λ place. free_items blocks c.args.holder (long_at c.args.bytes.now (c.args.base + 2 + 4 * place))) list so.0 next.0 1 (p - 1) p (p + 1 - 1)
+            (omega arith) (omega arith) so.1 (subst (λ a. walked so.0 (free_items blocks c.args.holder a) ≡ Ok next.0) c.long_at.ensures next.1),
+        next.2,
+      ),
+)
 
 pub returns : goal.returns
 returns c blocks list are stands =

@@ -42,6 +42,6 @@ loop-place-preserved g c = record {
       let listed = told_of (g.D.Disk.told c.loop-place.disk) image _ (c.loop-place.invariant.told ∙ told) c.in_ok-inode.ensures.listed (8 * (c.args.number - 2) + 1 + c.loop-place.place) reads in
       subst (KeepsInodes image.at (record { inodes = c.push.new.self; parts = c.inode.new.parts })) (let e : 8 * (c.args.number - 2) + c.loop-place.place + 1 ≡ 8 * (c.args.number - 2) + (c.loop-place.place + 1) = omega arith in e)
       (keeps_more image.at c.loop-place.table (record { inodes = c.push.new.self; parts = c.inode.new.parts }) (8 * (c.args.number - 2) + c.loop-place.place) _ before c.in_ok-push.ensures.items c.in_ok-inode.ensures.kept
-          (keeps_found image.at c.args.number c.inode.new.parts.addresses.items c.loop-place.table.parts.addresses.items (8 * (c.args.number - 2) + 1 + c.loop-place.place) (8 * (c.args.number - 2) + c.loop-place.place + 1) c.read-found.result c.place-first.result (omega arith) c.place-first.ensures reads listed)));
+      (keeps_found image.at c.args.number c.inode.new.parts.addresses.items c.loop-place.table.parts.addresses.items (8 * (c.args.number - 2) + 1 + c.loop-place.place) (8 * (c.args.number - 2) + c.loop-place.place + 1) c.read-found.result c.place-first.result (omega arith) c.place-first.ensures reads listed)));
   few = (let a = c.in_ok-inode.ensures.few.paid in let b = c.loop-place.invariant.few in omega (arith, a, b));
 }

@@ -25,9 +25,9 @@ returns-in_err-block_inodes-clause-walk g c = if_told (g.D.Disk.told c.args.disk
     rw (came_from c.from_residual-in_err-block_inodes.result c.in_err-block_inodes.field-0.0 c.from_residual-in_err-block_inodes.ensures)
     (passes_on c.in_err-block_inodes.field-0.0 c.block_inodes.new.met c.block_inodes.new.met so.0 list _ _
     (λ broken h. let more : 8 * (c.loop-number.number - 2) + 8 ≤ 8 * (c.args.bounds.now.low - 2) = (let a = c.loop-number.auto.number in let b = c.loop-number-test.true in omega (arith, a, b)) in
-        ap (λ n. walked list (each_from (inode_items image.at) 1 (8 * (n - 2)))) are.low
-        ∙ each_early (inode_items image.at) list broken 1 (8 * (c.loop-number.number - 2) + 8) (8 * (c.args.bounds.now.low - 2)) more
-            (each_join (inode_items image.at) list so.0 _ 1 (8 * (c.loop-number.number - 2)) (8 * (c.loop-number.number - 2) + 1) 8 (omega arith) so.1 h))
+    ap (λ n. walked list (each_from (inode_items image.at) 1 (8 * (n - 2)))) are.low
+    ∙ each_early (inode_items image.at) list broken 1 (8 * (c.loop-number.number - 2) + 8) (8 * (c.args.bounds.now.low - 2)) more
+    (each_join (inode_items image.at) list so.0 _ 1 (8 * (c.loop-number.number - 2)) (8 * (c.loop-number.number - 2) + 1) 8 (omega arith) so.1 h))
     (told_of (g.D.Disk.told c.read.new.self) image _ (c.read.ensures.told ∙ here) c.in_err-block_inodes.ensures.walk so.0 same are so.2)))
 
 pub loop-number-preserved : goal.loop-number-preserved
@@ -39,9 +39,12 @@ loop-number-preserved g c = record {
       let so = told_of (g.D.Disk.told c.args.disk.now) image _ told c.loop-number.invariant.walk list are stands in
       let same = given (g.D.Disk.told c.loop-number.disk) image c.read.new.into c.loop-number.number here c.in_ok-read.ensures.bytes in
       let next = told_of (g.D.Disk.told c.read.new.self) image _ (c.read.ensures.told ∙ here) c.in_ok-block_inodes.ensures.walk so.0 same are so.2 in
-      let e : 8 * (c.loop-number.number - 2) + 8 ≡ 8 * (c.loop-number.number + 1 - 2) = (let a = c.loop-number.auto.number in omega (arith, a)) in
-      (next.0, ap (λ n. walked list (each_from (inode_items image.at) 1 n)) (sym e)
-          ∙ each_join (inode_items image.at) list so.0 _ 1 (8 * (c.loop-number.number - 2)) (8 * (c.loop-number.number - 2) + 1) 8 (omega arith) so.1 next.1, next.2));
+      let e : 8 * (c.loop-number.number - 2) + 8 ≡ 8 * (c.loop-number.number + 1 - 2) = (let a = c.loop-number.auto.number in omega (arith, a)) in (
+        next.0,
+        ap (λ n. walked list (each_from (inode_items image.at) 1 n)) (sym e)
+            ∙ each_join (inode_items image.at) list so.0 _ 1 (8 * (c.loop-number.number - 2)) (8 * (c.loop-number.number - 2) + 1) 8 (omega arith) so.1 next.1,
+        next.2,
+      ));
   kept = if_told (g.D.Disk.told c.args.disk.now) _ (λ image told keeps.
       let here = c.loop-number.invariant.told ∙ told in
       let same = given (g.D.Disk.told c.loop-number.disk) image c.read.new.into c.loop-number.number here c.in_ok-read.ensures.bytes in

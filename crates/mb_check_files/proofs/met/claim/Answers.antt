@@ -15,10 +15,12 @@ pub returns-then-met-at-clause-walk : goal.returns-then-met-at-clause-walk
 returns-then-met-at-clause-walk c blocks list are stands = again blocks list c.args.met.now c.args.bounds.now c.args.holder c.args.rule c.args.address are stands c.if-address-bounds.false c.if-bounds-address.false (let room = c.requires in let less = c.if-bounds-address.false in omega arith) c.if-met-at.true
 
 pub returns-clause-walk : goal.returns-clause-walk
-returns-clause-walk c blocks list are stands = 
-    let inside : c.args.address < length c.args.met.now = (let room = c.requires in let less = c.if-bounds-address.false in omega arith) in
-    (c.args.address ∷ list, new blocks list c.args.met.now c.args.bounds.now c.args.holder c.args.rule c.args.address are stands c.if-address-bounds.false c.if-bounds-address.false inside c.if-met-at.false,
-     stands_more list c.args.met.now c.args.address stands inside c.if-met-at.false)
+returns-clause-walk c blocks list are stands =
+    let inside : c.args.address < length c.args.met.now = (let room = c.requires in let less = c.if-bounds-address.false in omega arith) in (
+      c.args.address ∷ list,
+      new blocks list c.args.met.now c.args.bounds.now c.args.holder c.args.rule c.args.address are stands c.if-address-bounds.false c.if-bounds-address.false inside c.if-met-at.false,
+      stands_more list c.args.met.now c.args.address stands inside c.if-met-at.false,
+    )
 
 pub returns-clause-count : goal.returns-clause-count
 returns-clause-count c = (let e = count_more c.args.met.now c.args.address (let room = c.requires in let less = c.if-bounds-address.false in omega arith) c.if-met-at.false in omega (arith, e))

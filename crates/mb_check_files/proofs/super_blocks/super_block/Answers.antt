@@ -25,9 +25,11 @@ returns-then-not-are_counts-clause-walk g c = if_told (g.D.Disk.told c.args.disk
 pub returns-clause-walk : goal.returns-clause-walk
 returns-clause-walk g c = if_told (g.D.Disk.told c.args.disk.now) _ (λ image told.
     let count = told_of (g.D.Disk.told c.args.disk.now) image _ told c.in_ok-blocks.ensures.count in
-    let same = given (g.D.Disk.told c.blocks-2.new.self) image c.read.new.into 1 (c.blocks-2.ensures.told ∙ told) c.in_ok-read.ensures.bytes in
-    ([], super_passes image c.in_ok-blocks.blocks count c.if-blocks-lt2.false (ap (λ b. are_sizes b c.in_ok-blocks.blocks) (sym same) ∙ sym c.are_sizes.ensures ∙ c.if-not-are_sizes.false)
-    (ap are_counts (sym same) ∙ sym c.are_counts.ensures ∙ c.if-not-are_counts.false)))
+    let same = given (g.D.Disk.told c.blocks-2.new.self) image c.read.new.into 1 (c.blocks-2.ensures.told ∙ told) c.in_ok-read.ensures.bytes in (
+      [],
+      super_passes image c.in_ok-blocks.blocks count c.if-blocks-lt2.false (ap (λ b. are_sizes b c.in_ok-blocks.blocks) (sym same) ∙ sym c.are_sizes.ensures ∙ c.if-not-are_sizes.false)
+          (ap are_counts (sym same) ∙ sym c.are_counts.ensures ∙ c.if-not-are_counts.false),
+    ))
 
 pub returns-clause-passes : goal.returns-clause-passes
 returns-clause-passes g c = if_told (g.D.Disk.told c.args.disk.now) _ (λ image told.
