@@ -1,0 +1,13 @@
+pub mod Claims
+pub mod Eachs
+pub mod Listing
+pub mod Underways
+pub mod Notings
+pub mod Addressing
+pub mod Stopping
+pub mod UnderIndexes
+pub mod AreaParts
+pub mod Covering
+pub mod InodeWalks
+pub mod Tables
+pub mod SuperTests
