@@ -1,0 +1,4 @@
+pub mod Lines
+pub mod Makes
+pub mod Words
+pub mod Worked
