@@ -11,4 +11,3 @@ pub(crate) fn count_fault(faults: &mut u64) -> Failed
     *faults = faults.saturating_add(1);
     Failed
 }
-

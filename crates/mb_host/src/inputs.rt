@@ -33,4 +33,3 @@ impl<R: Read + Drop> Source for InSource<R> {
         }
     }
 }
-

@@ -33,4 +33,3 @@ impl<W: Write + Drop> Sink for OutSink<W> {
         }
     }
 }
-

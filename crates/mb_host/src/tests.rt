@@ -1,8 +1,7 @@
 use crate::{FileDisk, InSource, OutSink, Word8};
 use mb_edge::{Disk, Failed, Sink, Source};
-use std::fs;
-use std::io;
 use std::test::Fail;
+use std::{fs, io};
 
 fn named<R: AllocGlobal>(rt: &R, path: &str) -> Result<Word8, Fail> {
     Ok(Word8::from_vec(path.as_bytes().to_vec(rt.alloc())?))
@@ -41,7 +40,11 @@ fn a_file_is_made_or_emptied(rt: HostRuntime) -> Result<(), Fail> {
     let path = "made_disk_test";
     fs::write(&rt, path, vec![in rt.alloc(); 7; 2048]?.as_slice())?;
     let mut disk = FileDisk::new(&rt, named(&rt, path)?, true);
-    assert_eq!(rt; disk.blocks(), Ok(0), "the file is emptied at the first call");
+    assert_eq!(rt;
+        disk.blocks(),
+        Ok(0),
+        "the file is emptied at the first call"
+    );
     assert_eq!(rt; disk.write(0, &[5; 512]), Ok(()));
     assert_eq!(rt; disk.blocks(), Ok(1));
     fs::remove_file(&rt, path)?;
