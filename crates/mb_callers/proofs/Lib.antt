@@ -1,0 +1,3 @@
+pub mod CopyLoops
+pub mod PinSteps
+pub mod UndoSteps
