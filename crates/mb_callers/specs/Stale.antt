@@ -1,7 +1,10 @@
 -- Which block that was handed out is stale.
-use Rattle.std.specs.Prelude.{ℕ, Bool, false, ◌&&◌, if◌then◌else◌, Option, None, Some, min, fold, nat_eq, bytes_eq}
+use Rattle.std.specs.Prelude.{ℕ, ◌≡◌, ◌<◌, Bool, false, ◌&&◌, if◌then◌else◌, Option, None, Some, min, fold, nat_eq, bytes_eq}
 use Rattle.mb_cache.specs.Stamps.{Stamps, stamp_of}
-use Rattle.mb_core_spec.specs.Copies.{CopyList, KeptBlock, kept_at}
+use Rattle.mb_core_spec.specs.Copies.{CopyList, IsFresh, KeptBlock, LiveTables, PagesState, kept_at}
+use Rattle.mb_callers.specs.Tables.{AreTablesFresh}
+
+-- ---- blocks
 
 -- a copy has these bytes and this stamp
 abbrev pub is_same : Option KeptBlock → ℕ → KeptBlock → Bool
@@ -23,3 +26,19 @@ stale_step copies stamps least page = if is_fresh copies stamps page then least 
 -- the least block of those pages that are stale
 abbrev pub least_stale : CopyList → Stamps → CopyList → Option ℕ
 least_stale copies stamps pages = fold (stale_step copies stamps) None pages
+
+-- ---- blocks and tables
+
+-- what was handed out of a block is what is kept, and it did not change since; block 0 stands for the tables
+pub record IsFreshAt (shared : Bool) (caller : ℕ) (stamps : Stamps) (live : LiveTables) (mine pages : PagesState) (block : ℕ) : Type 0 where
+  pub page : (page : KeptBlock) → kept_at pages.blocks block ≡ Some page → IsFresh mine.blocks stamps block page
+  pub tables : block ≡ 0 → AreTablesFresh shared caller live mine.tables pages.tables
+
+-- nothing that was handed out is stale
+abbrev pub AllFresh : Bool → ℕ → Stamps → LiveTables → PagesState → PagesState → Type 0
+AllFresh shared caller stamps live mine pages = (block : ℕ) → IsFreshAt shared caller stamps live mine pages block
+
+-- the least block of which that is not so
+pub record IsLeastStale (shared : Bool) (caller : ℕ) (stamps : Stamps) (live : LiveTables) (mine pages : PagesState) (block : ℕ) : Type 0 where
+  pub stale : IsFreshAt shared caller stamps live mine pages block → ⊥
+  pub below : (other : ℕ) → other < block → IsFreshAt shared caller stamps live mine pages other

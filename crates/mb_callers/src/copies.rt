@@ -1,4 +1,6 @@
 ghost use Rattle.std.specs.Prelude.{◌≡◌, ◌≤◌, ◌<◌, ◌+◌, [], ℕ, length, OnOk, IsOk, Some, option_copied, nat_eq};
+ghost use Rattle.std.specs.List.{IsDistinct};
+ghost use Rattle.std.specs.Map.{keys_of};
 ghost use Rattle.indexmap.specs.IndexMap.{insert_entry};
 ghost use Rattle.mb_core_spec.specs.Copies.{kept_at};
 ghost use Rattle.mb_callers.specs.Reads.{stored};
@@ -165,7 +167,8 @@ impl Copies {
 
     /// The least block of the pages that is not kept with the same bytes and the present stamp.
     pub fn least_stale<D: Disk>(&self, pages: &Copies, cache: &Cache<D>) -> Option<u32>
-        ensures { result ≡ least_stale self.now.items cache.now.stamps pages.now.items }
+        ensures least { result ≡ least_stale self.now.items cache.now.stamps pages.now.items }
+        ensures once { IsDistinct nat_eq (keys_of pages.now.items) }
     {
         let mut least = None;
         for at in 0..pages.map.len() {

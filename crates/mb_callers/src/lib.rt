@@ -3,5 +3,10 @@
 #![tactic(auto)]
 
 mod copies;
+mod gathering;
+mod pages;
 mod reads;
+mod tables;
 mod undoing;
+pub use pages::Pages;
+pub use tables::TablesNow;

@@ -2,7 +2,7 @@ ghost use Rattle.std.specs.Prelude.{◌≡◌, ◌≤◌, ◌+◌, ◌++◌, [],
 ghost use Rattle.mb_cache.specs.Stamps.{stamp_of};
 ghost use Rattle.mb_callers.specs.Reads.{pin_steps};
 ghost use Rattle.mb_core_spec.specs.Callers.{total};
-ghost use Rattle.mb_core_spec.specs.Events.{GivesBack};
+ghost use Rattle.mb_core_spec.specs.Events.{GivesBack, first_undo, floor_undo};
 ghost use Rattle.mb_core_spec.specs.Flights.{is_pin};
 
 use crate::reads::Reads;
@@ -43,5 +43,36 @@ pub(crate) fn give_back<D: Disk>(undo: &mut Ulog, cache: &mut Cache<D>)
             Undo::Pinned(block) => cache.unpin(block),
             Undo::Entered | Undo::Reserved(_) | Undo::Floor => {}
         }
+    }
+}
+
+/// Notes in an empty undo log that a call entered, and which descriptor it reserved; needs no memory.
+pub(crate) fn note_entered(undo: &mut Ulog, reserved: Option<u16>)
+    requires empty { undo.old.items ≡ [] }
+    requires room { 3 ≤ undo.old.spare }
+    ensures log { undo.new.items ≡ first_undo reserved }
+    ensures room { 3 ≤ length undo.new.items + undo.new.spare }
+    ensures floor { 1 ≤ undo.new.spare }
+{
+    let Ok(()) = undo.push(Undo::Entered) else {
+        unreachable!()
+    };
+    if let Some(fd) = reserved {
+        let Ok(()) = undo.push(Undo::Reserved(fd)) else {
+            unreachable!()
+        };
+    }
+}
+
+/// Notes in an undo log that a call took the right to commit alone, where it has it; needs no memory.
+pub(crate) fn note_floor(undo: &mut Ulog, caller: u8, floor: Option<u8>)
+    requires { 1 ≤ undo.old.spare }
+    ensures log { undo.new.items ≡ undo.old.items ++ floor_undo caller floor }
+    ensures room { length undo.old.items + undo.old.spare ≤ length undo.new.items + undo.new.spare }
+{
+    if floor == Some(caller) {
+        let Ok(()) = undo.push(Undo::Floor) else {
+            unreachable!()
+        };
     }
 }
