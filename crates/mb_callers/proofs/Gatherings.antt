@@ -63,7 +63,7 @@ pub stored_kept : (view : Option Image) (stamps : Stamps) (copies reads : CopyLi
 stored_kept view stamps copies [] first block kept are here = inl here
 stored_kept view stamps copies (read ∷ reads) first block kept are here = elim (stored_kept view stamps (insert_entry nat_eq copies read.0 read.1) reads (first + 1) block kept are.1 here) [
   | inl before ↦ elim (new_or_old (nat_eq block read.0) read.1 kept (kept_at copies block) (sym (kept_stored copies read.0 read.1 block) ∙ before)) [
-      | inl new ↦ (
+    | inl new ↦ (
         let at : block ≡ read.0 = grind (arith, nat_tests, new.0) in
         let one = are.0 in
         inr (record {
@@ -71,8 +71,8 @@ stored_kept view stamps copies (read ∷ reads) first block kept are here = elim
           bytes = subst (λ (k : KeptBlock). IfSome view (λ (image : Image). k.bytes ≡ image.at block)) new.1 (subst (λ n. IfSome view (λ (image : Image). read.1.bytes ≡ image.at n)) (sym one.block_is ∙ sym at) one.bytes);
           stamp = ap (λ (k : KeptBlock). k.stamp) (sym new.1) ∙ one.stamp ∙ ap (stamp_of stamps) (sym one.block_is ∙ sym at);
         }))
-      | inr old ↦ inl old
-    ]
+    | inr old ↦ inl old
+  ]
   | inr new ↦ inr new
 ]
 

@@ -38,7 +38,7 @@ kept_fresh (Some other) copy stamp page has bytes is =
 module _ (copies : CopyList) (stamps : Stamps) where
   pub is_fresh_page : (block : ℕ) (page : KeptBlock) → is_fresh copies stamps (block, page) ≡ true → IsFresh copies stamps block page
   is_fresh_page block page is = let found = fresh_kept (kept_at copies block) (stamp_of stamps block) page is in
-    record { copy = found.0; has = found.1; bytes = found.2; stamp = found.3 }
+      record { copy = found.0; has = found.1; bytes = found.2; stamp = found.3 }
 
   pub fresh_page_is : (block : ℕ) (page : KeptBlock) → IsFresh copies stamps block page → is_fresh copies stamps (block, page) ≡ true
   fresh_page_is block page fresh = kept_fresh (kept_at copies block) fresh.copy (stamp_of stamps block) page fresh.has fresh.bytes fresh.stamp
@@ -124,9 +124,9 @@ module _ (copies : CopyList) (stamps : Stamps) where
     ];
     found = λ block is. elim (rest.found block is) [
       | inl before ↦ elim (lesser_one least head.0 block before) [
-          | inl so ↦ inl so
-          | inr here ↦ inr (head.1, ap (kept_at (head ∷ pages)) here ∙ kept_head head pages, ap (λ b. is_fresh copies stamps (b, head.1)) here ∙ stale)
-        ]
+        | inl so ↦ inl so
+        | inr here ↦ inr (head.1, ap (kept_at (head ∷ pages)) here ∙ kept_head head pages, ap (λ b. is_fresh copies stamps (b, head.1)) here ∙ stale)
+      ]
       | inr found ↦ inr (found_later head pages block once found)
     ];
     low = λ n is. at_most_less result (lesser least head.0) n (rest.low (lesser least head.0) refl) (lesser_before least n head.0 is);
@@ -140,9 +140,9 @@ module _ (copies : CopyList) (stamps : Stamps) where
   }
   tells (head ∷ pages) least once = elim (is_fresh copies stamps head) as (λ b. is_fresh copies stamps head ≡ b → Told (cond b least (Some (lesser least head.0))) (fold (stale_step copies stamps) (cond b least (Some (lesser least head.0))) pages) pages
       → Told least (fold (stale_step copies stamps) (cond b least (Some (lesser least head.0))) pages) (head ∷ pages)) [
-    | true ↦ λ test rest. passed head pages least _ once test rest
-    | false ↦ λ test rest. lowered head pages least _ once test rest
-  ] refl (tells pages (stale_step copies stamps least head) (IsDistinct-tail nat_eq head.0 (keys_of pages) once))
+        | true ↦ λ test rest. passed head pages least _ once test rest
+        | false ↦ λ test rest. lowered head pages least _ once test rest
+      ] refl (tells pages (stale_step copies stamps least head) (IsDistinct-tail nat_eq head.0 (keys_of pages) once))
 
   none_stale : (result : Option ℕ) (pages : CopyList) → Told None result pages → result ≡ None → (block : ℕ) (page : KeptBlock) → kept_at pages block ≡ Some page → IsFresh copies stamps block page
   none_stale result pages told none block page here = elim (told.each block page here) [

@@ -71,9 +71,7 @@ fn pin_tables<D: Disk>(undo: &mut Ulog, cache: &mut Cache<D>)
     ensures pins { GivesBack cache.new.pins cache.old.pins (undo_step.Pinned 0 ∷ []) }
     ensures room { length undo.old.items + undo.old.spare ≤ length undo.new.items + undo.new.spare }
 {
-    let Ok(()) = cache.pin(0) else {
-        unreachable!()
-    };
+    let Ok(()) = cache.pin(0) else { unreachable!() };
     let Ok(()) = undo.push(Undo::Pinned(0)) else {
         unreachable!()
     };

@@ -92,9 +92,7 @@ impl KeptTables {
     fn is_same(&self, given: &KeptTables, stamp: u64) -> bool
         ensures { (live : LiveTables) → live.stamp ≡ stamp → Decides result (TablesAreFresh true 0 live self.now given.now) }
     {
-        self.stamp == stamp
-            && given.sessions.same(&self.sessions)
-            && given.opens.same(&self.opens)
+        self.stamp == stamp && given.sessions.same(&self.sessions) && given.opens.same(&self.opens)
     }
 }
 
