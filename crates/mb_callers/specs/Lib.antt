@@ -1,0 +1,5 @@
+pub mod CallerLaws
+pub mod Gathering
+pub mod Reads
+pub mod Stale
+pub mod Tables
