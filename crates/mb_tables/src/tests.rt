@@ -5,10 +5,10 @@ use mb_tree::{FsOp, SessionChange};
 use std::alloc::Global;
 
 fn two_callers(alloc: Global) -> Result<Tables, NoMemory> {
-    let mut callers = Creds::new(alloc);
+    let mut callers = Vec::new(alloc);
     callers.push(Cred { uid: 1, gid: 1 })?;
     callers.push(Cred { uid: 2, gid: 1 })?;
-    Tables::new(alloc, &callers)
+    Tables::new(alloc, &Creds::from_vec(callers))
 }
 
 #[test]
