@@ -1,0 +1,12 @@
+pub mod Callers
+pub mod Calls
+pub mod Folds
+pub mod Job
+pub mod Keys
+pub mod Lists
+pub mod Numbers
+pub mod Orders
+pub mod Paths
+pub mod Rules
+pub mod Verbs
+pub mod Words

@@ -1,0 +1,4 @@
+pub mod Causes
+pub mod Places
+pub mod Replies
+pub mod Transcript
