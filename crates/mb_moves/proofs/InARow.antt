@@ -1,6 +1,5 @@
 -- Steps in a row are one step.
-use Rattle.std.proofs.Common.{ℕ, ◌≡◌, ◌<◌, Bool, List, [], Option, None, refl, sym, ap, subst}
-use Rattle.std.proofs.Math.Path.{fun_ext}
+use Rattle.std.proofs.Common.{ℕ, ◌≡◌, ◌<◌, Bool, List, [], refl, sym, ap, subst}
 use Rattle.mb_kinds.specs.Image.{Image}
 use Rattle.mb_tree.specs.Views.{over}
 use Rattle.mb_tree.specs.Volume.{IsVolume}

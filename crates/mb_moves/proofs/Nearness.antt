@@ -1,8 +1,7 @@
 -- What is near is the super-block, the i-list, what is free, and what the looked-at inodes hold.
-use Rattle.std.proofs.Common.{ℕ, ◌≡◌, ◌⊎◌, inl, inr, ◌<◌, ◌≤◌, Bool, true, false, ◌&&◌, List, refl, sym, ap, subst, ◌∙◌, arith}
+use Rattle.std.proofs.Common.{ℕ, ◌≡◌, ◌<◌, Bool, true, false, ◌&&◌, List, refl, sym, ap, subst, ◌∙◌, arith}
 use Rattle.std.specs.List.{Contains}
 use Rattle.mb_kinds.specs.Image.{Image}
-use Rattle.mb_word.specs.Fields.{isize_of}
 use Rattle.mb_tree.specs.Blocks.{pointers, first_list, list_in}
 use Rattle.mb_tree.specs.Places.{Place, at, IsPlace}
 use Rattle.mb_tree.specs.Places.Place.{Top, Under}
@@ -10,7 +9,7 @@ use Rattle.mb_tree.specs.Volume.{has_addresses}
 use Rattle.mb_tree.specs.declared.trees.Tree.{Tree}
 use Rattle.mb_tree.proofs.Chains.{chain_once}
 use Rattle.mb_tree.proofs.KeptVolumes.{isize_kept}
-use Rattle.mb_iface.specs.Near.{IsNear, top_of}
+use Rattle.mb_iface.specs.Near.{top_of}
 use Rattle.mb_iface.specs.Near.IsNear.{super_block, inode_list, free, held}
 use Rattle.mb_blocks.specs.Laid.{IsHad}
 use Rattle.mb_blocks.specs.Laid.IsHad.{by_none, by_place}

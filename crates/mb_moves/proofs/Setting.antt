@@ -1,5 +1,5 @@
 -- Steps at one inode that set no address.
-use Rattle.std.proofs.Common.{ℕ, ◌≡◌, ◌≢◌, ◌+◌, ◌*◌, ◌/◌, ◌%◌, ◌<◌, ◌≤◌, Bool, true, List, [], length, Some, slice_set, refl, sym, ap, subst, ◌∙◌, arith}
+use Rattle.std.proofs.Common.{ℕ, ◌≡◌, ◌≢◌, ◌/◌, ◌%◌, ◌<◌, ◌≤◌, Bool, true, List, [], length, Some, slice_set, refl, sym, ap, subst, ◌∙◌, arith}
 use Rattle.std.specs.FinMap as fin
 use Rattle.mb_kinds.specs.Image.{Image}
 use Rattle.mb_word.specs.Fields.{isize_of, inode_block, inode_place, size_of}
@@ -18,7 +18,7 @@ use Rattle.mb_blocks.proofs.Pointing.{its_pointers}
 use Rattle.mb_nodes.specs.Bodies.{IsSlotSet, KeepsBody}
 use Rattle.mb_nodes.specs.Stored.{Follows, IsStored, with_node}
 use Rattle.mb_nodes.specs.Underway.{AgreesOff, IsUnderway}
-use Rattle.mb_nodes.proofs.NodeParts.{addressed, node_stored, slots_few}
+use Rattle.mb_nodes.proofs.NodeParts.{node_stored, slots_few}
 use Rattle.mb_nodes.proofs.Setting.{put_now, set_now, sized_now}
 use Rattle.mb_nodes.proofs.SlotSetting.{slot_now}
 use Rattle.mb_nodes.proofs.Underway.{after_rewriting, after_writing, begun, mine_listed}
