@@ -1,3 +1,4 @@
+pub mod Clearing
 pub mod Erasing
 pub mod Freeing
 pub mod Walking

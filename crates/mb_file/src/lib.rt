@@ -7,9 +7,11 @@
 //! (`specs/Erasing.antt`): from blocks that store a tree to blocks that store it without the node.
 #![tactic(auto)]
 
+mod clears;
 mod erases;
 mod frees;
 mod walks;
 
+pub use clears::empty;
 pub use erases::{erase, erase_in};
 pub use mb_alloc::Hung;
