@@ -101,8 +101,7 @@ module _ (shown : ℕ → Option (List ℕ)) (old : ChangeList) (ino : ℕ) wher
     ],
     λ image tree chain part stored looks node erasable.
         (let base = with_changes image old in
-        let went = step.1 base tree chain (shown_part shown old image.at part) (subst (λ i. IsStored i tree chain) (sym (itself base)) stored) looks node erasable in
-        (
+        let went = step.1 base tree chain (shown_part shown old image.at part) (subst (λ i. IsStored i tree chain) (sym (itself base)) stored) looks node erasable in (
           went.0,
           subst (λ (now : ℕ → List ℕ). Advances base tree looks now (without_node tree ino) went.0) (sym (wrote image.at))
               (subst (λ i. Advances i tree looks (over base.at (changed later)) (without_node tree ino) went.0) (itself base) went.1),

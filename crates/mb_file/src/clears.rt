@@ -37,13 +37,7 @@ pub fn empty<V: View>(alloc: Global, view: &V, ino: u16, moment: u32) -> Acted
 
 /// Writes a regular file's inode as an empty file's, and puts its blocks back on the free chain. On any
 /// other answer than `Done` the changes are for letting go.
-fn clear<V: View>(
-    alloc: Global,
-    view: &V,
-    changes: &mut Changes,
-    ino: u16,
-    moment: u32,
-) -> Hung
+fn clear<V: View>(alloc: Global, view: &V, changes: &mut Changes, ino: u16, moment: u32) -> Hung
     ensures { Clears (V.shown view.now) changes.old changes.new ino moment result }
 {
     let inode = match read_inode(view, changes, ino) {

@@ -10,8 +10,11 @@
 mod clears;
 mod erases;
 mod frees;
+mod parts;
+mod reads;
 mod walks;
 
 pub use clears::empty;
 pub use erases::{erase, erase_in};
 pub use mb_alloc::Hung;
+pub use reads::read;
