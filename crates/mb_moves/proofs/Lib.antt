@@ -1,0 +1,13 @@
+pub mod Asking
+pub mod CacheWrites
+pub mod Done
+pub mod Dropping
+pub mod Growing
+pub mod Growth
+pub mod InARow
+pub mod Making
+pub mod Nearness
+pub mod Setting
+pub mod Touching
+pub mod Trees
+pub mod Within

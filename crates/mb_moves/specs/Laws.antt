@@ -1,9 +1,10 @@
 -- The laws of steps in a row, each the contract of a function without a body: the steps of stored trees, with what is
 -- near. Whatever the inodes are at which an operation looks, a step leaves no block near that was not near before; a
 -- step that frees an inode's blocks is one at an inode that is looked at.
-use Rattle.std.specs.Prelude.{List, [], ◌++◌, ℕ, ◌+◌, ◌*◌, ◌/◌, ◌%◌, ◌<◌, ◌≤◌, ◌≡◌, ◌≢◌, Bool, true, Option, Some, None, Ok, length, slice_set}
+use Rattle.std.specs.Prelude.{List, [], ◌++◌, ℕ, ◌+◌, ◌*◌, ◌/◌, ◌%◌, ◌<◌, ◌≤◌, ◌≡◌, ◌≢◌, Bool, true, Option, Some, None, Ok, Err, length, slice_set}
 use Rattle.std.specs.FinMap as fin
 use Rattle.mb_kinds.specs.Image.{Image}
+use Rattle.mb_kinds.specs.declared.errors.Errno.{Errno}
 use Rattle.mb_word.specs.Fields.{inode_block, inode_place, mode_of, size_of}
 use Rattle.mb_tree.specs.Blocks.{pointers, part_address}
 use Rattle.mb_tree.specs.Cost.{most_parts}
@@ -18,7 +19,7 @@ use Rattle.mb_tree.specs.declared.nodes.Node.{Node}
 use Rattle.mb_tree.specs.declared.nodes.PlainSlot.{PlainSlot}
 use Rattle.mb_tree.specs.declared.operations.FsOp.{FsOp}
 use Rattle.mb_tree.specs.declared.trees.Tree.{Tree}
-use Rattle.mb_iface.specs.Acting.{HasDone, Picks, with_changes}
+use Rattle.mb_iface.specs.Acting.{HasDone, HasRefused, Picks, with_changes}
 use Rattle.mb_iface.specs.Changed.{ChangeList, IsWithinView}
 use Rattle.mb_blocks.specs.FreeLists.{AreFreed, onto}
 use Rattle.mb_blocks.specs.Growing.{Reaches, missing}
@@ -64,6 +65,11 @@ abbrev pub OperationDone : Type 0
 OperationDone = (shown : ℕ → Option (List ℕ)) (image : Image) (tree next : Tree) (looks : ℕ → Bool) (opens : Counts) (op : FsOp) (demanded picked : Option ℕ) (changes : ChangeList)
     → IsVolume image tree → Fits tree opens op demanded → Picks tree op demanded picked → tree_after tree opens op picked ≡ Ok next
     → AdvancesTo image tree looks [] changes next → IsWithinView shown changes → HasDone shown image tree opens op demanded changes picked
+
+-- an operation whose effect on the tree is refused is refused
+abbrev pub OperationRefused : Type 0
+OperationRefused = (tree : Tree) (opens : Counts) (op : FsOp) (demanded picked : Option ℕ) (e : Errno) → Picks tree op demanded picked → tree_after tree opens op picked ≡ Err e
+    → HasRefused tree opens op demanded e
 
 -- mode, owner, times or link count set
 abbrev pub FieldsAdvance : Type 0

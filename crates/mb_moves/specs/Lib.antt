@@ -4,3 +4,4 @@ pub mod Looking
 pub mod Midway
 pub mod NeedLaws
 pub mod TreeLaws
+pub mod Worked

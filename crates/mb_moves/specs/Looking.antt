@@ -1,5 +1,5 @@
 -- The inodes at which an operation looks: those that it names, and the one to which the slot that it names leads.
-use Rattle.std.specs.Prelude.{List, ℕ, ◌≡◌, Bool, true, false, ◌||◌, ◌&&◌, nat_eq, Option, Some, None}
+use Rattle.std.specs.Prelude.{ℕ, Bool, false, ◌||◌, ◌&&◌, nat_eq, Option, Some, None}
 use Rattle.std.specs.List.{list_any}
 use Rattle.mb_tree.specs.declared.operations.FsOp.{FsOp}
 use Rattle.mb_tree.specs.declared.trees.Tree.{Tree}

@@ -1,5 +1,5 @@
 -- Equations of trees, each the contract of a function without a body: what an operation's effect does, step by step.
-use Rattle.std.specs.Prelude.{List, [], ◌∷◌, ◌++◌, ℕ, ◌≤◌, ◌≡◌, ◌≢◌, true, false, not, Option, Some, None, Ok, Err, position, slice_set, nat_le}
+use Rattle.std.specs.Prelude.{List, [], ◌∷◌, ◌++◌, ℕ, ◌≤◌, ◌≡◌, ◌≢◌, true, false, not, Some, None, Ok, Err, position, slice_set, nat_le}
 use Rattle.std.specs.FinMap as fin
 use Rattle.mb_kinds.specs.Image.{Image}
 use Rattle.mb_kinds.specs.declared.errors.Errno.TheVariants.{ENOSPC}

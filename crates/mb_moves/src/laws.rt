@@ -1,4 +1,4 @@
-ghost use Rattle.mb_moves.specs.Laws.{NothingDone, OneAfterAnother, NothingChanged, ChangedInTurn, StoredAfter, NearBefore, StoredAtFirst, OperationDone, FieldsAdvance, PartAdvances, HoleAdvances, GrowthAdvances, FileAdvances, DirectoryAdvances, ClearedAdvances, ErasedAdvances, SizeAdvances, SlotAdvances, CacheAdvances};
+ghost use Rattle.mb_moves.specs.Laws.{NothingDone, OneAfterAnother, NothingChanged, ChangedInTurn, StoredAfter, NearBefore, StoredAtFirst, OperationDone, OperationRefused, FieldsAdvance, PartAdvances, HoleAdvances, GrowthAdvances, FileAdvances, DirectoryAdvances, ClearedAdvances, ErasedAdvances, SizeAdvances, SlotAdvances, CacheAdvances};
 
 /// Steps in a row, and none.
 pub fn steps_in_a_row()
@@ -15,9 +15,10 @@ pub fn changes_in_a_row()
     ensures first { StoredAtFirst }
 {}
 
-/// Steps to the tree after an operation's effect do the operation.
+/// Steps to the tree after an operation's effect do the operation; it is refused where its effect is.
 pub fn operation_done()
-    ensures { OperationDone }
+    ensures done { OperationDone }
+    ensures refused { OperationRefused }
 {}
 
 /// An inode's fields are set.

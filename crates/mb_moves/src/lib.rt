@@ -18,5 +18,5 @@ pub use laws::{
     fields_advance, file_advances, growth_advances, hole_advances, operation_done, part_advances,
     size_advances, slot_advances, steps_in_a_row,
 };
-pub use need_laws::{had_is_near, midway, ready_for, touched_is_near};
+pub use need_laws::{had_is_near, midway, ready_for, touched_is_near, worked_looks};
 pub use tree_laws::{changed_there, cost_with_more, nodes_lost, room_is_there, slots_entered};

@@ -1,4 +1,5 @@
 ghost use Rattle.mb_moves.specs.NeedLaws.{StoredKeepsRules, ReadyFor, HadIsNear, PlaceIsNear, PartIsNear, ListIsNear, InodeIsNear, ReachingIsNear, MidwayAtNode, MidwayAtBirth, MidwayReached, MidwayWritten, MidwayIsNear, MakingRefused, TouchedIsLookedAt, TouchedIsNear};
+ghost use Rattle.mb_moves.specs.Worked.{WorkedLooks};
 
 /// The parts of a node of a stored tree can be reached.
 pub fn ready_for()
@@ -30,4 +31,9 @@ pub fn midway()
 pub fn touched_is_near()
     ensures looked_at { TouchedIsLookedAt }
     ensures near { TouchedIsNear }
+{}
+
+/// Inodes at which operations look.
+pub fn worked_looks()
+    ensures { WorkedLooks }
 {}
