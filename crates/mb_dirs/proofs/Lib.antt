@@ -1,0 +1,5 @@
+pub mod FieldSetting
+pub mod LookedThrough
+pub mod SlotSetting
+pub mod SlotWriting
+pub mod StoredWays
