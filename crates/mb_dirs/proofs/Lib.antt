@@ -5,3 +5,8 @@ pub mod SlotRewriting
 pub mod SlotSetting
 pub mod SlotWriting
 pub mod StoredWays
+pub mod PartReached
+pub mod Growing
+pub mod GrowthSteps
+pub mod Making
+pub mod MakingSteps
