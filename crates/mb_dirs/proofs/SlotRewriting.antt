@@ -25,6 +25,7 @@ use Rattle.mb_dirs.specs.Fields.{SetsFields, with_fields}
 use Rattle.mb_dirs.specs.Steps.{IsLookedThrough}
 use Rattle.mb_dirs.specs.declared.enters.Entered.{Entered}
 use Rattle.mb_dirs.specs.declared.enters.Entered.TheVariants as entered
+use Rattle.mb_dirs.specs.declared.enters.Gap.{Gap}
 use Rattle.mb_dirs.specs.declared.enters.Gap.TheVariants as gap
 use Rattle.mb_dirs.specs.declared.fields.FieldChange.TheVariants.{Touch}
 use Rattle.mb_dirs.specs.declared.steps.Advanced.{Advanced}
@@ -103,7 +104,7 @@ cleared shown old new dir links moment at name result does =
     does
 
 -- the place of the first empty slot
-pub entered_at : (shown : ℕ → Option (List ℕ)) (old new : ChangeList) (dir links moment at : ℕ) (name : List ℕ) (ino : ℕ) (result : Advanced) → RewritesSlot shown old new dir links moment at name ino result
+entered_at : (shown : ℕ → Option (List ℕ)) (old new : ChangeList) (dir links moment at : ℕ) (name : List ℕ) (ino : ℕ) (result : Advanced) → RewritesSlot shown old new dir links moment at name ino result
     → ChangesDirectory shown old new dir (λ slots. IsGap slots (gap.At at)) (λ node slots. named_node links moment name ino node) result
 entered_at shown old new dir links moment at name ino result does =
     other_words shown old new dir (λ slots. at < length slots) (λ slots. IsGap slots (gap.At at))
@@ -113,3 +114,10 @@ entered_at shown old new dir links moment at name ino result does =
     sym (ap (λ b. touched_with links moment node (on_slots (entered_in name ino) b)) body
     ∙ ap (λ o. touched_with links moment node (Directory (unwrap_or (option_map (λ found. slice_set slots found (slot_of ino name)) o) (slots ++ slot_of ino name ∷ [])))) is))
     does
+
+module _ (shown : ℕ → Option (List ℕ)) (old new : ChangeList) (dir links moment at : ℕ) (name : List ℕ) (ino : ℕ) (place : Gap) (is : place ≡ gap.At at) where
+  pub enters_done : RewritesSlot shown old new dir links moment at name ino advanced.Done → Enters shown old new dir links moment place name ino entered.Done
+  enters_done does = subst (λ p. Enters shown old new dir links moment p name ino entered.Done) (sym is) (entered_at shown old new dir links moment at name ino advanced.Done does)
+
+  pub enters_need : (need : Need) → RewritesSlot shown old new dir links moment at name ino (advanced.Need need) → Enters shown old new dir links moment place name ino (entered.Need need)
+  enters_need need does = subst (λ p. Enters shown old new dir links moment p name ino (entered.Need need)) (sym is) (entered_at shown old new dir links moment at name ino (advanced.Need need) does)
