@@ -4,6 +4,7 @@
 //! the earlier used slots are kept in an ordered set (`specs/NameSets.antt`).
 #![tactic(auto)]
 
+mod directories;
 mod names;
 mod slots;
 

@@ -1,5 +1,3 @@
-ghost use Rattle.std.specs.Prelude.{◌≤◌, length};
-
 use crate::{Stop, VolumeFiles, volume_files};
 use mb_edge::{Bytes, Fails, MemDisk};
 use mb_rules::Finding;
@@ -47,11 +45,12 @@ fn answer(
     image: Vec<u8>,
     reads: Fails,
 ) -> Result<Result<(u32, u32), (u32, u8)>, Fail>
-    requires { length image.items ≤ 6144 }
 {
+    let bytes = Bytes::from_vec(image);
+    assert!(rt; bytes.len() <= 6144);
     let none = Fails::new(rt.alloc());
     let last = Fails::new(rt.alloc());
-    let mut disk = MemDisk::new(rt.alloc(), Bytes::from_vec(image), 12, none, reads, last)?;
+    let mut disk = MemDisk::new(rt.alloc(), bytes, 12, none, reads, last)?;
     Ok(match volume_files(rt.alloc(), &mut disk) {
         Ok(VolumeFiles { held, free, .. }) => Ok((held, free)),
         Err(Stop::Broken(Finding { block, rule })) => Err((block, rule)),
