@@ -15,8 +15,6 @@ mod part_lists;
 mod stops;
 mod super_blocks;
 mod surveys;
-#[cfg(test)]
-mod tests;
 
 pub use addresses::{double, part, single, triple};
 pub use areas::area;
