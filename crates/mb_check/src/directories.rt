@@ -1,22 +1,21 @@
-ghost use Rattle.std.specs.Prelude.{ℕ, List, ◌≡◌, ◌≤◌, ◌<◌, ◌+◌, ◌*◌, ◌/◌, true, OnOk};
+ghost use Rattle.std.specs.Prelude.{ℕ, List, ◌≡◌, ◌≤◌, ◌<◌, ◌+◌, ◌*◌, ◌/◌, OnOk};
 ghost use Rattle.mb_tree.specs.Blocks.{part_address, part_bytes, slot_in};
-ghost use Rattle.mb_tree.specs.Inodes.{is_directory};
 ghost use Rattle.mb_tree.specs.Volume.{last_inode};
 ghost use Rattle.mb_rules.specs.Items.{each_from};
 ghost use Rattle.mb_rules.specs.Slots.{slot_items};
-ghost use Rattle.mb_check_files.specs.InodeTables.{KeepsInode, KeepsInodes};
+ghost use Rattle.mb_check_files.specs.InodeTables.{KeepsInodes};
 ghost use Rattle.mb_check_files.specs.Passes.{IsDevice};
 ghost use Rattle.mb_check.specs.SlotTests.{KnowsNames, Tests};
 
 use crate::names::NameSet;
 use crate::slots::{has_dots, is_named_once, leads_there};
-use mb_check_files::{InodeKept, InodeTable, Stop};
+use mb_check_files::{InodeTable, Stop};
 use mb_layout::Slot;
 use mb_rules::Finding;
 use mb_tree::PlainSlot;
 
 /// One slot of a directory, which stands in that block: rule 11, rule 10, and then rule 12.
-fn slot(
+pub fn slot(
     names: &mut NameSet,
     table: &InodeTable,
     ino: u16,
@@ -42,7 +41,7 @@ fn slot(
 }
 
 /// So many slots of one block of a directory, which has that number; it is the part of that number, from 0.
-fn block_slots(
+pub fn block_slots(
     names: &mut NameSet,
     table: &InodeTable,
     ino: u16,
@@ -59,22 +58,19 @@ fn block_slots(
 {
     for place in 0..count {
         let entry = Slot::read(block, place);
+        let name = entry.name;
         let found = PlainSlot {
             ino: entry.ino,
-            name: entry.name,
+            name,
         };
-        slot(names, table, ino, 32 * part + u32::from(place), &found, number)?;
+        slot(
+            names,
+            table,
+            ino,
+            32 * part + u32::from(place),
+            &found,
+            number,
+        )?;
     }
     Ok(())
-}
-
-/// The block in which a part of a directory stands; 0 where that part is not listed.
-fn part_block(table: &InodeTable, kept: &InodeKept, part: u32) -> u32
-    ensures { (blocks : ℕ → List ℕ) (ino : ℕ) → KeepsInode blocks table.now.parts.addresses.items ino kept.now → is_directory kept.now.mode ≡ true → 512 * part < kept.now.size → result ≡ part_address blocks ino part }
-{
-    let at = kept.first as usize + part as usize;
-    match table.parts.addresses.as_slice().get(at) {
-        Some(block) => *block,
-        None => 0,
-    }
 }

@@ -8,5 +8,6 @@ mod directories;
 mod names;
 mod slots;
 
+pub use directories::{block_slots, slot};
 pub use names::NameSet;
 pub use slots::{has_dots, is_named_once, leads_there};

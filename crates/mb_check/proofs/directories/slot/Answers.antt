@@ -18,4 +18,4 @@ returns-clause-walk c blocks met keeps here there knows = slot_passes blocks c.a
     (sym (c.leads_there.ensures blocks keeps) ∙ c.if-not-leads_there.false) (sym (once_by_names blocks c.args.ino c.args.at c.args.found.now c.args.names.now knows) ∙ sym c.in_ok-named.ensures.named ∙ c.if-not-named.false)
 
 pub returns-clause-names : goal.returns-clause-names
-returns-clause-names c blocks here knows = knows_more blocks c.args.ino c.args.at c.args.found.now c.args.names.now c.is_named_once-named.new.names here knows (c.in_ok-named.ensures.names c.if-not-named.false)
+returns-clause-names c blocks here knows = knows_more blocks c.args.ino c.args.at c.args.found.now c.args.names.now c.is_named_once.new.names here knows (c.in_ok-named.ensures.names c.if-not-named.false)
