@@ -115,6 +115,10 @@ tests_on NoMemory met items all on h = tt
 abbrev pub plain : Slot → PlainSlot
 plain entry = record { ino = entry.ino; name = entry.name }
 
-pub plain_read : (blocks : ℕ → List ℕ) (ino part place : ℕ) (block : List ℕ) (entry : Slot) → place < 32 → block ≡ part_bytes blocks ino part → entry ≡ slot_at block place
-    → plain entry ≡ slot_in blocks ino (32 * part + place)
-plain_read blocks ino part place block entry low same is = ap (λ (s : Slot). plain s) is ∙ slot_read blocks ino part place block low same
+pub plain_read : (blocks : ℕ → List ℕ) (ino part place wide : ℕ) (block : List ℕ) (entry : Slot) → place < 32 → wide ≡ place → block ≡ part_bytes blocks ino part → entry ≡ slot_at block place
+    → plain entry ≡ slot_in blocks ino (32 * part + wide)
+plain_read blocks ino part place wide block entry low same_place same is =
+    ap (λ (s : Slot). plain s) is ∙ slot_read blocks ino part place block low same ∙ ap (λ k. slot_in blocks ino (32 * part + k)) (sym same_place)
+
+pub number_read : (blocks : ℕ → List ℕ) (ino part place wide number : ℕ) → place < 32 → wide ≡ place → number ≡ part_address blocks ino part → number ≡ part_address blocks ino ((32 * part + wide) / 32)
+number_read blocks ino part place wide number low same_place there = there ∙ (let e : part ≡ (32 * part + wide) / 32 = omega (arith, low, same_place) in ap (part_address blocks ino) e)

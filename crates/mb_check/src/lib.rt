@@ -1,7 +1,9 @@
-//! The later passes of the checker of volumes, over what `mb_check_files` keeps of the inodes.
+//! The tests of the slots of directories: rules 11, 10 and 12, in the order of the scan, over what `mb_check_files` keeps of
+//! the inodes.
 //!
-//! `slot` goes through the tests of one slot of a directory (rules 11, 10 and 12), in the order of the scan; the names of
-//! the earlier used slots are kept in an ordered set (`specs/NameSets.antt`).
+//! `slot` goes through the tests of one slot, and `block_slots` through those of one block of a directory. The names of the
+//! earlier used slots are kept in an ordered set (`NameSet`); `specs/SlotTests.antt` says when it has those names, and what
+//! the tests find.
 #![tactic(auto)]
 
 mod directories;
