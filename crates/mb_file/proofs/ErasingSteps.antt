@@ -1,5 +1,5 @@
 -- What the answers of an erasure say of stored trees.
-use Rattle.std.proofs.Common.{ℕ, ◌≡◌, ◌⊎◌, inl, inr, ◌<◌, ◌≤◌, List, [], Option, Some, None, IsSome, refl, sym, ap, subst, ◌∙◌, arith}
+use Rattle.std.proofs.Common.{ℕ, ◌≡◌, ◌⊎◌, inl, inr, ◌≤◌, List, [], Option, Some, None, IsSome, refl, sym, subst, arith}
 use Rattle.std.specs.List.{Contains}
 use Rattle.std.specs.Option.{option_or}
 use Rattle.mb_kinds.specs.Image.{Image}
@@ -24,7 +24,7 @@ use Rattle.mb_nodes.specs.Bodies.{LetsGo}
 use Rattle.mb_nodes.specs.Stored.{IsStored, without_node}
 use Rattle.mb_tree.specs.Volume.{has_addresses}
 use Rattle.mb_tree.specs.declared.trees.Tree.{Tree}
-use Rattle.mb_moves.specs.Advancing.{Advances, AdvancesTo, IsNearTo}
+use Rattle.mb_moves.specs.Advancing.{Advances, IsNearTo}
 use Rattle.mb_moves.proofs.Asking.{inode_near, stored_rules}
 use Rattle.mb_moves.proofs.InARow.{itself}
 use Rattle.mb_file.specs.Erasing.{Erases, held_by}

@@ -1,26 +1,24 @@
 -- The blocks that a node of a stored tree holds, by its inode's value.
-use Rattle.std.proofs.Common.{ℕ, ◌≡◌, inl, inr, ◌*◌, ◌+◌, ◌<◌, ◌≤◌, Bool, true, false, ◌||◌, ◌-◌, ◌≢◌, ◌⊎◌, cond, nat_eq, List, [], length, Some, refl, sym, ap, subst, ◌∙◌, arith}
+use Rattle.std.proofs.Common.{ℕ, ◌≡◌, inl, inr, ◌<◌, ◌≤◌, Bool, true, false, ◌||◌, ◌-◌, ◌≢◌, ◌⊎◌, cond, nat_eq, List, [], Some, refl, sym, ap, subst, ◌∙◌, arith}
 use Rattle.std.specs.FinMap as fin
 use Rattle.std.specs.List.{Contains}
 use Rattle.std.proofs.lemmas.Bool.Decides.{Decides-eqb, nat_tests}
 use Rattle.std.proofs.lemmas.Map.Made.{IsDistinct-from_AllPairs}
 use Rattle.std.proofs.lemmas.Map.Steps.{length-le_from_distinct_below}
 use Rattle.mb_kinds.specs.Image.{Image}
-use Rattle.mb_word.specs.Fields.{fsize_of, inode_block, inode_place, address_of}
+use Rattle.mb_word.specs.Fields.{inode_block, inode_place}
 use Rattle.mb_layout.specs.Inode.{address_in, dinode_at}
 use Rattle.mb_layout.specs.declared.dinodes.Dinode.{Dinode}
 use Rattle.mb_layout.proofs.InodeBytes.{address_in_area}
 use Rattle.mb_layout.proofs.InodeOrder.{place_below}
 use Rattle.mb_tree.specs.Blocks.{pointers}
 use Rattle.mb_tree.specs.Inodes.{is_directory, is_regular, is_special, kind_of}
-use Rattle.mb_tree.specs.Places.{at, IsPlace}
 use Rattle.mb_tree.specs.Trees.{HasKind}
 use Rattle.mb_tree.specs.Volume.{HasInode, HasNode, body_has_addresses, has_addresses, node_has_addresses}
 use Rattle.mb_tree.specs.declared.nodes.Body.{Body}
 use Rattle.mb_tree.specs.declared.nodes.Body.TheVariants.{Regular, Directory, Special}
 use Rattle.mb_tree.specs.declared.nodes.Node.{Node}
 use Rattle.mb_tree.specs.declared.trees.Tree.{Tree}
-use Rattle.mb_blocks.specs.Laid.{IsLaid}
 use Rattle.mb_blocks.specs.Owners.{Enumerates}
 use Rattle.mb_blocks.specs.Walk.{under_block, under_inode}
 use Rattle.mb_blocks.proofs.Groupings.{in_has}

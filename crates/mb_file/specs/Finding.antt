@@ -1,5 +1,5 @@
 -- A part of a file found by its inode's addresses.
-use Rattle.std.specs.Prelude.{List, ℕ, ◌<◌, ◌≤◌, ◌≡◌, ◌⊎◌, nat_eq, Option, None, IfSome, length}
+use Rattle.std.specs.Prelude.{List, ℕ, ◌<◌, ◌≡◌, nat_eq, Option, None, IfSome, length}
 use Rattle.mb_word.specs.Fields.{inode_block}
 use Rattle.mb_tree.specs.Blocks.{pointers, part_address, part_in}
 use Rattle.mb_tree.specs.Cost.{most_parts}
