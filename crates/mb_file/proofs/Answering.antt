@@ -38,8 +38,8 @@ use Rattle.mb_nodes.specs.Stored.{IsStored}
 use Rattle.mb_nodes.proofs.OneInode.{in_list}
 use Rattle.mb_nodes.proofs.Volumes.{stored_of}
 use Rattle.mb_moves.proofs.Nearness.{top_is}
-use Rattle.mb_file.specs.Finding.{AsksForOwn, HasSmallAddresses, IsOwn, OnInode}
-use Rattle.mb_file.specs.Finding.IsOwn.{inode, led_to}
+use Rattle.mb_file.specs.Finding.{AsksForOwn, HasSmallAddresses, IsBlockOfInode, OnInode}
+use Rattle.mb_file.specs.Finding.IsBlockOfInode.{inode, led_to}
 use Rattle.mb_file.specs.Reading.{HasBytesAt, bytes_on}
 use Rattle.mb_file.proofs.Holding.{its_inode, its_number}
 
@@ -141,7 +141,7 @@ module _ (shown : ℕ → Option (List ℕ)) (changes : ChangeList) (none : chan
     pub found_nothing : most ≡ 0 → (items : List ℕ) → items ≡ [] → Finds image tree (Bytes ino offset count) (asked.Found (answer.Bytes items))
     found_nothing zero_most items empty = found_bytes items (λ blocks is_part has. (empty ∙ ap (bytes_on (over blocks (changed changes)) ino offset) (sym zero_most), λ k low high. absurd (omega (arith, low, high, zero_most))))
 
-  near_own : (block : ℕ) → has_addresses tree ino ≡ true → 0 < ino → ino ≤ tree.last → IsOwn image.at ino block → IsNear image tree (IsPassed tree (Bytes ino offset count)) block
+  near_own : (block : ℕ) → has_addresses tree ino ≡ true → 0 < ino → ino ≤ tree.last → IsBlockOfInode image.at ino block → IsNear image tree (IsPassed tree (Bytes ino offset count)) block
   near_own block is real below (inode own) =
       subst (IsNear image tree (IsPassed tree (Bytes ino offset count))) (sym own) (inode_list (omega arith) (in_list image tree volume.chain stored ino real below))
   near_own block is real below (led_to q mine leads) = held q (mine_place (has_addresses tree) ino is q mine) (top_is q ∙ mine_owner (has_addresses tree) ino q mine) leads
@@ -151,7 +151,7 @@ module _ (shown : ℕ → Option (List ℕ)) (changes : ChangeList) (none : chan
       let its = openable_node tree ino askable in
       let is : has_addresses tree ino ≡ true = ap node_has_addresses its.1 ∙ its.2 in
       let n = its_number image tree volume.chain stored ino its.0 its.1 in
-      near_own need.first is (omega (arith, n.0)) n.1 (on_image (λ now. IsOwn now ino need.first) is asks.1)
+      near_own need.first is (omega (arith, n.0)) n.1 (on_image (λ now. IsBlockOfInode now ino need.first) is asks.1)
 
   pub asked_inode : (need : Need) → need.first ≡ inode_block ino → Finds image tree (Bytes ino offset count) (asked.Need need)
   asked_inode need own askable =

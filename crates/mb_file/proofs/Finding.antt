@@ -17,7 +17,7 @@ use Rattle.mb_bmap.specs.Ways.{route_of, way}
 use Rattle.mb_bmap.specs.declared.addresses.Located.TheVariants as located
 use Rattle.mb_bmap.proofs.Walking.{place_way, route_is}
 use Rattle.mb_file.specs.Finding.{AsksForOwn, FindsPart, HasSmallAddresses}
-use Rattle.mb_file.specs.Finding.IsOwn.{inode, led_to}
+use Rattle.mb_file.specs.Finding.IsBlockOfInode.{inode, led_to}
 use Rattle.mb_file.specs.declared.parts.PartAt.TheVariants as found
 
 itself : (ino : ℕ) → nat_eq ino ino ≡ true

@@ -30,7 +30,7 @@ use Rattle.mb_nodes.specs.Stored.{IsStored}
 use Rattle.mb_nodes.proofs.OneInode.{laid_stored}
 use Rattle.mb_moves.specs.Advancing.{IsNearTo}
 use Rattle.mb_moves.proofs.Nearness.{place_near, tested_place}
-use Rattle.mb_file.specs.Erasing.{held_by}
+use Rattle.mb_file.specs.Erasing.{held_blocks}
 use Rattle.mb_file.specs.Walking.{IsListable, under_dinode}
 use Rattle.mb_file.proofs.Listing.{each_alike}
 
@@ -119,34 +119,34 @@ module _ (image : Image) (tree : Tree) (chain : List ℕ) (stored : IsStored ima
     its_area : (is_directory d.mode || is_regular d.mode) ≡ body_has_addresses node.body
     its_area = ap (λ m. is_directory m || is_regular m) its_mode ∙ area_by_kind node.mode node.body kind
 
-    with_area : body_has_addresses node.body ≡ true → held_by (pointers image.at) d ≡ under_inode (pointers image.at) ino
+    with_area : body_has_addresses node.body ≡ true → held_blocks (pointers image.at) d ≡ under_inode (pointers image.at) ino
     with_area some =
         ap (λ b. cond b (under_dinode (pointers image.at) d) []) (its_area ∙ some)
         ∙ sym (each_alike (λ place. under_block (pointers image.at) (place - 9)) ((pointers image.at).top ino) (address_in d) 13 (same_top image tree chain stored ino d reads))
 
-    pub without_area : body_has_addresses node.body ≡ false → held_by (pointers image.at) d ≡ []
+    pub without_area : body_has_addresses node.body ≡ false → held_blocks (pointers image.at) d ≡ []
     without_area none = ap (λ b. cond b (under_dinode (pointers image.at) d) []) (its_area ∙ none)
 
-    pub lists_held : body_has_addresses node.body ≡ true → Enumerates image.at ino (held_by (pointers image.at) d)
+    pub lists_held : body_has_addresses node.body ≡ true → Enumerates image.at ino (held_blocks (pointers image.at) d)
     lists_held some =
         subst (Enumerates image.at ino) (sym (with_area some))
         (walk_enumerates (has_addresses tree) image.at [] chain ino (laid_stored image tree chain stored) (ap node_has_addresses has ∙ some))
 
     -- the list is what is let go, it can be listed, and all of it is near
-    pub held_lets : LetsGo image.at ino node.body (held_by (pointers image.at) d)
+    pub held_lets : LetsGo image.at ino node.body (held_blocks (pointers image.at) d)
     held_lets = elim (cases_true (body_has_addresses node.body)) [
-      | inl some ↦ listed node.body (held_by (pointers image.at) d) some (lists_held some)
+      | inl some ↦ listed node.body (held_blocks (pointers image.at) d) some (lists_held some)
       | inr none ↦ subst (LetsGo image.at ino node.body) (sym (without_area none)) (special node.body none)
     ]
 
-    pub held_listable : IsListable [] (held_by (pointers image.at) d)
+    pub held_listable : IsListable [] (held_blocks (pointers image.at) d)
     held_listable = elim (cases_true (body_has_addresses node.body)) [
-      | inl some ↦ listable_held image tree chain stored ino (ap node_has_addresses has ∙ some) (held_by (pointers image.at) d) (lists_held some)
+      | inl some ↦ listable_held image tree chain stored ino (ap node_has_addresses has ∙ some) (held_blocks (pointers image.at) d) (lists_held some)
       | inr none ↦ subst (IsListable []) (sym (without_area none)) (record { small = λ block among. absurd (let low = among.1 in omega (arith, low)); few = omega arith })
     ]
 
-    pub held_is_near : (looks : ℕ → Bool) → looks ino ≡ true → (block : ℕ) → Contains (held_by (pointers image.at) d) block → IsNearTo image tree looks block
+    pub held_is_near : (looks : ℕ → Bool) → looks ino ≡ true → (block : ℕ) → Contains (held_blocks (pointers image.at) d) block → IsNearTo image tree looks block
     held_is_near looks looked block among = elim (cases_true (body_has_addresses node.body)) [
-      | inl some ↦ near_held image tree chain stored ino (ap node_has_addresses has ∙ some) (held_by (pointers image.at) d) (lists_held some) looks looked block among
+      | inl some ↦ near_held image tree chain stored ino (ap node_has_addresses has ∙ some) (held_blocks (pointers image.at) d) (lists_held some) looks looked block among
       | inr none ↦ absurd (let there = subst (λ (xs : List ℕ). Contains xs block) (without_area none) among in let low = there.1 in omega (arith, low))
     ]
