@@ -1,12 +1,11 @@
 -- An operation on a volume that begins with no changes, from its steps.
-use Rattle.std.proofs.Common.{ℕ, ◌≡◌, inl, ◌<◌, Bool, true, false, Option, Some, None, Ok, List, [], ◌∷◌, refl, sym, ap, subst, ◌∙◌, arith}
+use Rattle.std.proofs.Common.{ℕ, ◌≡◌, inl, true, Option, Some, None, Ok, List, [], ◌∷◌, refl, sym, ap, subst, arith}
 use Rattle.std.specs.FinMap as fin
 use Rattle.std.specs.Ordering.{nat_cmp}
 use Rattle.std.specs.List.{Contains}
 use Rattle.std.specs.Prelude.{option_map, unwrap_or}
 use Rattle.mb_kinds.specs.Image.{Image}
-use Rattle.mb_tree.specs.Effect.{blanked, on_node}
-use Rattle.mb_tree.specs.Fits.{Fits}
+use Rattle.mb_tree.specs.Effect.{blanked}
 use Rattle.mb_tree.specs.Maps.{Numbered, changed_at}
 use Rattle.mb_tree.specs.Views.{IsPart}
 use Rattle.mb_tree.specs.Volume.{IsVolume}
@@ -14,15 +13,13 @@ use Rattle.mb_tree.specs.declared.nodes.Node.{Node}
 use Rattle.mb_tree.specs.declared.operations.FsOp.{FsOp}
 use Rattle.mb_tree.specs.declared.operations.FsOp.TheVariants.{Empty}
 use Rattle.mb_tree.specs.declared.trees.Tree.{Tree}
-use Rattle.mb_iface.specs.Acting.{Acts, with_changes}
+use Rattle.mb_iface.specs.Acting.{Acts}
 use Rattle.mb_iface.specs.Changed.{ChangeList}
-use Rattle.mb_iface.specs.Near.{IsTouched, named_by}
+use Rattle.mb_iface.specs.Near.{named_by}
 use Rattle.mb_iface.specs.OpenCounts.{count_of}
-use Rattle.mb_iface.specs.declared.replies.Acted.{Acted}
 use Rattle.mb_iface.specs.declared.replies.Acted.TheVariants as acted
 use Rattle.mb_iface.specs.declared.replies.Need.{Need}
 use Rattle.mb_alloc.specs.declared.frees.Hung.TheVariants as hung
-use Rattle.mb_nodes.specs.Stored.{IsStored}
 use Rattle.mb_moves.specs.Looking.{touches}
 use Rattle.mb_moves.proofs.Done.{operation_done}
 use Rattle.mb_moves.proofs.InARow.{stored_at_first}

@@ -1,5 +1,5 @@
 -- Bytes read on a volume are those of the reference tree.
-use Rattle.std.proofs.Common.{ℕ, zero, suc, ◌≡◌, ◌⊎◌, inl, inr, ◌+◌, ◌-◌, ◌*◌, ◌/◌, ◌%◌, ◌<◌, ◌≤◌, Bool, true, nat_eq, min, Option, Some, None, Ok, Err, List, [], ◌∷◌, length, take, drop, get_or, map, unwrap_or, refl, sym, ap, subst, ◌∙◌, arith}
+use Rattle.std.proofs.Common.{ℕ, zero, suc, ◌≡◌, ◌⊎◌, inl, inr, ◌+◌, ◌-◌, ◌*◌, ◌/◌, ◌%◌, ◌<◌, ◌≤◌, true, min, Option, Some, Ok, List, [], ◌∷◌, length, get_or, map, unwrap_or, refl, sym, ap, subst, ◌∙◌, arith}
 use Rattle.std.specs.Prelude.{option_map, slice_get}
 use Rattle.std.specs.FinMap as fin
 use Rattle.std.specs.List.{range_with_len}
@@ -7,17 +7,17 @@ use Rattle.std.specs.Ordering.{nat_cmp}
 use Rattle.std.proofs.lemmas.Bool.{cases_eq}
 use Rattle.mb_kinds.specs.Image.{Image, zeros}
 use Rattle.mb_kinds.specs.declared.errors.Errno.TheVariants.{ENOENT}
-use Rattle.mb_word.specs.Fields.{inode_block, inode_place, slot_ino, slot_name}
+use Rattle.mb_word.specs.Fields.{inode_block, inode_place}
 use Rattle.mb_word.specs.Numbers.{AreBytes, word_at}
 use Rattle.mb_word.proofs.Parts.{get_or-part}
 use Rattle.mb_layout.specs.Inode.{dinode_at}
 use Rattle.mb_layout.specs.declared.dinodes.Dinode.{Dinode}
 use Rattle.mb_tree.specs.Answers.{◌>>=◌, some}
-use Rattle.mb_tree.specs.Blocks.{pointers, part_bytes, part_in, slot_in, slot_of}
+use Rattle.mb_tree.specs.Blocks.{pointers, part_bytes, slot_in, slot_of}
 use Rattle.mb_tree.specs.Fits.{IsOpenable}
 use Rattle.mb_tree.specs.Inodes.{body_size, byte_at, bytes_from, plain_slot_bytes, read_at}
-use Rattle.mb_tree.specs.Places.{at, IsPlace}
-use Rattle.mb_tree.specs.Volume.{HasBody, HasDirectory, HasFile, HasNode, IsVolume, body_has_addresses, has_addresses, node_has_addresses}
+use Rattle.mb_tree.specs.Places.{at}
+use Rattle.mb_tree.specs.Volume.{HasBody, HasDirectory, HasFile, IsVolume, body_has_addresses, has_addresses, node_has_addresses}
 use Rattle.mb_tree.specs.declared.nodes.Body.{Body}
 use Rattle.mb_tree.specs.declared.nodes.Body.TheVariants.{Regular, Directory, Special}
 use Rattle.mb_tree.specs.declared.nodes.Node.{Node}
@@ -25,7 +25,7 @@ use Rattle.mb_tree.specs.declared.nodes.PlainSlot.{PlainSlot}
 use Rattle.mb_tree.specs.declared.trees.Tree.{Tree}
 use Rattle.mb_tree.specs.Views.{over, IsPart}
 use Rattle.mb_iface.specs.Changed.{ChangeList, changed}
-use Rattle.mb_iface.specs.Asking.{Finds, answer_of}
+use Rattle.mb_iface.specs.Asking.{Finds}
 use Rattle.mb_iface.specs.Near.{IsNear, IsPassed}
 use Rattle.mb_iface.specs.Near.IsNear.{inode_list, held}
 use Rattle.mb_iface.specs.declared.queries.Query.TheVariants.{Bytes}
@@ -38,11 +38,10 @@ use Rattle.mb_nodes.specs.Stored.{IsStored}
 use Rattle.mb_nodes.proofs.OneInode.{in_list}
 use Rattle.mb_nodes.proofs.Volumes.{stored_of}
 use Rattle.mb_moves.proofs.Nearness.{top_is}
-use Rattle.mb_file.specs.Finding.{AsksForOwn, HasSmallAddresses, IsOwn, OnInode}
-use Rattle.mb_file.specs.Finding.IsOwn.{inode, led_to}
+use Rattle.mb_file.specs.Finding.{AsksForOwn, HasSmallAddresses, IsBlockOfInode, OnInode}
+use Rattle.mb_file.specs.Finding.IsBlockOfInode.{inode, led_to}
 use Rattle.mb_file.specs.Reading.{HasBytesAt, bytes_on}
 use Rattle.mb_file.proofs.Holding.{its_inode, its_number}
-use Rattle.mb_file.proofs.Reading.{whole_part}
 
 -- ---- the addresses of a node are small
 
@@ -142,7 +141,7 @@ module _ (shown : ℕ → Option (List ℕ)) (changes : ChangeList) (none : chan
     pub found_nothing : most ≡ 0 → (items : List ℕ) → items ≡ [] → Finds image tree (Bytes ino offset count) (asked.Found (answer.Bytes items))
     found_nothing zero_most items empty = found_bytes items (λ blocks is_part has. (empty ∙ ap (bytes_on (over blocks (changed changes)) ino offset) (sym zero_most), λ k low high. absurd (omega (arith, low, high, zero_most))))
 
-  near_own : (block : ℕ) → has_addresses tree ino ≡ true → 0 < ino → ino ≤ tree.last → IsOwn image.at ino block → IsNear image tree (IsPassed tree (Bytes ino offset count)) block
+  near_own : (block : ℕ) → has_addresses tree ino ≡ true → 0 < ino → ino ≤ tree.last → IsBlockOfInode image.at ino block → IsNear image tree (IsPassed tree (Bytes ino offset count)) block
   near_own block is real below (inode own) =
       subst (IsNear image tree (IsPassed tree (Bytes ino offset count))) (sym own) (inode_list (omega arith) (in_list image tree volume.chain stored ino real below))
   near_own block is real below (led_to q mine leads) = held q (mine_place (has_addresses tree) ino is q mine) (top_is q ∙ mine_owner (has_addresses tree) ino q mine) leads
@@ -152,7 +151,7 @@ module _ (shown : ℕ → Option (List ℕ)) (changes : ChangeList) (none : chan
       let its = openable_node tree ino askable in
       let is : has_addresses tree ino ≡ true = ap node_has_addresses its.1 ∙ its.2 in
       let n = its_number image tree volume.chain stored ino its.0 its.1 in
-      near_own need.first is (omega (arith, n.0)) n.1 (on_image (λ now. IsOwn now ino need.first) is asks.1)
+      near_own need.first is (omega (arith, n.0)) n.1 (on_image (λ now. IsBlockOfInode now ino need.first) is asks.1)
 
   pub asked_inode : (need : Need) → need.first ≡ inode_block ino → Finds image tree (Bytes ino offset count) (asked.Need need)
   asked_inode need own askable =

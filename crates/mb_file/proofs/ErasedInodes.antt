@@ -1,10 +1,10 @@
 -- An inode freed and its number cached: the cache first, then the inode, and then its blocks.
-use Rattle.std.proofs.Common.{ℕ, zero, suc, ◌≡◌, ◌≢◌, ◌⊎◌, inl, inr, ◌+◌, ◌*◌, ◌<◌, ◌≤◌, Bool, true, List, [], ◌∷◌, ◌++◌, length, slice_index, nat_eq, Option, Some, refl, sym, ap, subst, ◌∙◌, arith, append-nil}
+use Rattle.std.proofs.Common.{ℕ, zero, suc, ◌≡◌, ◌≢◌, ◌⊎◌, inl, inr, ◌+◌, ◌*◌, ◌≤◌, Bool, true, List, ◌∷◌, length, slice_index, nat_eq, Some, refl, sym, ap, subst, ◌∙◌, arith}
 use Rattle.std.specs.FinMap as fin
 use Rattle.std.specs.List.{Contains}
 use Rattle.std.proofs.lemmas.Bool.{cases_eq}
 use Rattle.mb_kinds.specs.Image.{Image}
-use Rattle.mb_word.specs.Fields.{isize_of, fsize_of, ninode_of, inode_block, inode_place, mode_of, address_of}
+use Rattle.mb_word.specs.Fields.{ninode_of, inode_block, inode_place, mode_of, address_of}
 use Rattle.mb_word.specs.Numbers.{SameFrom, word_at}
 use Rattle.mb_tree.specs.Blocks.{pointers}
 use Rattle.mb_tree.specs.Places.{Place, at, IsPlace}
@@ -15,14 +15,10 @@ use Rattle.mb_tree.specs.declared.trees.Tree.{Tree}
 use Rattle.mb_iface.specs.Changed.{put_block}
 use Rattle.mb_iface.proofs.ChangedBlocks.{put_block_same, put_block_other}
 use Rattle.mb_blocks.specs.FreeLists.{AreFreed, onto}
-use Rattle.mb_blocks.specs.Inodes.{IsRewritten, KeepsInodeBytes}
-use Rattle.mb_blocks.specs.Laid.{IsLaid}
-use Rattle.mb_blocks.specs.Owners.{Enumerates, without}
+use Rattle.mb_blocks.specs.Inodes.{IsRewritten}
+use Rattle.mb_blocks.specs.Owners.{without}
 use Rattle.mb_blocks.specs.Pointing.{KeepsPointers}
-use Rattle.mb_blocks.proofs.Keeping.{sizes_same}
-use Rattle.mb_blocks.proofs.LettingGo.{laid_fewer, laid_less}
-use Rattle.mb_blocks.proofs.Owning.{mine_place, place_was, without_apart, without_has}
-use Rattle.mb_blocks.proofs.PartWriting.{rewritten_laid}
+use Rattle.mb_blocks.proofs.Owning.{mine_place}
 use Rattle.mb_blocks.proofs.Pointing.{at_alike}
 use Rattle.mb_alloc.specs.Inodes.{Caches, IsErased}
 use Rattle.mb_alloc.specs.Numbers.{cached_below, cached_in}
@@ -30,7 +26,6 @@ use Rattle.mb_nodes.specs.Bodies.{IsCacheWritten, LetsGo}
 use Rattle.mb_nodes.specs.Bodies.LetsGo.{listed, special}
 use Rattle.mb_nodes.specs.Stored.{IsStored, without_node}
 use Rattle.mb_nodes.proofs.CacheWrites.{cache_written}
-use Rattle.mb_nodes.proofs.OneInode.{in_list, laid_stored}
 use Rattle.mb_moves.specs.Advancing.{Advances}
 use Rattle.mb_moves.proofs.CacheWrites.{cache_advances}
 use Rattle.mb_moves.proofs.Dropping.{erased_advances}

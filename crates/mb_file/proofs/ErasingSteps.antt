@@ -1,5 +1,5 @@
 -- What the answers of an erasure say of stored trees.
-use Rattle.std.proofs.Common.{ℕ, ◌≡◌, ◌⊎◌, inl, inr, ◌<◌, ◌≤◌, List, [], Option, Some, None, IsSome, refl, sym, ap, subst, ◌∙◌, arith}
+use Rattle.std.proofs.Common.{ℕ, ◌≡◌, ◌⊎◌, inl, inr, ◌≤◌, List, [], Option, Some, None, IsSome, refl, sym, subst, arith}
 use Rattle.std.specs.List.{Contains}
 use Rattle.std.specs.Option.{option_or}
 use Rattle.mb_kinds.specs.Image.{Image}
@@ -24,10 +24,10 @@ use Rattle.mb_nodes.specs.Bodies.{LetsGo}
 use Rattle.mb_nodes.specs.Stored.{IsStored, without_node}
 use Rattle.mb_tree.specs.Volume.{has_addresses}
 use Rattle.mb_tree.specs.declared.trees.Tree.{Tree}
-use Rattle.mb_moves.specs.Advancing.{Advances, AdvancesTo, IsNearTo}
+use Rattle.mb_moves.specs.Advancing.{Advances, IsNearTo}
 use Rattle.mb_moves.proofs.Asking.{inode_near, stored_rules}
 use Rattle.mb_moves.proofs.InARow.{itself}
-use Rattle.mb_file.specs.Erasing.{Erases, held_by}
+use Rattle.mb_file.specs.Erasing.{Erases, held_blocks}
 use Rattle.mb_file.specs.Freeing.{PutsAllBack}
 use Rattle.mb_file.specs.Walking.{IsListable}
 use Rattle.mb_file.proofs.ErasedInodes.{blocks_in_hand, erased_whole}
@@ -44,7 +44,7 @@ module _ (shown : ℕ → Option (List ℕ)) (old new : ChangeList) (ino : ℕ) 
       near image tree chain stored looks number (inr own) = subst (IsNearTo (with_changes image old) tree looks) (sym own) (inode_near (with_changes image old) tree chain stored looks ino number.0 number.1)
 
   module _ (d : Dinode) (reads : (blocks : ℕ → List ℕ) → IsPart shown blocks → d ≡ dinode_at (over blocks (changed old) (inode_block ino)) (inode_place ino)) where
-    pub asked_held : (need : Need) → IsNeed shown need → ((blocks : ℕ → List ℕ) → IsPart shown blocks → Contains (held_by (pointers (over blocks (changed old))) d) need.first) → Erases shown old new ino (hung.Need need)
+    pub asked_held : (need : Need) → IsNeed shown need → ((blocks : ℕ → List ℕ) → IsPart shown blocks → Contains (held_blocks (pointers (over blocks (changed old))) d) need.first) → Erases shown old new ino (hung.Need need)
     asked_held need is among = (
       is,
       λ image tree chain part stored looks node erasable.
@@ -52,7 +52,7 @@ module _ (shown : ℕ → Option (List ℕ)) (old new : ChangeList) (ino : ℕ) 
     )
 
     module _ (mid : ChangeList) (list : List ℕ) (frees : FreesInode shown old mid ino hung.Done)
-        (holds : (blocks : ℕ → List ℕ) → IsPart shown blocks → IsListable [] (held_by (pointers (over blocks (changed old))) d) → list ≡ held_by (pointers (over blocks (changed old))) d) where
+        (holds : (blocks : ℕ → List ℕ) → IsPart shown blocks → IsListable [] (held_blocks (pointers (over blocks (changed old))) d) → list ≡ held_blocks (pointers (over blocks (changed old))) d) where
       pub erases_by : (result : Hung) → PutsAllBack shown mid new list result → Erases shown old new ino result
       erases_by hung.Done puts = (
         λ w. puts.0 (frees.0 w),

@@ -1,11 +1,11 @@
 -- A part of a file found by the addresses on its way.
-use Rattle.std.proofs.Common.{ℕ, zero, suc, ◌≡◌, ◌⊎◌, inl, inr, ◌<◌, ◌≤◌, true, nat_eq, Option, None, List, slice_index, refl, sym, ap, subst, ◌∙◌, arith}
+use Rattle.std.proofs.Common.{ℕ, zero, suc, ◌≡◌, inl, inr, ◌<◌, ◌≤◌, true, nat_eq, Option, List, slice_index, sym, ap, subst, ◌∙◌, arith}
 use Rattle.std.proofs.lemmas.Bool.{cases_eq}
 use Rattle.std.proofs.lemmas.Bool.Decides.{nat_tests}
-use Rattle.mb_tree.specs.Blocks.{pointers, part_address, part_in}
+use Rattle.mb_tree.specs.Blocks.{pointers}
 use Rattle.mb_tree.specs.Cost.{most_parts}
 use Rattle.mb_tree.specs.Places.{at, place_of, IsPlace}
-use Rattle.mb_tree.specs.Views.{over, IsPart}
+use Rattle.mb_tree.specs.Views.{over}
 use Rattle.mb_iface.specs.Changed.{ChangeList, changed}
 use Rattle.mb_iface.specs.Needs.{IsNeed}
 use Rattle.mb_iface.specs.declared.replies.Need.{Need}
@@ -16,8 +16,8 @@ use Rattle.mb_bmap.specs.Locating.{IsBounded, Locates}
 use Rattle.mb_bmap.specs.Ways.{route_of, way}
 use Rattle.mb_bmap.specs.declared.addresses.Located.TheVariants as located
 use Rattle.mb_bmap.proofs.Walking.{place_way, route_is}
-use Rattle.mb_file.specs.Finding.{AsksForOwn, FindsPart, HasSmallAddresses, IsOwn, OnInode}
-use Rattle.mb_file.specs.Finding.IsOwn.{inode, led_to}
+use Rattle.mb_file.specs.Finding.{AsksForOwn, FindsPart, HasSmallAddresses}
+use Rattle.mb_file.specs.Finding.IsBlockOfInode.{inode, led_to}
 use Rattle.mb_file.specs.declared.parts.PartAt.TheVariants as found
 
 itself : (ino : ℕ) → nat_eq ino ino ≡ true

@@ -1,26 +1,24 @@
 -- The blocks that a node of a stored tree holds, by its inode's value.
-use Rattle.std.proofs.Common.{ℕ, ◌≡◌, inl, inr, ◌*◌, ◌+◌, ◌<◌, ◌≤◌, Bool, true, false, ◌||◌, ◌-◌, ◌≢◌, ◌⊎◌, cond, nat_eq, List, [], length, Some, refl, sym, ap, subst, ◌∙◌, arith}
+use Rattle.std.proofs.Common.{ℕ, ◌≡◌, inl, inr, ◌<◌, ◌≤◌, Bool, true, false, ◌||◌, ◌-◌, ◌≢◌, ◌⊎◌, cond, nat_eq, List, [], Some, refl, sym, ap, subst, ◌∙◌, arith}
 use Rattle.std.specs.FinMap as fin
 use Rattle.std.specs.List.{Contains}
 use Rattle.std.proofs.lemmas.Bool.Decides.{Decides-eqb, nat_tests}
 use Rattle.std.proofs.lemmas.Map.Made.{IsDistinct-from_AllPairs}
 use Rattle.std.proofs.lemmas.Map.Steps.{length-le_from_distinct_below}
 use Rattle.mb_kinds.specs.Image.{Image}
-use Rattle.mb_word.specs.Fields.{fsize_of, inode_block, inode_place, address_of}
+use Rattle.mb_word.specs.Fields.{inode_block, inode_place}
 use Rattle.mb_layout.specs.Inode.{address_in, dinode_at}
 use Rattle.mb_layout.specs.declared.dinodes.Dinode.{Dinode}
 use Rattle.mb_layout.proofs.InodeBytes.{address_in_area}
 use Rattle.mb_layout.proofs.InodeOrder.{place_below}
 use Rattle.mb_tree.specs.Blocks.{pointers}
 use Rattle.mb_tree.specs.Inodes.{is_directory, is_regular, is_special, kind_of}
-use Rattle.mb_tree.specs.Places.{at, IsPlace}
 use Rattle.mb_tree.specs.Trees.{HasKind}
 use Rattle.mb_tree.specs.Volume.{HasInode, HasNode, body_has_addresses, has_addresses, node_has_addresses}
 use Rattle.mb_tree.specs.declared.nodes.Body.{Body}
 use Rattle.mb_tree.specs.declared.nodes.Body.TheVariants.{Regular, Directory, Special}
 use Rattle.mb_tree.specs.declared.nodes.Node.{Node}
 use Rattle.mb_tree.specs.declared.trees.Tree.{Tree}
-use Rattle.mb_blocks.specs.Laid.{IsLaid}
 use Rattle.mb_blocks.specs.Owners.{Enumerates}
 use Rattle.mb_blocks.specs.Walk.{under_block, under_inode}
 use Rattle.mb_blocks.proofs.Groupings.{in_has}
@@ -32,7 +30,7 @@ use Rattle.mb_nodes.specs.Stored.{IsStored}
 use Rattle.mb_nodes.proofs.OneInode.{laid_stored}
 use Rattle.mb_moves.specs.Advancing.{IsNearTo}
 use Rattle.mb_moves.proofs.Nearness.{place_near, tested_place}
-use Rattle.mb_file.specs.Erasing.{held_by}
+use Rattle.mb_file.specs.Erasing.{held_blocks}
 use Rattle.mb_file.specs.Walking.{IsListable, under_dinode}
 use Rattle.mb_file.proofs.Listing.{each_alike}
 
@@ -121,34 +119,34 @@ module _ (image : Image) (tree : Tree) (chain : List ℕ) (stored : IsStored ima
     its_area : (is_directory d.mode || is_regular d.mode) ≡ body_has_addresses node.body
     its_area = ap (λ m. is_directory m || is_regular m) its_mode ∙ area_by_kind node.mode node.body kind
 
-    with_area : body_has_addresses node.body ≡ true → held_by (pointers image.at) d ≡ under_inode (pointers image.at) ino
+    with_area : body_has_addresses node.body ≡ true → held_blocks (pointers image.at) d ≡ under_inode (pointers image.at) ino
     with_area some =
         ap (λ b. cond b (under_dinode (pointers image.at) d) []) (its_area ∙ some)
         ∙ sym (each_alike (λ place. under_block (pointers image.at) (place - 9)) ((pointers image.at).top ino) (address_in d) 13 (same_top image tree chain stored ino d reads))
 
-    pub without_area : body_has_addresses node.body ≡ false → held_by (pointers image.at) d ≡ []
+    pub without_area : body_has_addresses node.body ≡ false → held_blocks (pointers image.at) d ≡ []
     without_area none = ap (λ b. cond b (under_dinode (pointers image.at) d) []) (its_area ∙ none)
 
-    pub lists_held : body_has_addresses node.body ≡ true → Enumerates image.at ino (held_by (pointers image.at) d)
+    pub lists_held : body_has_addresses node.body ≡ true → Enumerates image.at ino (held_blocks (pointers image.at) d)
     lists_held some =
         subst (Enumerates image.at ino) (sym (with_area some))
         (walk_enumerates (has_addresses tree) image.at [] chain ino (laid_stored image tree chain stored) (ap node_has_addresses has ∙ some))
 
     -- the list is what is let go, it can be listed, and all of it is near
-    pub held_lets : LetsGo image.at ino node.body (held_by (pointers image.at) d)
+    pub held_lets : LetsGo image.at ino node.body (held_blocks (pointers image.at) d)
     held_lets = elim (cases_true (body_has_addresses node.body)) [
-      | inl some ↦ listed node.body (held_by (pointers image.at) d) some (lists_held some)
+      | inl some ↦ listed node.body (held_blocks (pointers image.at) d) some (lists_held some)
       | inr none ↦ subst (LetsGo image.at ino node.body) (sym (without_area none)) (special node.body none)
     ]
 
-    pub held_listable : IsListable [] (held_by (pointers image.at) d)
+    pub held_listable : IsListable [] (held_blocks (pointers image.at) d)
     held_listable = elim (cases_true (body_has_addresses node.body)) [
-      | inl some ↦ listable_held image tree chain stored ino (ap node_has_addresses has ∙ some) (held_by (pointers image.at) d) (lists_held some)
+      | inl some ↦ listable_held image tree chain stored ino (ap node_has_addresses has ∙ some) (held_blocks (pointers image.at) d) (lists_held some)
       | inr none ↦ subst (IsListable []) (sym (without_area none)) (record { small = λ block among. absurd (let low = among.1 in omega (arith, low)); few = omega arith })
     ]
 
-    pub held_is_near : (looks : ℕ → Bool) → looks ino ≡ true → (block : ℕ) → Contains (held_by (pointers image.at) d) block → IsNearTo image tree looks block
+    pub held_is_near : (looks : ℕ → Bool) → looks ino ≡ true → (block : ℕ) → Contains (held_blocks (pointers image.at) d) block → IsNearTo image tree looks block
     held_is_near looks looked block among = elim (cases_true (body_has_addresses node.body)) [
-      | inl some ↦ near_held image tree chain stored ino (ap node_has_addresses has ∙ some) (held_by (pointers image.at) d) (lists_held some) looks looked block among
+      | inl some ↦ near_held image tree chain stored ino (ap node_has_addresses has ∙ some) (held_blocks (pointers image.at) d) (lists_held some) looks looked block among
       | inr none ↦ absurd (let there = subst (λ (xs : List ℕ). Contains xs block) (without_area none) among in let low = there.1 in omega (arith, low))
     ]

@@ -1,6 +1,5 @@
 -- Blocks put back on the free chain one after another.
-use Rattle.std.proofs.Common.{ℕ, suc, ◌≡◌, ◌+◌, ◌<◌, ◌≤◌, Bool, Option, List, [], ◌∷◌, ◌++◌, length, take, drop, get_or, refl, sym, ap, subst, ◌∙◌, arith, drop-cons, take-suc, add-one}
-use Rattle.std.specs.List.{Contains}
+use Rattle.std.proofs.Common.{ℕ, suc, ◌≡◌, ◌+◌, ◌<◌, Bool, Option, List, [], ◌∷◌, ◌++◌, length, take, drop, get_or, refl, sym, ap, subst, ◌∙◌, arith, drop-cons, take-suc}
 use Rattle.std.proofs.lemmas.List.Elements.{All-head}
 use Rattle.mb_word.specs.Fields.{ninode_of}
 use Rattle.mb_word.proofs.Values.{word_at-same}

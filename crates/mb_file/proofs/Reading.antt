@@ -1,18 +1,17 @@
 -- Bytes of a file copied part after part.
-use Rattle.std.proofs.Common.{ℕ, zero, suc, ◌≡◌, inl, inr, ◌+◌, ◌-◌, ◌*◌, ◌/◌, ◌%◌, ◌<◌, ◌≤◌, Option, Some, None, List, [], ◌∷◌, ◌++◌, length, take, drop, get_or, replicate, unwrap_or, length-append, append_assoc, drop-cons, refl, sym, ap, subst, ◌∙◌, arith}
+use Rattle.std.proofs.Common.{ℕ, zero, suc, ◌≡◌, inl, inr, ◌+◌, ◌-◌, ◌*◌, ◌/◌, ◌%◌, ◌≤◌, Option, List, [], ◌∷◌, ◌++◌, length, take, drop, get_or, replicate, unwrap_or, length-append, drop-cons, refl, sym, ap, subst, ◌∙◌, arith}
 use Rattle.std.proofs.lemmas.Bool.{cases_eq, cases_lt}
-use Rattle.std.proofs.lemmas.List.{length-replicate}
 use Rattle.mb_kinds.specs.Image.{zeros}
 use Rattle.mb_word.specs.Numbers.{AreBytes}
-use Rattle.mb_tree.specs.Blocks.{part_address, part_bytes, part_in}
+use Rattle.mb_tree.specs.Blocks.{part_address, part_bytes}
 use Rattle.mb_tree.specs.Cost.{most_parts}
 use Rattle.mb_tree.specs.Views.{over, IsPart}
 use Rattle.mb_iface.specs.Changed.{ChangeList, changed}
 use Rattle.mb_blocks.proofs.PartBytes.{part_found, part_missing}
 use Rattle.mb_blocks.proofs.Taking.{length-zeros}
 use Rattle.mb_alloc.proofs.Within.{length-take_drop}
-use Rattle.mb_file.specs.Finding.{FindsPart, HasSmallAddresses, OnInode}
-use Rattle.mb_file.specs.Reading.{Appends, Copies, CopiesPart, HasBytesAt, bytes_on}
+use Rattle.mb_file.specs.Finding.{FindsPart, OnInode}
+use Rattle.mb_file.specs.Reading.{Appends, CopiesPart, HasBytesAt, bytes_on}
 use Rattle.mb_file.specs.declared.parts.PartAt.TheVariants as found
 use Rattle.mb_file.specs.declared.walks.Walked.{Walked}
 use Rattle.mb_file.specs.declared.walks.Walked.TheVariants as walked

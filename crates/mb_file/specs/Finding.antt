@@ -1,5 +1,5 @@
 -- A part of a file found by its inode's addresses.
-use Rattle.std.specs.Prelude.{List, ℕ, ◌<◌, ◌≤◌, ◌≡◌, ◌⊎◌, nat_eq, Option, None, IfSome, length}
+use Rattle.std.specs.Prelude.{List, ℕ, ◌<◌, ◌≡◌, nat_eq, Option, None, IfSome, length}
 use Rattle.mb_word.specs.Fields.{inode_block}
 use Rattle.mb_tree.specs.Blocks.{pointers, part_address, part_in}
 use Rattle.mb_tree.specs.Cost.{most_parts}
@@ -21,13 +21,13 @@ abbrev pub OnInode : (ℕ → Option (List ℕ)) → ChangeList → ℕ → ((�
 OnInode shown changes ino says = (blocks : ℕ → List ℕ) → IsPart shown blocks → HasSmallAddresses (over blocks (changed changes)) ino → says (over blocks (changed changes))
 
 -- the block in which an inode stands, or one to which an address of it leads
-pub data IsOwn (blocks : ℕ → List ℕ) (ino block : ℕ) : Type 0 where
-  inode : block ≡ inode_block ino → IsOwn blocks ino block
-  led_to : (q : Place) → IsPlace (nat_eq ino) q → at (pointers blocks) q ≡ block → IsOwn blocks ino block
+pub data IsBlockOfInode (blocks : ℕ → List ℕ) (ino block : ℕ) : Type 0 where
+  inode : block ≡ inode_block ino → IsBlockOfInode blocks ino block
+  led_to : (q : Place) → IsPlace (nat_eq ino) q → at (pointers blocks) q ≡ block → IsBlockOfInode blocks ino block
 
 -- a need of such a block
 abbrev pub AsksForOwn : (ℕ → Option (List ℕ)) → ChangeList → ℕ → Need → Type 0
-AsksForOwn shown changes ino need = IsNeed shown need × OnInode shown changes ino (λ now. IsOwn now ino need.first)
+AsksForOwn shown changes ino need = IsNeed shown need × OnInode shown changes ino (λ now. IsBlockOfInode now ino need.first)
 
 abbrev pub FindsPart : (ℕ → Option (List ℕ)) → ChangeList → ℕ → ℕ → PartAt → Type 0
 FindsPart shown changes ino part (found.Block block) = (0 < block) × (block < 262144) × (part < most_parts) × OnInode shown changes ino (λ now. part_address now ino part ≡ block)

@@ -1,5 +1,5 @@
 -- Blocks in hand put back on the free chain one after another.
-use Rattle.std.specs.Prelude.{List, [], ℕ, ◌<◌, ◌≤◌, ◌≡◌, ◌⊎◌, Bool, Option}
+use Rattle.std.specs.Prelude.{List, ℕ, ◌<◌, ◌≤◌, ◌≡◌, ◌⊎◌, Bool, Option}
 use Rattle.std.specs.List.{Contains}
 use Rattle.mb_word.specs.Fields.{fsize_of, isize_of, ninode_of}
 use Rattle.mb_tree.specs.Views.{over, IsPart}

@@ -1,9 +1,9 @@
-use Rattle.std.proofs.Common.{◌≡◌, [], ◌∙◌, subst}
+use Rattle.std.proofs.Common.{◌≡◌, ◌∙◌, subst}
 use Rattle.mb_iface.specs.Asking.{Finds}
 use Rattle.mb_iface.specs.declared.queries.Query.TheVariants.{Bytes}
 use Rattle.mb_iface.specs.declared.replies.Answer.TheVariants as answer
 use Rattle.mb_iface.specs.declared.replies.Asked.TheVariants as asked
-use Rattle.mb_file.proofs.Answering.{found_bytes, found_nothing, asked_reading, asked_inode}
+use Rattle.mb_file.proofs.Answering.{found_bytes, found_nothing, asked_reading}
 use Rattle.mb_file.proofs.reads.read.Goals as goal
 
 pub returns-then-most-eq0-clause-answer : goal.returns-then-most-eq0-clause-answer

@@ -1,6 +1,5 @@
-use Rattle.std.proofs.Common.{◌≡◌, ◌+◌, ◌-◌, ◌*◌, ◌∙◌, ap, inl, sym, subst, arith}
+use Rattle.std.proofs.Common.{◌≡◌, ◌+◌, ◌-◌, inl, sym, subst, arith}
 use Rattle.std.specs.List.{Contains}
-use Rattle.mb_word.specs.Numbers.{long_at}
 use Rattle.mb_tree.specs.Blocks.{pointers}
 use Rattle.mb_tree.specs.Views.{over}
 use Rattle.mb_iface.specs.Changed.{changed}

@@ -1,4 +1,4 @@
-use Rattle.std.proofs.Common.{[], ◌-◌}
+use Rattle.std.proofs.Common.{◌-◌}
 use Rattle.mb_file.proofs.Listing.{HasCollected}
 use Rattle.mb_file.proofs.walks.collect.Given as goal
 
