@@ -1,19 +1,17 @@
 -- Fields of an inode set.
-use Rattle.std.proofs.Common.{ℕ, ◌≡◌, ◌≢◌, ◌+◌, ◌*◌, ◌<◌, ◌≤◌, Bool, List, length, Option, Some, slice_index, refl, sym, ap, subst, ◌∙◌, arith}
+use Rattle.std.proofs.Common.{ℕ, ◌≡◌, ◌≢◌, ◌+◌, ◌*◌, ◌<◌, Bool, List, length, Option, Some, slice_index, refl, sym, ap, subst, ◌∙◌, arith}
 use Rattle.std.specs.Prelude.{bit_or}
 use Rattle.std.specs.FinMap as fin
 use Rattle.mb_kinds.specs.Image.{Image}
-use Rattle.mb_word.specs.Fields.{inode_block, inode_place, area_of, size_of}
+use Rattle.mb_word.specs.Fields.{inode_block, inode_place, area_of}
 use Rattle.mb_word.specs.Numbers.{addr_at}
 use Rattle.mb_word.proofs.Parts.{get_or-part}
-use Rattle.mb_layout.specs.Inode.{dinode_at, address_in}
+use Rattle.mb_layout.specs.Inode.{dinode_at}
 use Rattle.mb_layout.specs.declared.dinodes.Dinode.{Dinode}
 use Rattle.mb_layout.proofs.InodeBytes.{address_in_area}
 use Rattle.mb_layout.proofs.InodeOrder.{place_below}
-use Rattle.mb_tree.specs.Blocks.{pointers}
 use Rattle.mb_tree.specs.Inodes.{kind_of}
 use Rattle.mb_tree.specs.Views.{over, IsPart}
-use Rattle.mb_tree.specs.Volume.{HasNode}
 use Rattle.mb_tree.specs.declared.nodes.Node.{Node}
 use Rattle.mb_tree.specs.declared.trees.Tree.{Tree}
 use Rattle.mb_blocks.specs.Inodes.{HasValues, IsDinodeWritten, IsRewritten}

@@ -1,10 +1,10 @@
 -- A slot added behind those of a directory.
-use Rattle.std.proofs.Common.{ℕ, ◌≡◌, ◌≢◌, ◌+◌, ◌*◌, ◌/◌, ◌%◌, ◌<◌, ◌≤◌, ◌⊎◌, Bool, not, List, [], ◌∷◌, ◌++◌, length, Option, None, Err, position, slice_index, unwrap_or, option_map, slice_set, refl, sym, ap, subst, ◌∙◌, arith}
+use Rattle.std.proofs.Common.{ℕ, ◌≡◌, ◌≢◌, ◌+◌, ◌*◌, ◌/◌, ◌%◌, ◌<◌, ◌≤◌, Bool, List, [], ◌∷◌, ◌++◌, length, Err, unwrap_or, option_map, slice_set, refl, sym, ap, subst, ◌∙◌, arith}
 use Rattle.std.specs.FinMap as fin
 use Rattle.std.proofs.lemmas.List.{length-append}
 use Rattle.mb_kinds.specs.Image.{Image}
 use Rattle.mb_kinds.specs.declared.errors.Errno.TheVariants.{ENOSPC}
-use Rattle.mb_word.specs.Fields.{area_of, inode_block, inode_place, size_of}
+use Rattle.mb_word.specs.Fields.{inode_block, inode_place, size_of}
 use Rattle.mb_layout.specs.Inode.{dinode_at}
 use Rattle.mb_layout.specs.declared.dinodes.Dinode.{Dinode}
 use Rattle.mb_layout.proofs.InodeBytes.{address_in_area}
@@ -12,10 +12,7 @@ use Rattle.mb_layout.proofs.InodeOrder.{place_below}
 use Rattle.mb_tree.specs.Blocks.{part_address, pointers}
 use Rattle.mb_tree.specs.Cost.{most_parts}
 use Rattle.mb_tree.specs.Effect.{entered, fitting, on_slots}
-use Rattle.mb_tree.specs.Lookup.{is_used}
 use Rattle.mb_tree.specs.Places.{place_of}
-use Rattle.mb_tree.specs.Volume.{has_addresses}
-use Rattle.mb_tree.specs.declared.nodes.Body.{Body}
 use Rattle.mb_tree.specs.declared.nodes.Body.TheVariants.{Directory}
 use Rattle.mb_tree.specs.declared.nodes.Node.{Node}
 use Rattle.mb_tree.specs.declared.nodes.PlainSlot.{PlainSlot}
@@ -23,7 +20,7 @@ use Rattle.mb_tree.specs.declared.trees.Tree.{Tree}
 use Rattle.mb_blocks.specs.Growing.{Reaches, missing}
 use Rattle.mb_blocks.specs.Inodes.{IsDinodeWritten, IsRewritten}
 use Rattle.mb_blocks.proofs.InodeWrites.{addresses_now, dinode_written, fields_now, value_now}
-use Rattle.mb_nodes.specs.Bodies.{HasWritten, IsSlotSet}
+use Rattle.mb_nodes.specs.Bodies.{IsSlotSet}
 use Rattle.mb_nodes.specs.Stored.{IsStored, with_node}
 use Rattle.mb_nodes.proofs.GrowRefused.{grow_refused}
 use Rattle.mb_nodes.proofs.NodeParts.{node_stored}
@@ -40,7 +37,7 @@ use Rattle.mb_dirs.specs.Steps.{IsLookedThrough}
 use Rattle.mb_dirs.specs.declared.enters.Gap.TheVariants as gap
 use Rattle.mb_dirs.proofs.FieldSetting.{SaysFields, last_byte, says_values, stored_says}
 use Rattle.mb_dirs.proofs.LookedThrough.{few, holds, on, within}
-use Rattle.mb_dirs.proofs.PartReached.{some, sized}
+use Rattle.mb_dirs.proofs.PartReached.{some}
 
 module _ (image : Image) (tree : Tree) (chain : List ℕ) (looks : ℕ → Bool) (stored : IsStored image tree chain) (dir : ℕ) (node : Node) (slots : List PlainSlot) (look : IsLookedThrough tree looks dir node slots)
     (none : IsGap slots gap.End) (d : Dinode) (is : d ≡ dinode_at (image.at (inode_block dir)) (inode_place dir)) (links moment : ℕ) (name : List ℕ) (ino : ℕ) where

@@ -1,6 +1,5 @@
 -- A slot added behind those of a directory, on changes over an image.
-use Rattle.std.proofs.Common.{ℕ, ◌≡◌, ◌+◌, ◌*◌, ◌/◌, ◌%◌, ◌<◌, ◌≤◌, ◌⊎◌, inl, inr, Bool, List, length, Option, refl, sym, ap, subst, ◌∙◌, arith}
-use Rattle.mb_kinds.specs.Image.{Image}
+use Rattle.std.proofs.Common.{ℕ, ◌≡◌, ◌/◌, ◌%◌, ◌≤◌, ◌⊎◌, inl, inr, List, Option, sym, ap, subst, ◌∙◌, arith}
 use Rattle.mb_word.specs.Fields.{inode_block, inode_place}
 use Rattle.mb_layout.specs.Inode.{dinode_at}
 use Rattle.mb_layout.specs.declared.dinodes.Dinode.{Dinode}
@@ -8,31 +7,24 @@ use Rattle.mb_tree.specs.Blocks.{part_address}
 use Rattle.mb_tree.specs.Places.{place_of}
 use Rattle.mb_tree.specs.Views.{over, IsPart}
 use Rattle.mb_tree.specs.Volume.{has_addresses}
-use Rattle.mb_tree.specs.declared.nodes.Node.{Node}
-use Rattle.mb_tree.specs.declared.nodes.PlainSlot.{PlainSlot}
-use Rattle.mb_tree.specs.declared.trees.Tree.{Tree}
 use Rattle.mb_blocks.specs.Growing.{Reaches}
 use Rattle.mb_bmap.specs.Reaching.{ReachesPart}
 use Rattle.mb_bmap.specs.declared.reaches.Reached.TheVariants as reached
 use Rattle.mb_iface.specs.Acting.{with_changes}
-use Rattle.mb_iface.specs.Changed.{ChangeList, changed, IsWithinView}
+use Rattle.mb_iface.specs.Changed.{ChangeList, changed}
 use Rattle.mb_iface.specs.Needs.{IsNeed}
 use Rattle.mb_iface.specs.declared.edits.Edited.TheVariants as edited
 use Rattle.mb_iface.specs.declared.replies.Need.{Need}
 use Rattle.mb_nodes.specs.Bodies.{IsSlotSet}
-use Rattle.mb_nodes.specs.Stored.{IsStored, with_node}
 use Rattle.mb_moves.specs.Advancing.{IsNearTo}
 use Rattle.mb_moves.specs.Looking.{looked_at}
-use Rattle.mb_moves.proofs.Asking.{inode_near, reaching_near, ready_for}
-use Rattle.mb_dirs.specs.Entering.{IsGap}
+use Rattle.mb_moves.proofs.Asking.{reaching_near, ready_for}
 use Rattle.mb_dirs.specs.Growth.{Grows, longer_inode}
 use Rattle.mb_dirs.specs.Rewriting.{Rewrites}
 use Rattle.mb_dirs.specs.SlotBlocks.{PutsSlot}
-use Rattle.mb_dirs.specs.Steps.{IsLookedThrough}
 use Rattle.mb_dirs.specs.declared.enters.Entered.TheVariants as entered
-use Rattle.mb_dirs.specs.declared.enters.Gap.TheVariants as gap
 use Rattle.mb_dirs.specs.declared.steps.Advanced.TheVariants as advanced
-use Rattle.mb_dirs.proofs.Growing.{full, grown, growth_refused, midway, next_part, next_place, part_below}
+use Rattle.mb_dirs.proofs.Growing.{grown, growth_refused, midway, next_part, next_place, part_below}
 use Rattle.mb_dirs.proofs.LookedThrough.{on, within}
 use Rattle.mb_dirs.proofs.PartReached.{block_near, in_volume, sized}
 

@@ -1,9 +1,8 @@
 -- A directory of a stored tree at which an operation looks.
-use Rattle.std.proofs.Common.{ℕ, ◌≡◌, ◌*◌, ◌+◌, ◌/◌, ◌<◌, ◌≤◌, Bool, true, List, [], length, Option, Some, refl, sym, ap, subst, ◌∙◌, arith}
-use Rattle.std.specs.FinMap as fin
+use Rattle.std.proofs.Common.{ℕ, ◌≡◌, ◌/◌, ◌<◌, ◌≤◌, Bool, true, List, [], length, ap, subst, ◌∙◌, arith}
 use Rattle.mb_kinds.specs.Image.{Image}
 use Rattle.mb_tree.specs.Blocks.{part_address, part_in}
-use Rattle.mb_tree.specs.Cost.{most_parts, parts_for}
+use Rattle.mb_tree.specs.Cost.{most_parts}
 use Rattle.mb_tree.specs.Volume.{HasBody, HasDirectory, body_has_addresses, node_has_addresses, has_addresses}
 use Rattle.mb_tree.specs.declared.nodes.Node.{Node}
 use Rattle.mb_tree.specs.declared.nodes.PlainSlot.{PlainSlot}

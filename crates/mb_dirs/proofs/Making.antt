@@ -1,5 +1,5 @@
 -- An inode made: its 64 bytes written without an address.
-use Rattle.std.proofs.Common.{ℕ, zero, suc, ◌≡◌, ◌≢◌, ◌+◌, ◌*◌, ◌<◌, ◌≤◌, Bool, List, [], ◌∷◌, ◌++◌, length, replicate, set, get_or, get_or-set_other, get_or-set_same, slice_index, Option, None, Err, refl, sym, ap, subst, ◌∙◌, arith}
+use Rattle.std.proofs.Common.{ℕ, zero, suc, ◌≡◌, ◌≢◌, ◌+◌, ◌*◌, ◌<◌, ◌≤◌, Bool, List, [], ◌∷◌, length, replicate, get_or, get_or-set_other, get_or-set_same, slice_index, Err, refl, sym, ap, subst, ◌∙◌, arith}
 use Rattle.std.specs.Prelude.{bit_or}
 use Rattle.std.specs.FinMap as fin
 use Rattle.std.proofs.lemmas.List.{length-replicate}
@@ -28,7 +28,7 @@ use Rattle.mb_moves.specs.Looking.{and_one, looked_at}
 use Rattle.mb_moves.specs.Midway.{IsMidway}
 use Rattle.mb_moves.proofs.Making.{directory_advances, file_advances}
 use Rattle.mb_moves.proofs.Within.{at_birth, making_refused}
-use Rattle.mb_dirs.specs.Making.{directory_made, file_made, new_inode}
+use Rattle.mb_dirs.specs.Making.{new_inode}
 use Rattle.mb_dirs.specs.Rewriting.{area_in, blank_area}
 use Rattle.mb_dirs.specs.Steps.{IsUnusedIn}
 use Rattle.mb_dirs.specs.declared.makes.NewInode.{NewInode}

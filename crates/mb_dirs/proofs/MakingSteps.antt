@@ -1,13 +1,9 @@
 -- An inode made, on changes over an image.
-use Rattle.std.proofs.Common.{ℕ, ◌≡◌, ◌≢◌, ◌<◌, ◌≤◌, ◌⊎◌, inl, inr, Bool, List, length, Option, refl, sym, ap, subst, ◌∙◌, arith}
+use Rattle.std.proofs.Common.{ℕ, ◌≡◌, ◌≢◌, ◌≤◌, ◌⊎◌, inl, inr, Bool, List, Option, refl, sym, subst, arith}
 use Rattle.std.specs.Prelude.{bit_or}
-use Rattle.std.specs.FinMap as fin
 use Rattle.mb_kinds.specs.Image.{Image}
-use Rattle.mb_word.specs.Fields.{inode_block}
 use Rattle.mb_layout.specs.declared.dinodes.Dinode.{Dinode}
-use Rattle.mb_tree.specs.Blocks.{part_address}
 use Rattle.mb_tree.specs.Effect.{dot, dot_dot, first_slots}
-use Rattle.mb_tree.specs.Places.{place_of}
 use Rattle.mb_tree.specs.Views.{over, IsPart}
 use Rattle.mb_tree.specs.declared.trees.Tree.{Tree}
 use Rattle.mb_bmap.specs.Reaching.{ReachesPart}
@@ -31,7 +27,7 @@ use Rattle.mb_dirs.specs.declared.enters.Entered.TheVariants as entered
 use Rattle.mb_dirs.specs.declared.makes.NewInode.{NewInode}
 use Rattle.mb_dirs.specs.declared.steps.Advanced.{Advanced}
 use Rattle.mb_dirs.specs.declared.steps.Advanced.TheVariants as advanced
-use Rattle.mb_dirs.proofs.Making.{birth, directory, file, holes, mode_used, numbered, refused, rewritten, says}
+use Rattle.mb_dirs.proofs.Making.{birth, directory, file, mode_used, refused, says}
 use Rattle.mb_dirs.proofs.PartReached.{block_near, in_volume, sized}
 
 pub file_step : (shown : ℕ → Option (List ℕ)) (old now : ChangeList) (ino : ℕ) (new : NewInode) (d : Dinode) (result : Advanced) → d ≡ new_inode new (bit_or 0x8000 new.mode) 1 0

@@ -1,5 +1,5 @@
 -- The block of a part that was reached within a step.
-use Rattle.std.proofs.Common.{ℕ, ◌≡◌, ◌<◌, ◌≤◌, Bool, List, [], length, refl, sym, subst, ◌∙◌, arith}
+use Rattle.std.proofs.Common.{ℕ, ◌≡◌, ◌<◌, ◌≤◌, Bool, List, length, subst, arith}
 use Rattle.mb_kinds.specs.Image.{Image}
 use Rattle.mb_tree.specs.Blocks.{part_address}
 use Rattle.mb_tree.specs.Cost.{most_parts}

@@ -1,5 +1,5 @@
 -- An inode written with the area that is found in its block.
-use Rattle.std.proofs.Common.{ℕ, ◌≡◌, List, Option, sym, ap, subst, ◌∙◌}
+use Rattle.std.proofs.Common.{ℕ, ◌≡◌, List, Option, subst}
 use Rattle.mb_word.specs.Fields.{inode_block, inode_place}
 use Rattle.mb_layout.specs.Inode.{dinode_at}
 use Rattle.mb_layout.specs.declared.dinodes.Dinode.{Dinode}

@@ -1,9 +1,9 @@
 -- A directory's fields and one of its slots written, one after the other.
-use Rattle.std.proofs.Common.{ℕ, ◌≡◌, ◌≢◌, ◌<◌, ◌≤◌, Bool, not, List, length, Option, Some, position, slice_set, unwrap_or, option_map, [], ◌∷◌, ◌++◌, refl, sym, ap, subst, ◌∙◌, arith}
+use Rattle.std.proofs.Common.{ℕ, ◌≡◌, ◌<◌, Bool, not, List, length, Option, Some, position, slice_set, unwrap_or, option_map, [], ◌∷◌, ◌++◌, sym, ap, subst, ◌∙◌, arith}
 use Rattle.std.specs.FinMap as fin
 use Rattle.std.proofs.lemmas.List.Quantifiers.{position-Some}
 use Rattle.mb_kinds.specs.Image.{Image}
-use Rattle.mb_tree.specs.Effect.{entered as entered_in, emptied, on_slots, touched}
+use Rattle.mb_tree.specs.Effect.{entered as entered_in, emptied, on_slots}
 use Rattle.mb_tree.specs.Lookup.{is_used, is_named}
 use Rattle.mb_tree.specs.Views.{IsPart}
 use Rattle.mb_tree.specs.declared.nodes.Body.{Body}
@@ -23,7 +23,6 @@ use Rattle.mb_moves.proofs.Trees.{put_twice}
 use Rattle.mb_dirs.specs.Entering.{ChangesDirectory, ClearsSlot, Enters, RewritesSlot, SetsSlot, IsGap, named_node, unnamed_node}
 use Rattle.mb_dirs.specs.Fields.{SetsFields, with_fields}
 use Rattle.mb_dirs.specs.Steps.{IsLookedThrough}
-use Rattle.mb_dirs.specs.declared.enters.Entered.{Entered}
 use Rattle.mb_dirs.specs.declared.enters.Entered.TheVariants as entered
 use Rattle.mb_dirs.specs.declared.enters.Gap.{Gap}
 use Rattle.mb_dirs.specs.declared.enters.Gap.TheVariants as gap

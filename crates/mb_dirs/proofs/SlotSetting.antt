@@ -1,5 +1,5 @@
 -- A slot of a directory written where it stands.
-use Rattle.std.proofs.Common.{ℕ, ◌≡◌, ◌*◌, ◌+◌, ◌/◌, ◌%◌, ◌<◌, ◌≤◌, Bool, List, length, Option, refl, sym, ap, subst, ◌∙◌, arith}
+use Rattle.std.proofs.Common.{ℕ, ◌≡◌, ◌/◌, ◌%◌, ◌<◌, ◌≤◌, Bool, List, Option, sym, subst, ◌∙◌, arith}
 use Rattle.mb_kinds.specs.Image.{Image}
 use Rattle.mb_tree.specs.Blocks.{part_address}
 use Rattle.mb_tree.specs.Cost.{most_parts}

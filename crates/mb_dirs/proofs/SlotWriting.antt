@@ -1,11 +1,11 @@
 -- A slot written in a block.
-use Rattle.std.proofs.Common.{ℕ, ◌≡◌, ◌≢◌, ◌*◌, ◌+◌, ◌++◌, ◌<◌, ◌≤◌, List, length, Option, drop, append-nil, refl, sym, ap, subst, ◌∙◌, arith}
+use Rattle.std.proofs.Common.{ℕ, ◌≡◌, ◌*◌, ◌+◌, ◌++◌, ◌<◌, ◌≤◌, List, length, Option, append-nil, ap, ◌∙◌, arith}
 use Rattle.std.proofs.Math.ListN.{drop_of_length-le}
 use Rattle.mb_word.specs.Numbers.{put_at, word_bytes}
-use Rattle.mb_layout.specs.SlotEntry.{FitsSlot, slot_bytes}
+use Rattle.mb_layout.specs.SlotEntry.{slot_bytes}
 use Rattle.mb_layout.specs.declared.slots.Slot.{Slot}
 use Rattle.mb_layout.proofs.SlotBytes.{length-slot_bytes, slot_put}
-use Rattle.mb_tree.specs.Views.{over, IsPart}
+use Rattle.mb_tree.specs.Views.{over}
 use Rattle.mb_iface.specs.Changed.{ChangeList, changed, put_block}
 use Rattle.mb_iface.specs.Edits.{Edits}
 use Rattle.mb_iface.specs.declared.edits.Edited.{Edited}

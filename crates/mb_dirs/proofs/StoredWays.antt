@@ -1,12 +1,11 @@
 -- The way to a part of a node of a stored tree.
-use Rattle.std.proofs.Common.{ℕ, zero, suc, ◌≡◌, inl, inr, ◌+◌, ◌-◌, ◌<◌, ◌≤◌, Bool, true, List, [], Option, Some, slice_index, refl, sym, ap, subst, ◌∙◌, arith}
+use Rattle.std.proofs.Common.{ℕ, zero, suc, ◌≡◌, inl, inr, ◌+◌, ◌-◌, ◌<◌, ◌≤◌, Bool, true, List, Some, slice_index, sym, ap, subst, ◌∙◌, arith}
 use Rattle.std.specs.FinMap as fin
 use Rattle.std.proofs.lemmas.Bool.{cases_lt}
 use Rattle.mb_kinds.specs.Image.{Image}
-use Rattle.mb_word.specs.Fields.{inode_block, fsize_of}
 use Rattle.mb_tree.specs.Blocks.{pointers, entry_in, part_address}
 use Rattle.mb_tree.specs.Cost.{most_parts}
-use Rattle.mb_tree.specs.Places.{at, IsPlace, place_of}
+use Rattle.mb_tree.specs.Places.{at}
 use Rattle.mb_tree.specs.Volume.{body_has_addresses, node_has_addresses, has_addresses}
 use Rattle.mb_tree.specs.declared.nodes.Node.{Node}
 use Rattle.mb_tree.specs.declared.trees.Tree.{Tree}
