@@ -1,22 +1,18 @@
 -- Bytes put into a file part after part, then its size and times.
-use Rattle.std.proofs.Common.{ℕ, zero, suc, ◌≡◌, ◌⊎◌, inl, inr, ◌+◌, ◌-◌, ◌*◌, ◌/◌, ◌%◌, ◌<◌, ◌≤◌, Bool, true, false, max, Option, Some, None, Ok, Err, IsSome, List, [], ◌∷◌, ◌++◌, length, take, drop, unwrap_or, length-append, refl, sym, ap, subst, ◌∙◌, arith}
+use Rattle.std.proofs.Common.{ℕ, zero, suc, ◌≡◌, inl, inr, ◌+◌, ◌/◌, ◌%◌, ◌<◌, ◌≤◌, Bool, true, max, Option, List, [], ◌∷◌, ◌++◌, length, take, drop, unwrap_or, refl, sym, ap, subst, ◌∙◌, arith}
 use Rattle.std.specs.Prelude.{is_some}
 use Rattle.std.specs.FinMap as fin
 use Rattle.std.proofs.lemmas.List.{length-take-le, length-drop, take_all}
 use Rattle.mb_kinds.specs.Image.{Image, zeros}
-use Rattle.mb_kinds.specs.declared.errors.Errno.TheVariants.{ENOSPC}
-use Rattle.mb_word.specs.Fields.{inode_block, inode_place, size_of}
+use Rattle.mb_word.specs.Fields.{inode_block, inode_place}
 use Rattle.mb_word.specs.Numbers.{put_at}
-use Rattle.mb_layout.specs.Inode.{address_in, dinode_at}
+use Rattle.mb_layout.specs.Inode.{dinode_at}
 use Rattle.mb_layout.specs.declared.dinodes.Dinode.{Dinode}
-use Rattle.mb_tree.specs.Blocks.{pointers}
-use Rattle.mb_tree.specs.Effect.{fitting, put_bytes, touched, wrote, written as grown_body}
+use Rattle.mb_tree.specs.Effect.{fitting, put_bytes, touched}
 use Rattle.mb_tree.specs.Inodes.{part_at}
 use Rattle.mb_tree.specs.Maps.{Numbered}
 use Rattle.mb_tree.specs.PutParts.{AreWhole, IsReached}
 use Rattle.mb_tree.specs.Views.{over, IsPart}
-use Rattle.mb_tree.specs.declared.nodes.Body.{Body}
-use Rattle.mb_tree.specs.declared.nodes.Body.TheVariants.{Regular}
 use Rattle.mb_tree.specs.declared.nodes.Node.{Node}
 use Rattle.mb_tree.specs.declared.trees.Tree.{Tree}
 use Rattle.mb_tree.proofs.FiniteMaps.{get_here}
@@ -34,7 +30,7 @@ use Rattle.mb_moves.proofs.InARow.{changed_in_turn, near_before, nothing_changed
 use Rattle.mb_moves.proofs.Setting.{sized_advances}
 use Rattle.mb_moves.proofs.Trees.{put_twice}
 use Rattle.mb_file.specs.Clearing.{IsFileAt}
-use Rattle.mb_file.specs.Putting.{AsksNearFile, IsRefusedWith, OnParts, PutsBytes, PutsPart, SetsSize, grown_inode, with_parts}
+use Rattle.mb_file.specs.Putting.{OnParts, PutsBytes, PutsPart, SetsSize, grown_inode, with_parts}
 use Rattle.mb_file.specs.declared.puts.Written.TheVariants as written
 use Rattle.mb_file.proofs.Clearing.{last_read, values_read}
 use Rattle.mb_file.proofs.Holding.{its_inode, its_number, same_top}

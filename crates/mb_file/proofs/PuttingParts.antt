@@ -1,10 +1,9 @@
 -- Bytes put into one part of a file, which is made where it is a hole.
-use Rattle.std.proofs.Common.{ℕ, ◌≡◌, ◌≢◌, ◌⊎◌, inl, inr, ◌+◌, ◌<◌, ◌≤◌, Bool, true, false, cond, nat_lt, Option, Some, None, Err, List, [], length, unwrap_or, refl, sym, ap, subst, ◌∙◌, arith}
+use Rattle.std.proofs.Common.{ℕ, ◌≡◌, ◌⊎◌, inl, inr, ◌+◌, ◌<◌, ◌≤◌, Bool, true, cond, nat_lt, Option, Some, None, List, length, unwrap_or, refl, sym, ap, subst, ◌∙◌, arith}
 use Rattle.std.specs.FinMap as fin
 use Rattle.std.proofs.lemmas.Bool.{cases_eq}
 use Rattle.std.proofs.lemmas.Bool.Decides.{nat_tests}
 use Rattle.mb_kinds.specs.Image.{Image, zeros}
-use Rattle.mb_word.specs.Fields.{inode_block}
 use Rattle.mb_word.specs.Numbers.{put_at}
 use Rattle.mb_word.proofs.Writes.{length-put_at}
 use Rattle.mb_tree.specs.Blocks.{pointers, part_address, part_in}
@@ -13,15 +12,14 @@ use Rattle.mb_tree.specs.Inodes.{part_at}
 use Rattle.mb_tree.specs.Maps.{Numbered}
 use Rattle.mb_tree.specs.Places.{Place, at, place_of}
 use Rattle.mb_tree.specs.Places.Place.{Top, Under}
-use Rattle.mb_tree.specs.Views.{over, IsPart}
+use Rattle.mb_tree.specs.Views.{over}
 use Rattle.mb_tree.specs.Volume.{HasBody, HasFile, body_has_addresses, has_addresses, node_has_addresses}
 use Rattle.mb_tree.specs.declared.nodes.Body.{Body}
-use Rattle.mb_tree.specs.declared.nodes.Body.TheVariants.{Regular}
 use Rattle.mb_tree.specs.declared.nodes.Node.{Node}
 use Rattle.mb_tree.specs.declared.trees.Tree.{Tree}
 use Rattle.mb_tree.proofs.FiniteMaps.{get_here, get_there, one_or_not, same}
 use Rattle.mb_iface.specs.Acting.{with_changes}
-use Rattle.mb_iface.specs.Changed.{ChangeList, changed, IsWithinView, put_block}
+use Rattle.mb_iface.specs.Changed.{ChangeList, changed, put_block}
 use Rattle.mb_iface.specs.Edits.{HasEdited}
 use Rattle.mb_iface.specs.Needs.{IsNeed}
 use Rattle.mb_iface.specs.declared.replies.Need.{Need}
@@ -30,7 +28,7 @@ use Rattle.mb_blocks.specs.Growing.{MakesPlace, Reaches, hole, missing}
 use Rattle.mb_blocks.proofs.PartBytes.{held_part, part_found}
 use Rattle.mb_blocks.proofs.Pointing.{zero_entry}
 use Rattle.mb_blocks.proofs.Reached.{got, way_place}
-use Rattle.mb_bmap.specs.Reaching.{IsReady, ReachesPart}
+use Rattle.mb_bmap.specs.Reaching.{ReachesPart}
 use Rattle.mb_bmap.specs.declared.reaches.Reached.TheVariants as reached
 use Rattle.mb_nodes.specs.Stored.{IsStored, with_node}
 use Rattle.mb_nodes.proofs.CostGrows.{no_space}

@@ -1,14 +1,13 @@
 -- Bytes put into a file with its size and times, and the operation on a volume.
-use Rattle.std.proofs.Common.{ℕ, ◌≡◌, ◌⊎◌, inl, inr, ◌+◌, ◌-◌, ◌<◌, ◌≤◌, Bool, true, false, max, nat_le, Option, Some, None, Ok, Err, List, [], length, refl, sym, ap, subst, ◌∙◌, arith}
+use Rattle.std.proofs.Common.{ℕ, ◌≡◌, ◌+◌, ◌<◌, ◌≤◌, Bool, true, false, max, nat_le, Option, None, Ok, Err, List, [], length, refl, sym, ap, subst, ◌∙◌, arith}
 use Rattle.std.specs.FinMap as fin
 use Rattle.std.specs.Ordering.{nat_cmp}
 use Rattle.std.proofs.lemmas.Bool.Decides.{nat_tests}
 use Rattle.mb_kinds.specs.Image.{Image}
-use Rattle.mb_kinds.specs.declared.errors.Errno.{Errno}
 use Rattle.mb_kinds.specs.declared.errors.Errno.TheVariants.{EFBIG, ENOSPC}
-use Rattle.mb_tree.specs.Answers.{Answer, ◌>>=◌, ◌>>◌, need}
+use Rattle.mb_tree.specs.Answers.{Answer, ◌>>◌, need}
 use Rattle.mb_tree.specs.Cost.{cost}
-use Rattle.mb_tree.specs.Effect.{fitting, put, put_bytes, tree_after, touched, wrote, written as grown_body}
+use Rattle.mb_tree.specs.Effect.{fitting, put_bytes, tree_after, touched, wrote, written as grown_body}
 use Rattle.mb_tree.specs.Fits.{FitsPut}
 use Rattle.mb_tree.specs.Maps.{Numbered, changed_at}
 use Rattle.mb_tree.specs.Views.{over, IsPart}
@@ -19,9 +18,8 @@ use Rattle.mb_tree.specs.declared.nodes.Node.{Node}
 use Rattle.mb_tree.specs.declared.operations.FsOp.{FsOp}
 use Rattle.mb_tree.specs.declared.operations.FsOp.TheVariants.{Put}
 use Rattle.mb_tree.specs.declared.trees.Tree.{Tree}
-use Rattle.mb_iface.specs.Acting.{Acts, HasRefused, with_changes}
-use Rattle.mb_iface.specs.Changed.{ChangeList, changed, IsWithinView}
-use Rattle.mb_iface.specs.Needs.{IsNeed}
+use Rattle.mb_iface.specs.Acting.{Acts, with_changes}
+use Rattle.mb_iface.specs.Changed.{ChangeList, changed}
 use Rattle.mb_iface.specs.OpenCounts.{count_of}
 use Rattle.mb_iface.specs.declared.replies.Acted.TheVariants as acted
 use Rattle.mb_iface.specs.declared.replies.Need.{Need}

@@ -1,5 +1,5 @@
 -- Bytes put into a regular file: a step for each part, and one for the size and the times.
-use Rattle.std.specs.Prelude.{List, ℕ, ◌<◌, ◌≡◌, Bool, true, max, is_some, Option, Some, Err}
+use Rattle.std.specs.Prelude.{List, ℕ, ◌≡◌, Bool, true, max, is_some, Option, Err}
 use Rattle.std.specs.FinMap as fin
 use Rattle.mb_kinds.specs.Image.{Image}
 use Rattle.mb_kinds.specs.declared.errors.Errno.TheVariants.{ENOSPC}

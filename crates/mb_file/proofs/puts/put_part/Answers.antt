@@ -1,4 +1,4 @@
-use Rattle.std.proofs.Common.{inl, inr, arith}
+use Rattle.std.proofs.Common.{inl, inr}
 use Rattle.mb_file.proofs.PuttingParts.{puts_none, puts_asked, puts_never, puts_done, puts_lacking}
 use Rattle.mb_file.proofs.puts.put_part.Goals as goal
 

@@ -1,5 +1,5 @@
 use Rattle.std.proofs.Common.{refl}
-use Rattle.mb_file.proofs.PuttingWhole.{whole_asked_own, whole_refused, whole_asked, whole_by}
+use Rattle.mb_file.proofs.PuttingWhole.{whole_asked_own, whole_refused, whole_by}
 use Rattle.mb_file.proofs.puts.put_whole.Goals as goal
 
 pub returns-in-Some : goal.returns-in-Some
