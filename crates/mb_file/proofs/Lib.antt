@@ -8,4 +8,7 @@ pub mod Holding
 pub mod InHand
 pub mod Listing
 pub mod PuttingBack
+pub mod PuttingBytes
+pub mod PuttingParts
+pub mod PuttingWhole
 pub mod Reading
