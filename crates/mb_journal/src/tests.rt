@@ -16,20 +16,17 @@ fn fault(ordinal: u32, kind: Kind) -> FaultRecord {
 #[test]
 fn a_call_is_given_up_at_its_second_own_fault(rt: HostRuntime) -> Result<(), NoMemory> {
     let mut journal = Journal::new(rt.alloc());
-    for (ordinal, kind, twice) in [
-        (4, Kind::Gather, None),
-        (4, Kind::Leave, None),
-        (5, Kind::Enter, None),
-        (4, Kind::Finish, Some((1, 4))),
-        (4, Kind::Enter, Some((1, 4))),
-    ] {
-        journal.reserve_fault()?;
-        journal.record(fault(ordinal, kind));
-        assert_eq!(rt; journal.own_faults(1, 4), twice);
-    }
+    journal.reserve_fault()?;
+    journal.record(fault(4, Kind::Gather));
+    journal.reserve_fault()?;
+    journal.record(fault(4, Kind::Leave));
+    assert_eq!(rt; journal.own_faults(1, 4), None);
+    journal.reserve_fault()?;
+    let number = journal.record(fault(4, Kind::Finish));
+    assert_eq!(rt; number, 3);
+    assert_eq!(rt; journal.own_faults(1, 4), Some((1, 3)));
     assert_eq!(rt; journal.own_faults(0, 4), None);
-    assert_eq!(rt; journal.trail().len(), 5);
-    assert_eq!(rt; journal.trail()[4], Step::Struck(5));
+    assert_eq!(rt; journal.own_faults(1, 3), None);
     Ok(())
 }
 
