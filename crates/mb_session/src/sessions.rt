@@ -1,4 +1,4 @@
-ghost use Rattle.std.specs.Prelude.{◌≡◌, ◌<◌, ◌≤◌, [], Some, length, map, slice_get, option_map, option_and_then, IfOk, IfSome};
+ghost use Rattle.std.specs.Prelude.{◌≡◌, ◌<◌, ◌≤◌, [], Some, length, map, slice_get, option_map, option_and_then, Decides, IfOk, IfSome};
 ghost use Rattle.mb_tree.specs.Opening.{first_seat};
 ghost use Rattle.mb_tree.specs.Sessions.{HasDescriptorInRange, counts, free_descriptor, free_place, is_shared, with_change};
 ghost use Rattle.mb_session.specs.OpenFiles.{TellsCounts, open_file};
@@ -136,6 +136,21 @@ impl Sessions {
         Ok(Sessions { seats })
     }
 
+    /// Whether a caller's own session is the same in both, or missing in both.
+    pub fn agrees(&self, caller: u8, other: &Sessions) -> bool
+        ensures { Decides result (slice_get self.now caller ≡ slice_get other.now caller) }
+    {
+        let at = usize::from(caller);
+        same_at(self.seats.as_slice(), other.seats.as_slice(), at)
+    }
+
+    /// Whether both are the same sessions.
+    pub fn same(&self, other: &Sessions) -> bool
+        ensures { Decides result (self.now ≡ other.now) }
+    {
+        same_seats(self.seats.as_slice(), other.seats.as_slice())
+    }
+
     /// Becomes a copy of other sessions of as many callers, in the room of its own; needs no memory.
     pub fn take_over(&mut self, other: &Sessions)
         requires { length self.old ≡ length other.now }
@@ -178,6 +193,31 @@ fn fill(seats: &mut Roomy<Seat>, from: &[Seat])
     for seat in from {
         seats.push(seat.copied());
     }
+}
+
+/// Whether the sessions at a place are the same, or missing in both lists.
+fn same_at(seats: &[Seat], others: &[Seat], at: usize) -> bool
+    ensures { Decides result (slice_get seats.now at ≡ slice_get others.now at) }
+{
+    match (seats.get(at), others.get(at)) {
+        (Some(seat), Some(other)) => seat.is_same(other),
+        (None, None) => true,
+        _ => false,
+    }
+}
+
+fn same_seats(seats: &[Seat], others: &[Seat]) -> bool
+    ensures { Decides result (seats.now ≡ others.now) }
+{
+    if seats.len() != others.len() {
+        return false;
+    }
+    for at in 0..seats.len() {
+        if !same_at(seats, others, at) {
+            return false;
+        }
+    }
+    true
 }
 
 /// What a descriptor is on; `None` exactly where it is bad.

@@ -1,0 +1,4 @@
+pub mod CopyLoops
+pub mod PinSteps
+pub mod Staleness
+pub mod UndoSteps

@@ -1,0 +1,4 @@
+pub mod Gathering
+pub mod Reads
+pub mod Stale
+pub mod Tables

@@ -1,0 +1,27 @@
+-- What a read of blocks one after another gives, and what is kept of it.
+use Rattle.std.specs.Prelude.{List, [], ◌∷◌, ℕ, ◌+◌, ◌≡◌, Option, IfSome, map, nat_eq}
+use Rattle.indexmap.specs.IndexMap.{insert_all}
+use Rattle.mb_kinds.specs.Image.{Image}
+use Rattle.mb_cache.specs.Stamps.{Stamps, stamp_of}
+use Rattle.mb_core_spec.specs.Copies.{CopyList, KeptBlock}
+use Rattle.mb_gate.specs.declared.ulogs.Undo.{Undo}
+use Rattle.mb_gate.specs.declared.ulogs.Undo.TheVariants as undo
+
+-- a block with its bytes as they are seen, and its stamp
+pub record IsRead (view : Option Image) (stamps : Stamps) (block : ℕ) (read : ℕ × KeptBlock) : Type 0 where
+  pub block_is : read.0 ≡ block
+  pub bytes : IfSome view (λ (image : Image). read.1.bytes ≡ image.at block)
+  pub stamp : read.1.stamp ≡ stamp_of stamps block
+
+-- the blocks from one on
+abbrev pub AreRead : Option Image → Stamps → ℕ → CopyList → Type 0
+AreRead view stamps block [] = Unit {0}
+AreRead view stamps block (read ∷ reads) = IsRead view stamps block read × AreRead view stamps (block + 1) reads
+
+-- copies with those of a list, each in the place of its block's copy where it has one, else behind the others
+abbrev pub stored : CopyList → CopyList → CopyList
+stored copies reads = insert_all nat_eq copies reads
+
+-- the steps of the pins on blocks that were read
+abbrev pub pin_steps : CopyList → List Undo
+pin_steps reads = map (λ (read : ℕ × KeptBlock). undo.Pinned read.0) reads

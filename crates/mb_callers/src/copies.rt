@@ -1,0 +1,191 @@
+ghost use Rattle.std.specs.Prelude.{◌≡◌, ◌≤◌, ◌<◌, ◌+◌, [], ℕ, length, OnOk, IsOk, Some, option_copied, nat_eq};
+ghost use Rattle.std.specs.List.{IsDistinct};
+ghost use Rattle.std.specs.Map.{keys_of};
+ghost use Rattle.indexmap.specs.IndexMap.{insert_entry};
+ghost use Rattle.mb_core_spec.specs.Copies.{kept_at};
+ghost use Rattle.mb_callers.specs.Reads.{stored};
+ghost use Rattle.mb_callers.specs.Stale.{is_fresh, is_same, least_stale, lesser, stale_step};
+
+use crate::reads::Reads;
+use indexmap::IndexMap;
+use mb_cache::Cache;
+use mb_edge::{Disk, NoMemory};
+use std::alloc::Global;
+use std::marker::Model;
+
+/// The bytes of a block with the stamp that it had.
+#[derive(Drop)]
+pub(crate) struct KeptBlock {
+    bytes: [u8; 512],
+    stamp: u64,
+}
+
+impl Model for KeptBlock {
+    ghost use Rattle.mb_core_spec.specs.Copies as spec;
+
+    ghost Value = { spec.KeptBlock };
+
+    ghost view = { λ k. record { bytes = k.bytes; stamp = k.stamp } };
+}
+
+impl KeptBlock {
+    pub fn new(bytes: [u8; 512], stamp: u64) -> KeptBlock
+        ensures { result ≡ record { bytes = bytes; stamp = stamp } }
+    {
+        KeptBlock { bytes, stamp }
+    }
+
+    pub fn bytes(&self) -> &[u8; 512]
+        ensures { result.now ≡ self.now.bytes }
+    {
+        &self.bytes
+    }
+
+    pub fn stamp(&self) -> u64
+        ensures { result ≡ self.now.stamp }
+    {
+        self.stamp
+    }
+
+    /// The same copy again; needs no memory.
+    pub fn copied(&self) -> KeptBlock
+        ensures { result ≡ self.now }
+    {
+        KeptBlock {
+            bytes: self.bytes,
+            stamp: self.stamp,
+        }
+    }
+
+    fn is_same(&self, page: &KeptBlock, stamp: u64) -> bool
+        ensures { result ≡ is_same (Some self.now) stamp page.now }
+    {
+        self.bytes == page.bytes && self.stamp == stamp
+    }
+}
+
+/// Copies of blocks, each block once. A contract sees the list and the room.
+#[derive(Drop)]
+pub(crate) struct Copies {
+    map: IndexMap<u32, KeptBlock>,
+}
+
+impl Model for Copies {
+    ghost use Rattle.std.specs.Prelude.{ℕ, List};
+    ghost use Rattle.indexmap.specs.IndexMap.{spare};
+    ghost use Rattle.mb_room.specs.Room.{Roomy};
+    ghost use Rattle.mb_core_spec.specs.Copies as spec;
+
+    ghost Value = { Roomy (ℕ × spec.KeptBlock) };
+
+    ghost view = { λ c. record { items = c.map.entries; spare = spare c.map } };
+}
+
+impl Copies {
+    /// No copy; needs no memory.
+    pub fn new(alloc: Global) -> Copies
+        ensures { result.items ≡ [] }
+    {
+        Copies {
+            map: IndexMap::new(alloc),
+        }
+    }
+
+    /// The copy of a block; `None` exactly where there is none.
+    pub fn get(&self, block: u32) -> Option<&KeptBlock>
+        ensures { option_copied result ≡ kept_at self.now.items block }
+    {
+        self.map.get(&block)
+    }
+
+    /// Makes room for so many more copies. Nothing else changes.
+    pub fn reserve(&mut self, more: usize) -> Result<(), NoMemory>
+        ensures ok { OnOk result (more ≤ self.new.spare) }
+        ensures same { self.new.items ≡ self.old.items }
+        ensures kept { self.old.spare ≤ self.new.spare }
+        ensures sure { more ≤ self.old.spare → IsOk result }
+    {
+        self.map.reserve(more)?;
+        Ok(())
+    }
+
+    /// One copy more, in the place of its block's copy where it has one; needs no memory.
+    fn put(&mut self, block: u32, kept: &KeptBlock)
+        requires { 0 < self.old.spare }
+        ensures items { self.new.items ≡ insert_entry nat_eq self.old.items block kept.now }
+        ensures spare { self.old.spare ≤ self.new.spare + 1 }
+    {
+        let Ok(_) = self.map.insert(block, kept.copied()) else {
+            unreachable!()
+        };
+    }
+
+    /// The copies of a list more; needs no memory.
+    pub fn store(&mut self, reads: &Reads)
+        requires { length reads.now ≤ self.old.spare }
+        ensures items { self.new.items ≡ stored self.old.items reads.now }
+        ensures spare { self.old.spare ≤ self.new.spare + length reads.now }
+    {
+        for at in 0..reads.len() {
+            let (block, kept) = reads.at(at);
+            self.put(block, kept);
+        }
+    }
+
+    /// Drops all copies, and keeps the room; needs no memory.
+    pub fn clear(&mut self)
+        ensures items { self.new.items ≡ [] }
+        ensures spare { self.old.spare ≤ self.new.spare }
+    {
+        self.map.clear();
+    }
+
+    fn is_fresh<D: Disk>(&self, block: u32, page: &KeptBlock, cache: &Cache<D>) -> bool
+        ensures { result ≡ is_fresh self.now.items cache.now.stamps (block, page.now) }
+    {
+        match self.get(block) {
+            Some(copy) => copy.is_same(page, cache.stamp(block)),
+            None => false,
+        }
+    }
+
+    fn step<D: Disk>(
+        &self,
+        least: Option<u32>,
+        block: u32,
+        page: &KeptBlock,
+        cache: &Cache<D>,
+    ) -> Option<u32>
+        ensures { result ≡ stale_step self.now.items cache.now.stamps least (block, page.now) }
+    {
+        if self.is_fresh(block, page, cache) {
+            least
+        } else {
+            Some(lesser(least, block))
+        }
+    }
+
+    /// The least block of the pages that is not kept with the same bytes and the present stamp.
+    pub fn least_stale<D: Disk>(&self, pages: &Copies, cache: &Cache<D>) -> Option<u32>
+        ensures least { result ≡ least_stale self.now.items cache.now.stamps pages.now.items }
+        ensures once { IsDistinct nat_eq (keys_of pages.now.items) }
+    {
+        let mut least = None;
+        for at in 0..pages.map.len() {
+            let Some((block, page)) = pages.map.get_index(at) else {
+                unreachable!()
+            };
+            least = self.step(least, *block, page, cache);
+        }
+        least
+    }
+}
+
+fn lesser(least: Option<u32>, block: u32) -> u32
+    ensures { result ≡ lesser least block }
+{
+    match least {
+        Some(before) => before.min(block),
+        None => block,
+    }
+}

@@ -1,0 +1,119 @@
+ghost use Rattle.std.specs.Prelude.{◌≡◌, [], ℕ, None, option_copied, option_map, IfNone, IfSome};
+ghost use Rattle.mb_core_spec.specs.Copies.{KeptBlock, LiveTables, TableCopy, kept_at, no_pages, shown};
+ghost use Rattle.mb_callers.specs.Stale.{AllFresh, IsLeastStale};
+
+use crate::copies::Copies;
+use crate::tables::TablePlace;
+use mb_cache::Cache;
+use mb_edge::Disk;
+use mb_iface::{Opens, View};
+use mb_session::Sessions;
+use std::alloc::Global;
+use std::marker::Model;
+
+/// The blocks that a call gathered, each with the stamp that it had, and, once block 0 was gathered, copies of the
+/// sessions and of the counts of open files. A contract sees a `PagesState`. Emptied, it keeps its room for the next
+/// call.
+#[derive(Drop)]
+pub struct Pages {
+    pub(crate) blocks: Copies,
+    pub(crate) tables: TablePlace,
+}
+
+impl Model for Pages {
+    ghost use Rattle.std.specs.Coded.{codes, coded_ℕ};
+    ghost use Rattle.std.specs.FinMap as fin;
+    ghost use Rattle.std.specs.Ordering.{nat_cmp};
+    ghost use Rattle.mb_tree.specs.contracts.seats.PlainFile as file;
+    ghost use Rattle.mb_core_spec.specs.Copies.{PagesState};
+    ghost use Rattle.mb_callers.specs.Tables.{held_if};
+
+    ghost Value = { PagesState };
+
+    ghost coded = { Prim.hlevel (codes, fin.code {R = nat_cmp} coded_ℕ coded_ℕ, fin.code {R = nat_cmp} coded_ℕ file.the_row.coded) };
+
+    ghost view = { λ p. record { blocks = p.blocks.items; tables = held_if p.tables.there p.tables.held } };
+}
+
+impl Pages {
+    /// Nothing gathered; needs no memory.
+    pub fn new(alloc: Global) -> Pages
+        ensures { result ≡ no_pages }
+    {
+        Pages {
+            blocks: Copies::new(alloc),
+            tables: TablePlace::new(),
+        }
+    }
+
+    /// Drops all that was gathered, and keeps the room; needs no memory.
+    pub fn clear(&mut self)
+        ensures { self.new ≡ no_pages }
+    {
+        self.blocks.clear();
+        self.tables.clear();
+    }
+
+    /// The sessions; `None` exactly where block 0 was not gathered.
+    pub fn sessions(&self) -> Option<&Sessions>
+        ensures { option_copied result ≡ option_map (λ (tables : TableCopy). tables.sessions) self.now.tables }
+    {
+        match self.tables.get() {
+            Some(tables) => Some(tables.sessions()),
+            None => None,
+        }
+    }
+
+    /// The counts of open files; `None` exactly where block 0 was not gathered.
+    pub fn opens(&self) -> Option<&Opens>
+        ensures { option_copied result ≡ option_map (λ (tables : TableCopy). tables.opens) self.now.tables }
+    {
+        match self.tables.get() {
+            Some(tables) => Some(tables.opens()),
+            None => None,
+        }
+    }
+
+    /// The stamp that a gathered block had; `None` exactly where the block was not gathered.
+    pub fn stamp(&self, block: u32) -> Option<u64>
+        ensures { result ≡ option_map (λ (kept : KeptBlock). kept.stamp) (kept_at self.now.blocks block) }
+    {
+        match self.blocks.get(block) {
+            Some(kept) => Some(kept.stamp()),
+            None => None,
+        }
+    }
+
+    /// The least block of pages that were handed out of which these are not the bytes that are kept, or which changed
+    /// since; block 0 stands for the tables, of which the caller's own session alone counts where the call is not
+    /// shared. `stamp` is the tables' present one. `None` exactly where nothing is stale.
+    pub(crate) fn stale_block<D: Disk>(
+        &self,
+        cache: &Cache<D>,
+        stamp: u64,
+        caller: u8,
+        shared: bool,
+        pages: &Pages,
+    ) -> Option<u32>
+        ensures none { (live : LiveTables) → live.stamp ≡ stamp → IfNone result (AllFresh shared caller cache.now.stamps live self.now pages.now) }
+        ensures some { (live : LiveTables) → live.stamp ≡ stamp → IfSome result (IsLeastStale shared caller cache.now.stamps live self.now pages.now) }
+    {
+        if !self.tables.is_fresh(shared, caller, &pages.tables, stamp) {
+            return Some(0);
+        }
+        self.blocks.least_stale(&pages.blocks, cache)
+    }
+}
+
+impl View for Pages {
+    ghost use Rattle.mb_core_spec.specs.Copies.{shown};
+
+    ghost shown = { λ p. shown p.blocks };
+
+    fn get(&self, block: u32) -> Option<&[u8; 512]> {
+        match self.blocks.get(block) {
+            Some(kept) => Some(kept.bytes()),
+            None => None,
+        }
+    }
+}
