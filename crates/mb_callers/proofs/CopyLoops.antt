@@ -1,5 +1,5 @@
 -- How far a loop over copies has come.
-use Rattle.std.proofs.Common.{◌≡◌, ℕ, ◌+◌, List, [], ◌∷◌, ◌++◌, Option, Some, length, refl, sym, ap, ◌∙◌, arith, slice_get, drop, fold, nat_eq, subst, suc}
+use Rattle.std.proofs.Common.{◌≡◌, ℕ, ◌+◌, List, [], ◌∷◌, ◌++◌, Option, Some, length, sym, ap, ◌∙◌, arith, slice_get, drop, fold, nat_eq, subst}
 use Rattle.indexmap.specs.IndexMap.{insert_entry}
 use Rattle.mb_kinds.specs.Image.{Image}
 use Rattle.mb_cache.proofs.PageLoops.{next_first}

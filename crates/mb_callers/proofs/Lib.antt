@@ -1,4 +1,6 @@
 pub mod CopyLoops
+pub mod Gatherings
 pub mod PinSteps
 pub mod Staleness
+pub mod Sums
 pub mod UndoSteps

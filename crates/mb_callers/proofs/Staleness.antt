@@ -1,5 +1,5 @@
 -- What the search for the least stale block finds.
-use Rattle.std.proofs.Common.{List, [], ◌∷◌, ℕ, ◌+◌, ◌≡◌, ◌≤◌, ◌<◌, ◌⊎◌, inl, inr, Bool, true, false, ◌&&◌, cond, nat_eq, Option, Some, None, IfNone, IfSome, Decides, min, fold, bytes_eq, refl, ap, sym, ◌∙◌, subst, arith}
+use Rattle.std.proofs.Common.{[], ◌∷◌, ℕ, ◌≡◌, ◌≤◌, ◌<◌, ◌⊎◌, inl, inr, Bool, true, false, ◌&&◌, cond, nat_eq, Option, Some, None, IfNone, IfSome, Decides, min, fold, bytes_eq, refl, ap, sym, ◌∙◌, subst, arith}
 use Rattle.std.proofs.lemmas.Bool.Decides.{nat_tests}
 use Rattle.std.proofs.lemmas.Map.Keys.{IsDistinct-head, IsDistinct-tail}
 use Rattle.std.proofs.lemmas.Slice.Eq.{bytes_eq-Decides}
@@ -7,7 +7,7 @@ use Rattle.std.specs.List.{AllByRecursion, IsDistinct}
 use Rattle.std.specs.Map.{keys_of}
 use Rattle.mb_cache.specs.Stamps.{Stamps, stamp_of}
 use Rattle.mb_core_spec.specs.Copies.{CopyList, IsFresh, KeptBlock, LiveTables, PagesState, kept_at}
-use Rattle.mb_callers.specs.Stale.{AllFresh, IsFreshAt, IsLeastStale, is_fresh, is_same, least_stale, lesser, stale_step}
+use Rattle.mb_callers.specs.Stale.{AllFresh, IsLeastStale, is_fresh, is_same, least_stale, lesser, stale_step}
 use Rattle.mb_callers.specs.Tables.{AreTablesFresh}
 
 -- ---- one page

@@ -1,7 +1,6 @@
 -- A log without its newest step.
-use Rattle.std.proofs.Common.{List, [], ◌∷◌, ◌++◌, ℕ, ◌+◌, ◌-◌, ◌≡◌, ◌⊎◌, ◌<◌, ◌≤◌, length, length-append, inl, inr, Bool, true, false, cond, nat_eq, refl, ap, sym, ◌∙◌, arith}
+use Rattle.std.proofs.Common.{List, [], ◌∷◌, ◌++◌, ℕ, ◌+◌, ◌-◌, ◌≡◌, ◌<◌, ◌≤◌, length, length-append, Bool, true, false, cond, nat_eq, refl, ap, ◌∙◌, arith}
 use Rattle.std.proofs.lemmas.Bool.Decides.{nat_tests}
-use Rattle.mb_cache.specs.Stamps.{stamp_of}
 use Rattle.mb_core_spec.specs.Callers.{one_if, total}
 use Rattle.mb_core_spec.specs.Flights.{is_pin}
 use Rattle.mb_gate.specs.declared.ulogs.Undo.{Undo}

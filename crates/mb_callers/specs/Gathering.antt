@@ -1,11 +1,11 @@
 -- What gathering makes of a caller's state and of its pages.
-use Rattle.std.specs.Prelude.{List, [], ◌∷◌, ◌++◌, ℕ, ◌≡◌, ◌≤◌, ◌+◌, Bool, true, Option, Some, IsSome, length}
+use Rattle.std.specs.Prelude.{[], ◌∷◌, ◌++◌, ℕ, ◌≡◌, ◌≤◌, ◌+◌, Bool, true, Option, Some, length}
 use Rattle.mb_kinds.specs.Image.{Image}
 use Rattle.mb_room.specs.Room.{Roomy}
 use Rattle.mb_gate.specs.declared.ulogs.Undo.{Undo}
 use Rattle.mb_gate.specs.declared.ulogs.Undo.TheVariants as undo
 use Rattle.mb_cache.specs.State.{CacheState, seen}
-use Rattle.mb_core_spec.specs.Copies.{CopyList, PagesState, TableCopy, shown}
+use Rattle.mb_core_spec.specs.Copies.{CopyList, PagesState, TableCopy}
 use Rattle.mb_core_spec.specs.Events.{GivesBack}
 use Rattle.mb_core_spec.specs.State.{CallerState}
 use Rattle.mb_callers.specs.Reads.{AreRead, pin_steps, stored}

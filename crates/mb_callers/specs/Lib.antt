@@ -1,3 +1,4 @@
+pub mod CallerLaws
 pub mod Gathering
 pub mod Reads
 pub mod Stale

@@ -1,7 +1,6 @@
-use Rattle.std.proofs.Common.{◌≡◌, ◌∙◌, ap, sym, subst, refl, IfSome}
+use Rattle.std.proofs.Common.{◌∙◌, ap, sym, subst, refl}
 use Rattle.mb_cache.specs.State.{seen}
 use Rattle.mb_cache.specs.Stamps.{stamp_of}
-use Rattle.mb_kinds.specs.Image.{Image}
 use Rattle.mb_callers.specs.Reads.{AreRead}
 use Rattle.mb_callers.proofs.CopyLoops.{read_more}
 use Rattle.mb_callers.proofs.reads.read_one.Goals as goal

@@ -1,4 +1,4 @@
-use Rattle.std.proofs.Common.{ℕ, ◌≡◌, ◌∙◌, refl, ap, inl, inr, ◌⊎◌, arith}
+use Rattle.std.proofs.Common.{ap, inl, inr}
 use Rattle.mb_cache.specs.Stamps.{stamp_of}
 use Rattle.mb_core_spec.specs.Flights.{is_pin}
 use Rattle.mb_callers.proofs.PinSteps.{only_pins}

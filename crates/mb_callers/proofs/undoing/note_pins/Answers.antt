@@ -1,4 +1,4 @@
-use Rattle.std.proofs.Common.{ℕ, ◌≡◌, ◌∙◌, ◌+◌, ◌++◌, ◌∷◌, [], ap, sym, refl, arith, drop}
+use Rattle.std.proofs.Common.{◌+◌, refl, arith}
 use Rattle.mb_cache.specs.Stamps.{stamp_of}
 use Rattle.mb_callers.specs.Reads.{pin_steps}
 use Rattle.mb_core_spec.specs.Callers.{total}

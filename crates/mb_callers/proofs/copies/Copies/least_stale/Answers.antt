@@ -1,4 +1,4 @@
-use Rattle.std.proofs.Common.{◌≡◌, ◌∙◌, ap, sym, Some, slice_get}
+use Rattle.std.proofs.Common.{◌∙◌, ap, sym, slice_get}
 use Rattle.mb_callers.specs.Stale.{stale_step}
 use Rattle.mb_callers.proofs.CopyLoops.{folded_more}
 use Rattle.mb_callers.proofs.copies.Copies.least_stale.Goals as goal
