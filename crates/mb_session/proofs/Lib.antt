@@ -1,2 +1,3 @@
-mod Lists
 pub mod Held
+mod Ranges
+mod Lists

@@ -12,6 +12,7 @@
 
 mod counting;
 mod open_files;
+mod sameness;
 mod sessions;
 #[cfg(test)]
 mod tests;

@@ -5,6 +5,7 @@ ghost use Rattle.mb_session.specs.OpenFiles.{TellsCounts, open_file};
 
 use crate::counting::count_seats;
 use crate::open_files::OpenFile;
+use crate::sameness::{same_at, same_seats};
 use mb_edge::NoMemory;
 use mb_iface::Opens;
 use mb_kinds::{Cred, Creds};
@@ -29,6 +30,7 @@ impl Model for Sessions {
     ghost use Rattle.std.specs.Ordering.{nat_cmp};
     ghost use Rattle.mb_tree.specs.contracts.seats.PlainFile as file;
     ghost use Rattle.mb_tree.specs.declared.seats.Seat.{Seat};
+    ghost use Rattle.mb_session.specs.Ranges.{AreInRange};
 
     ghost Value = { List Seat };
 
@@ -36,7 +38,7 @@ impl Model for Sessions {
 
     ghost view = { λ a. a.seats.items };
 
-    ghost invariant = { λ a. length a.seats.items ≤ 8 };
+    ghost invariant = { λ a. (length a.seats.items ≤ 8) × AreInRange a.seats.items };
 }
 
 impl Sessions {
@@ -193,31 +195,6 @@ fn fill(seats: &mut Roomy<Seat>, from: &[Seat])
     for seat in from {
         seats.push(seat.copied());
     }
-}
-
-/// Whether the sessions at a place are the same, or missing in both lists.
-fn same_at(seats: &[Seat], others: &[Seat], at: usize) -> bool
-    ensures { Decides result (slice_get seats.now at ≡ slice_get others.now at) }
-{
-    match (seats.get(at), others.get(at)) {
-        (Some(seat), Some(other)) => seat.is_same(other),
-        (None, None) => true,
-        _ => false,
-    }
-}
-
-fn same_seats(seats: &[Seat], others: &[Seat]) -> bool
-    ensures { Decides result (seats.now ≡ others.now) }
-{
-    if seats.len() != others.len() {
-        return false;
-    }
-    for at in 0..seats.len() {
-        if !same_at(seats, others, at) {
-            return false;
-        }
-    }
-    true
 }
 
 /// What a descriptor is on; `None` exactly where it is bad.

@@ -4,7 +4,6 @@ pub mod BytesOrAttributes
 pub mod BytesOrAttributesValid
 pub mod CarryingOut
 pub mod CellMaps
-mod SameCells
 pub mod Chains
 pub mod Changed
 pub mod Cheaper

@@ -1,4 +1,4 @@
-ghost use Rattle.std.specs.Prelude.{◌≡◌, ◌<◌, length, Decides};
+ghost use Rattle.std.specs.Prelude.{◌≡◌, ◌<◌, length};
 ghost use Rattle.std.specs.FinMap as fin;
 ghost use Rattle.mb_tree.specs.Sessions.{reads, writes, free_descriptor, file_on, is_shared, inos_of, free_place, opened, doubled, closed, moved, changed, with_change, held_in, counts, HasDescriptorInRange};
 ghost use Rattle.std.specs.Prelude.{IfOk, IfSome, IsSome};
@@ -9,7 +9,7 @@ use mb_kinds::{Cred, How, Seq};
 use std::alloc::{AllocError, Global};
 
 /// An open file: its inode, the directions in which it is open, and the offset of the next byte.
-#[derive(Clone, Copy, Debug, PartialEq, Eq, Drop)]
+#[derive(Clone, Copy, Debug, Drop)]
 pub struct PlainFile {
     pub ino: u16,
     pub how: How,
@@ -193,15 +193,6 @@ impl Seat {
             fds: self.fds.copied(),
             files: self.files.copied(),
         }
-    }
-
-    /// Whether this is the same session.
-    pub fn is_same(&self, other: &Seat) -> bool
-        ensures { Decides result (self.now ≡ other.now) }
-    {
-        let alike =
-            self.cred == other.cred && self.cwd == other.cwd && self.umask == other.umask;
-        alike && self.fds.is_same(&other.fds) && self.files.is_same(&other.files)
     }
 
     /// A session without a descriptor.

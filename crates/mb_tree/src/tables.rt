@@ -1,4 +1,4 @@
-ghost use Rattle.std.specs.Prelude.{◌≡◌, ◌<◌, ◌≤◌, Some, None, IsSome, IfSome, IfOk, not, map, Decides};
+ghost use Rattle.std.specs.Prelude.{◌≡◌, ◌<◌, ◌≤◌, Some, None, IsSome, IfSome, IfOk, not, map};
 ghost use Rattle.std.specs.FinMap as fin;
 ghost use Rattle.mb_tree.specs.Counting.{first_from, sum_below};
 ghost use Rattle.mb_tree.specs.Sessions.{is_at_place, has_place, held_by};
@@ -74,13 +74,6 @@ impl Fds {
         ensures { result ≡ self.now }
     {
         Fds { cells: self.cells }
-    }
-
-    /// Whether these are the same descriptors, each with the same place.
-    pub fn is_same(&self, other: &Fds) -> bool
-        ensures { Decides result (self.now ≡ other.now) }
-    {
-        self.cells == other.cells
     }
 
     /// The descriptors without one of them.
@@ -177,13 +170,6 @@ impl Files {
         ensures { result ≡ self.now }
     {
         Files { cells: self.cells }
-    }
-
-    /// Whether these are the same open files, at the same places.
-    pub fn is_same(&self, other: &Files) -> bool
-        ensures { Decides result (self.now ≡ other.now) }
-    {
-        self.cells == other.cells
     }
 
     /// The open file at a place.

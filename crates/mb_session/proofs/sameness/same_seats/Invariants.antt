@@ -1,5 +1,5 @@
 use Rattle.std.proofs.Common.{◌≡◌, ◌<◌, ℕ, length, slice_get}
-use Rattle.mb_session.proofs.sessions.same_seats.Given as goal
+use Rattle.mb_session.proofs.sameness.same_seats.Given as goal
 
 abbrev pub invariant-loop-at : goal.invariant-loop-at
 invariant-loop-at l = record {
