@@ -1,7 +1,11 @@
 //! The code of a core of many callers: for each event one equation.
 #![tactic(auto)]
 
+mod answers;
 mod ending;
 mod fields;
+mod recovering;
+mod striking;
 
+pub use answers::{Enter, Fault, Finished, Gathered, Left, Phase, StepFault};
 pub use fields::Fields;

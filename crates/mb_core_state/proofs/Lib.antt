@@ -1,0 +1,2 @@
+mod Damaging
+mod Held
