@@ -1,2 +1,3 @@
 mod Damaging
+mod Gatherings
 mod Held

@@ -1,5 +1,5 @@
 -- What each answer of an event means: when it comes, and what it made of the core.
-use Rattle.std.specs.Prelude.{List, ℕ, ◌+◌, ◌≡◌, ◌≢◌, ◌≤◌, Bool, true, false, if◌then◌else◌, nat_lt, Option, None, Some, length, slice_get}
+use Rattle.std.specs.Prelude.{List, ℕ, ◌+◌, ◌≡◌, ◌≢◌, ◌≤◌, Bool, true, false, if◌then◌else◌, nat_lt, Option, None, Some, length, slice_get, slice_set}
 use Rattle.mb_kinds.specs.Image.{Image}
 use Rattle.mb_kinds.specs.declared.entries.Flight.{Flight}
 use Rattle.mb_kinds.specs.declared.faults.Kind.{Kind}
@@ -7,8 +7,9 @@ use Rattle.mb_kinds.specs.declared.faults.Ticket.{Ticket}
 use Rattle.mb_kinds.specs.declared.replies.Reply.TheVariants as reply
 use Rattle.mb_edge.specs.Causes.{Rose}
 use Rattle.mb_edge.specs.declared.strokes.Stroke.{Stroke}
-use Rattle.mb_callers.specs.CallerLaws as laws
-use Rattle.mb_core_spec.specs.Copies.{PagesState}
+use Rattle.mb_iface.specs.declared.replies.Need.{Need}
+use Rattle.mb_callers.specs.Gathering.{GathersBlocks, GathersTables}
+use Rattle.mb_core_spec.specs.Copies.{LiveTables, PagesState, TableCopy}
 use Rattle.mb_core_spec.specs.Events.{GivesBack, answered_by, gathering, leaving}
 use Rattle.mb_core_spec.specs.Recovery.{striking}
 use Rattle.mb_core_spec.specs.State.{CallerState, CoreState}
@@ -39,6 +40,10 @@ IsPresent core ticket = ticket.incarnation ≡ core.incarnation
 abbrev pub with_disk : {F D : Type 0} → CoreState F D → D → CoreState F D
 with_disk core disk = record core { cache = record core.cache { disk = disk } }
 
+-- a copy of the tables as they are
+abbrev pub live_copy : LiveTables → TableCopy
+live_copy live = record { sessions = live.sessions; opens = live.opens; stamp = live.stamp }
+
 -- ---- a call leaves
 
 abbrev pub Leaving : {F D : Type 0} → CoreState F D → CoreState F D → Ticket → CallerState → Left → Type 0
@@ -55,13 +60,20 @@ Strikes old new ticket kind nth strokes (fault.Struck number) = IsPresent old ti
 
 -- ---- a call gathers
 
-abbrev pub Gathering : {F D : Type 0} → (D → Option Image) → (D → ℕ) → CoreState F D → CoreState F D → Ticket → ℕ → CallerState → Flight → PagesState → PagesState → Gathered → Type 0
-Gathering told faults old new ticket first mine flight pages got (gathered.Skip was now) = IsSkipped old new ticket was now × (got ≡ pages)
-Gathering told faults old new ticket first mine flight pages got gathered.Device = IsPresent old ticket × Rose (faults old.cache.disk) (faults new.cache.disk)
+-- at block 0 the tables, else blocks, are pinned and kept, with the caller and in its pages alike
+pub record KeepsGathered {F D : Type 0} (told : D → Option Image) (old new : CoreState F D) (caller : ℕ) (need : Need) (mine : CallerState) (pages got : PagesState) : Type 0 where
+  pub kept : CallerState
+  pub tables : need.first ≡ 0 → GathersTables old.cache new.cache (live_copy old.tables) mine kept pages got
+  pub blocks : 1 ≤ need.first → GathersBlocks told old.cache new.cache need.first need.count mine kept pages got
+  pub callers : new.callers ≡ slice_set old.callers caller kept
+
+abbrev pub Gathering : {F D : Type 0} → (D → Option Image) → (D → ℕ) → CoreState F D → CoreState F D → Ticket → Need → CallerState → Flight → PagesState → PagesState → Gathered → Type 0
+Gathering told faults old new ticket need mine flight pages got (gathered.Skip was now) = IsSkipped old new ticket was now × (got ≡ pages)
+Gathering told faults old new ticket need mine flight pages got gathered.Device = IsPresent old ticket × Rose (faults old.cache.disk) (faults new.cache.disk)
     × (new ≡ with_room (answered_by (with_disk old new.cache.disk) ticket.caller mine flight reply.Device new.cache.pins) new) × GivesBack old.cache.pins new.cache.pins mine.undo × (got ≡ pages)
-Gathering told faults old new ticket first mine flight pages got gathered.NoMemory = IsPresent old ticket × (new ≡ with_room (with_disk old new.cache.disk) new) × (got ≡ pages)
-Gathering told faults old new ticket first mine flight pages got gathered.Done = IsPresent old ticket × (kept : CallerState) × laws.Gathered told old.cache new.cache old.tables first mine kept pages got
-    × (new ≡ gathering old new.cache.disk ticket.caller mine kept.pages kept.undo new.cache.pins new.cache.room)
+Gathering told faults old new ticket need mine flight pages got gathered.NoMemory = IsPresent old ticket × (new ≡ with_room (with_disk old new.cache.disk) new) × (got ≡ pages)
+Gathering told faults old new ticket need mine flight pages got gathered.Done = IsPresent old ticket × (by : KeepsGathered told old new ticket.caller need mine pages got)
+    × (new ≡ with_room (gathering old new.cache.disk ticket.caller mine by.kept.pages by.kept.undo new.cache.pins new.cache.room) new)
 
 -- ---- the next step of a recovery
 

@@ -4,6 +4,7 @@
 mod answers;
 mod ending;
 mod fields;
+mod gathering;
 mod recovering;
 mod striking;
 
