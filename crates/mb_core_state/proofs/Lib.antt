@@ -1,3 +1,4 @@
 mod Damaging
 mod Gatherings
 mod Held
+mod Loggings

@@ -4,7 +4,9 @@
 mod answers;
 mod ending;
 mod fields;
+mod finishing;
 mod gathering;
+mod logging;
 mod recovering;
 mod striking;
 
