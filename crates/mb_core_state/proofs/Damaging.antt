@@ -18,5 +18,5 @@ pub both_damaged : {F D : Type 0} (held old : CoreState F D) (cache : CacheState
 both_damaged {F} {D} held old cache tables strokes same of_pages of_counts pages counts =
     ap (λ (made : CacheState D). record held { cache = made; tables = tables }) (pages ∙ ap (λ (current : PageList). record held.cache { current = current }) (sym (of_pages held.cache.current held.tables.opens strokes)))
     ∙ ap (λ (made : LiveTables). record held { cache = record held.cache { current = (damaged_both held strokes).pages }; tables = made })
-        (counts ∙ ap (λ (opens : OpenCounts). record held.tables { opens = opens }) (sym (of_counts held.cache.current held.tables.opens strokes)))
+    (counts ∙ ap (λ (opens : OpenCounts). record held.tables { opens = opens }) (sym (of_counts held.cache.current held.tables.opens strokes)))
     ∙ ap (λ (core : CoreState F D). record core { cache = record core.cache { current = (damaged_both core strokes).pages }; tables = record core.tables { opens = (damaged_both core strokes).opens } }) same

@@ -49,11 +49,11 @@ pub gathered_event : {F D : Type 0} (told : D → Option Image) (old new : CoreS
 gathered_event {F} {D} told old new caller need mine pages got rest by =
     let journal : new.journal ≡ old.journal = ap (λ (core : CoreState F D). core.journal) rest in
     let callers : new.callers ≡ slice_set old.callers caller (record mine { pages = by.kept.pages; undo = by.kept.undo }) =
-        by.callers ∙ ap (λ (state : CallerState). slice_set old.callers caller state) (kept_state told old new caller need mine pages got by) in
+    by.callers ∙ ap (λ (state : CallerState). slice_set old.callers caller state) (kept_state told old new caller need mine pages got by) in
     rest
     ∙ ap (λ (all : List CallerState). record old { cache = record old.cache { disk = new.cache.disk; pins = new.cache.pins; room = new.cache.room }; callers = all }) callers
     ∙ ap (λ room. record old { cache = record old.cache { disk = new.cache.disk; pins = new.cache.pins; room = new.cache.room }; callers = slice_set old.callers caller (record mine { pages = by.kept.pages; undo = by.kept.undo }); journal = record old.journal { room = room } })
-        (sym (ap (λ journal. journal.room) journal))
+    (sym (ap (λ journal. journal.room) journal))
 
 pub answered_after : {F D : Type 0} (old mid new : CoreState F D) (caller : ℕ) (mine : CallerState) (flight : Flight) (answer : Reply)
     → mid ≡ record old { cache = record old.cache { disk = mid.cache.disk; pins = mid.cache.pins; room = mid.cache.room }; callers = mid.callers }

@@ -1,18 +1,5 @@
 use mb_kinds::{Reply, Ticket};
 
-/// The answer to a call that enters.
-#[derive(Debug, Drop)]
-pub enum Enter {
-    /// The call has its entry, with this reply, and its flight ended.
-    Done(Reply),
-    /// A recovery is in progress; the call is in flight and waits.
-    Shut,
-    /// The call is inside, with this ticket.
-    Inside(Ticket),
-    /// There was no memory; nothing changed.
-    NoMemory,
-}
-
 /// The answer to a call that gathers.
 #[derive(Clone, Copy, Debug, PartialEq, Eq, Drop)]
 pub enum Gathered {
@@ -59,15 +46,6 @@ pub enum Fault {
     Skip { mine: u32, now: u32 },
     /// The fault has this number, from 1, and a recovery begins.
     Struck { number: u32 },
-}
-
-/// Why a step of a recovery was not made.
-#[derive(Clone, Copy, Debug, PartialEq, Eq, Drop)]
-pub enum StepFault {
-    /// The disk failed: its count of faults rose.
-    Device,
-    /// There was no memory.
-    NoMemory,
 }
 
 /// The next step of a recovery.

@@ -34,9 +34,7 @@ impl<F: FileSys, D: Disk> Fields<F, D> {
     {
         let (_, answer) = self.callers.get_mut(caller).end(&mut self.cache);
         self.give_floor(caller);
-        let Some(reply) = answer else {
-            unreachable!()
-        };
+        let Some(reply) = answer else { unreachable!() };
         reply
     }
 
@@ -67,9 +65,7 @@ impl<F: FileSys, D: Disk> Fields<F, D> {
         let (_, answer) = self.callers.get_mut(ticket.caller).end(&mut self.cache);
         self.give_floor(ticket.caller);
         self.journal.mark(Step::Left(*ticket));
-        let Some(reply) = answer else {
-            unreachable!()
-        };
+        let Some(reply) = answer else { unreachable!() };
         reply
     }
 
@@ -97,9 +93,7 @@ impl<F: FileSys, D: Disk> Fields<F, D> {
     {
         let (flight, _) = self.callers.get_mut(caller).end(&mut self.cache);
         self.give_floor(caller);
-        let Some(flight) = flight else {
-            unreachable!()
-        };
+        let Some(flight) = flight else { unreachable!() };
         self.journal.answer(Entry {
             caller,
             ordinal: flight.ordinal,

@@ -74,10 +74,10 @@ impl<F: FileSys, D: Disk> Fields<F, D> {
             opens: self.tables.opens(),
             stamp: self.tables.stamp(),
         };
-        let gathered =
-            self.callers
-                .get_mut(caller)
-                .gather(alloc, &mut self.cache, need, &tables, pages);
+        let gathered = self
+            .callers
+            .get_mut(caller)
+            .gather(alloc, &mut self.cache, need, &tables, pages);
         let TablesNow {
             sessions: _,
             opens: _,

@@ -1,14 +1,16 @@
-ghost use Rattle.std.specs.Prelude.{◌≡◌, ◌<◌, ◌≤◌, ◌+◌, length, OnOk, OnErr, IsOk};
+ghost use Rattle.std.specs.Prelude.{◌≡◌, ◌<◌, ◌≤◌, ◌+◌, length, nat_lt, OnOk, OnErr, IsOk};
 ghost use Rattle.mb_core_spec.specs.Copies.{TableCounts};
 ghost use Rattle.mb_core_spec.specs.Events.{Leaves};
 ghost use Rattle.mb_core_spec.specs.Recovery.{dropping, failing, flushing, remounting, reopening, resuming, sealing};
-ghost use Rattle.mb_journal.specs.Room.{KeepsRoom};
 ghost use Rattle.mb_tree.specs.Sessions.{counts};
 ghost use Rattle.mb_cache.specs.Pages.{under};
 ghost use Rattle.mb_cache.specs.State.{Flushes};
 ghost use Rattle.mb_kinds.specs.Image.{Image};
+ghost use Rattle.mb_core_spec.specs.Callers.{insiders};
+ghost use Rattle.mb_core_state.specs.Answers.{phase_of};
 ghost use Rattle.mb_core_state.specs.Rooms.{with_room};
 
+use crate::answers::Phase;
 use crate::fields::Fields;
 use mb_cache::Flushed;
 use mb_core_spec::{Stage, Step};
@@ -17,6 +19,33 @@ use mb_iface::FileSys;
 use std::alloc::Global;
 
 impl<F: FileSys, D: Disk> Fields<F, D> {
+    /// The next step of a recovery; `Idle` exactly where none is in progress.
+    pub fn phase(&self) -> Phase
+        requires { length self.now.journal.oplog < 4294967296 }
+        ensures { result ≡ phase_of self.now.stage (nat_lt 0 (insiders self.now.callers)) (length self.now.journal.oplog) }
+    {
+        match self.stage {
+            Stage::Running | Stage::Failed => Phase::Idle,
+            Stage::Struck => {
+                if self.callers.insiders() > 0 {
+                    Phase::Unwind
+                } else {
+                    Phase::Drop
+                }
+            }
+            Stage::Again => Phase::Drop,
+            Stage::Dropped => Phase::Remount,
+            Stage::Remounted => Phase::Reopen,
+            Stage::Restored(done) => {
+                if done < self.journal.logged() {
+                    Phase::Replay(done + 1)
+                } else {
+                    Phase::Resume
+                }
+            }
+        }
+    }
+
     /// The dirty pages are dropped; needs no memory.
     pub fn drop_pages(&mut self)
         requires { 0 < self.old.journal.room.trail }
