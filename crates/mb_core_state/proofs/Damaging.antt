@@ -1,6 +1,6 @@
 -- The damage of a fault, done to the pages and to the counts of open files one after the other.
 use Rattle.std.proofs.Common.{◌≡◌, ◌∙◌, List, sym, ap}
-use Rattle.mb_edge.specs.Damage.{OpenCounts, Volatile}
+use Rattle.mb_edge.specs.Damage.{OpenCounts}
 use Rattle.mb_edge.specs.declared.strokes.Stroke.{Stroke}
 use Rattle.mb_cache.specs.CacheLaws.{DamageOfPages}
 use Rattle.mb_cache.specs.Pages.{PageList, pages_damaged}

@@ -1,5 +1,5 @@
 -- A call that gathers: what it keeps, and how the disk ends it.
-use Rattle.std.proofs.Common.{◌≡◌, ◌∙◌, ℕ, ◌<◌, ◌≤◌, inl, inr, List, [], ◌∷◌, zero, suc, Option, Some, None, Result, Ok, Err, OnErr, slice_get, slice_set, refl, sym, ap, subst, arith}
+use Rattle.std.proofs.Common.{◌≡◌, ◌∙◌, ℕ, inl, inr, List, [], ◌∷◌, zero, suc, Option, Some, Result, Ok, Err, OnErr, slice_get, slice_set, refl, sym, ap, subst, arith}
 use Rattle.std.proofs.lemmas.Bool.{cases_lt}
 use Rattle.std.proofs.lemmas.Option.{same_Some}
 use Rattle.mb_kinds.specs.Image.{Image}

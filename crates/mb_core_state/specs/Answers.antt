@@ -1,5 +1,5 @@
 -- What each answer of an event means: when it comes, and what it made of the core.
-use Rattle.std.specs.Prelude.{List, ℕ, ◌+◌, ◌≡◌, ◌≢◌, ◌≤◌, Bool, true, false, if◌then◌else◌, nat_lt, Option, None, Some, length, slice_get, slice_set}
+use Rattle.std.specs.Prelude.{List, ℕ, ◌+◌, ◌≡◌, ◌≢◌, ◌≤◌, Bool, if◌then◌else◌, nat_lt, Option, Some, length, slice_set}
 use Rattle.mb_kinds.specs.Image.{Image}
 use Rattle.mb_kinds.specs.declared.entries.Flight.{Flight}
 use Rattle.mb_kinds.specs.declared.faults.Kind.{Kind}
