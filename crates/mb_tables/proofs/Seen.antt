@@ -1,9 +1,8 @@
 -- What another call can see of a call that is logged.
-use Rattle.std.proofs.Common.{◌≡◌, inl, inr, ℕ, ◌+◌, ◌<◌, ◌≤◌, Bool, true, false, List, [], ◌∷◌, Option, Some, None, unwrap_or, option_map, slice_get, slice_set, suc, zero, refl, sym, ap, ◌∙◌, arith}
+use Rattle.std.proofs.Common.{◌≡◌, inl, inr, ℕ, ◌+◌, ◌≤◌, Bool, true, false, List, [], ◌∷◌, Option, Some, None, unwrap_or, option_map, slice_get, slice_set, suc, zero, refl, sym, ap, ◌∙◌, arith}
 use Rattle.std.proofs.lemmas.Option.{same_Some}
-use Rattle.std.specs.FinMap as fin
 use Rattle.mb_edge.specs.Damage.{OpenCounts}
-use Rattle.mb_tree.specs.Sessions.{changed, closed, doubled, free_place, moved, opened, with_change}
+use Rattle.mb_tree.specs.Sessions.{changed, closed, doubled, moved, opened, with_change}
 use Rattle.mb_tree.specs.declared.operations.FsOp.{FsOp}
 use Rattle.mb_tree.specs.declared.operations.FsOp.TheVariants.{Create, Empty, MakeDir, RemoveDir, Enlink, Delink, Put, SetMode, SetOwner, SetTimes, Hold, Release}
 use Rattle.mb_tree.specs.declared.seats.PlainFile.{PlainFile}

@@ -5,7 +5,6 @@ use Rattle.mb_edge.specs.declared.strokes.Stroke.{Stroke}
 use Rattle.mb_iface.specs.OpenCounts.{count_of}
 use Rattle.mb_tree.specs.CarriedOut.{IsCarriedOut}
 use Rattle.mb_tree.specs.Effect.{TreeAndOpens}
-use Rattle.mb_tree.specs.Sessions.{with_change}
 use Rattle.mb_tree.specs.Step.{effect_of}
 use Rattle.mb_tree.specs.declared.operations.FsOp.{FsOp}
 use Rattle.mb_tree.specs.declared.seats.SessionChange.{SessionChange}

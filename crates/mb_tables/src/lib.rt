@@ -10,8 +10,6 @@
 mod counting;
 mod laws;
 mod tables;
-#[cfg(test)]
-mod tests;
 
 pub use laws::{counts_follow_operations, damage_of_counts, tables_move};
 pub use tables::Tables;

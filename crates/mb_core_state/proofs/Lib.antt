@@ -1,0 +1,4 @@
+mod Damaging
+mod Gatherings
+mod Held
+mod Loggings

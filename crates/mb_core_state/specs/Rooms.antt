@@ -1,0 +1,20 @@
+-- What an event's equation leaves open: the room of the cache and of the journal.
+use Rattle.std.specs.Prelude.{List, ℕ, ◌≡◌, ◌≤◌, Some, slice_get}
+use Rattle.mb_edge.specs.Damage.{Volatile, damaged}
+use Rattle.mb_edge.specs.declared.strokes.Stroke.{Stroke}
+use Rattle.mb_cache.specs.Stamps.{stamp_of}
+use Rattle.mb_core_spec.specs.Callers.{total}
+use Rattle.mb_core_spec.specs.Flights.{is_pin}
+use Rattle.mb_core_spec.specs.State.{CallerState, CoreState}
+
+-- what an event makes of a core, with the room that the new core has
+abbrev pub with_room : {F D : Type 0} → CoreState F D → CoreState F D → CoreState F D
+with_room event new = record event { cache = record event.cache { room = new.cache.room }; journal = record event.journal { room = new.journal.room } }
+
+-- the pins that a caller's steps took are there to be given back
+abbrev pub HasPins : {F D : Type 0} → CoreState F D → ℕ → Type 0
+HasPins core caller = (mine : CallerState) (block : ℕ) → slice_get core.callers caller ≡ Some mine → total (is_pin block) mine.undo ≤ stamp_of core.cache.pins block
+
+-- what the strokes of a fault leave of the current pages and of the counts of open files
+abbrev pub damaged_both : {F D : Type 0} → CoreState F D → List Stroke → Volatile
+damaged_both core strokes = damaged (record { pages = core.cache.current; opens = core.tables.opens }) strokes

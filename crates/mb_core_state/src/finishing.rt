@@ -1,0 +1,209 @@
+ghost use Rattle.std.specs.Prelude.{◌≡◌, ◌<◌, ◌≤◌, ◌^◌, ◌-◌, ◌+◌, ℕ, true, Some, length, slice_get, OnOk, OnErr, IfSome, IfNone, IsSome};
+ghost use Rattle.mb_kinds.specs.declared.entries.Flight.{Flight};
+ghost use Rattle.mb_tree.specs.Sessions.{HasDescriptorInRange};
+ghost use Rattle.mb_callers.specs.Stale.{AllFresh, IsLeastStale};
+ghost use Rattle.mb_core_spec.specs.Events.{GivesBack, Leaves, floor_after, staling};
+ghost use Rattle.mb_core_spec.specs.Flights.{IsMine};
+ghost use Rattle.mb_core_spec.specs.State.{CallerState};
+ghost use Rattle.mb_journal.specs.Room.{HasEntryRoom};
+ghost use Rattle.mb_core_state.specs.Finishing.{Finishes, HasTicketOf, HolderFlies, IsBusy, IsLogged};
+ghost use Rattle.mb_core_state.specs.Rooms.{HasPins, with_room};
+
+use crate::answers::Finished;
+use crate::fields::Fields;
+use mb_callers::Pages;
+use mb_core_spec::{Ready, Step};
+use mb_edge::{Disk, NoMemory};
+use mb_iface::FileSys;
+use mb_kinds::{Call, Entry, Reply, Ticket};
+use std::alloc::Global;
+
+impl<F: FileSys, D: Disk> Fields<F, D> {
+    /// The ticket of the other caller's call that has the right to commit alone; `None` exactly where nobody has it, or
+    /// this caller.
+    pub(crate) fn busy(&self, caller: u8) -> Option<Ticket>
+        requires { HolderFlies self.now.floor self.now.callers }
+        ensures some { IfSome result (λ holder. IsBusy self.now caller holder) }
+        ensures none { IfNone result (IsMine caller self.now.floor) }
+    {
+        let Some(holder) = self.floor else {
+            return None;
+        };
+        if holder == caller {
+            return None;
+        }
+        Some(self.ticket_of(holder))
+    }
+
+    fn ticket_of(&self, caller: u8) -> Ticket
+        requires { (ticket : Ticket) × HasTicketOf self.now.callers caller ticket }
+        ensures { HasTicketOf self.now.callers caller result }
+    {
+        let Some(flight) = self.callers.get(caller).flight() else {
+            unreachable!()
+        };
+        let Some(ticket) = flight.ticket else {
+            unreachable!()
+        };
+        ticket
+    }
+
+    /// A call without its entry is logged. The only error is want of memory, and nothing has changed then.
+    pub(crate) fn log(
+        &mut self,
+        alloc: Global,
+        ticket: &Ticket,
+        ready: Ready,
+    ) -> Result<(), NoMemory>
+        requires flight { (mine : CallerState) × (slice_get self.old.callers ticket.now.caller ≡ Some mine) × IsSome mine.flight }
+        requires pins { HasPins self.old ticket.now.caller }
+        requires seats { ticket.now.caller < length self.old.tables.sessions }
+        requires session { HasDescriptorInRange ready.session }
+        requires few { self.old.tables.stamp < 2 ^ 64 - 1 }
+        ensures ok { OnOk result ((mine : CallerState) (flight : Flight) → slice_get self.old.callers ticket.now.caller ≡ Some mine → mine.flight ≡ Some flight → IsLogged self.old self.new ticket.now.caller mine flight ticket.now ready) }
+        ensures err { OnErr result (self.new ≡ with_room self.old self.new) }
+        ensures marks { OnOk result (11 ≤ self.new.journal.room.trail) }
+    {
+        let reply = ready.reply.copied(alloc)?;
+        let call = self.copy_call(alloc, ticket.caller)?;
+        self.reserve_log(ready.changes.len())?;
+        self.commit(ticket, ready, call, reply)
+    }
+
+    fn commit(
+        &mut self,
+        ticket: &Ticket,
+        ready: Ready,
+        call: Call,
+        reply: Reply,
+    ) -> Result<(), NoMemory>
+        requires flight { (mine : CallerState) × (slice_get self.old.callers ticket.now.caller ≡ Some mine) × IsSome mine.flight }
+        requires pins { HasPins self.old ticket.now.caller }
+        requires seats { ticket.now.caller < length self.old.tables.sessions }
+        requires session { HasDescriptorInRange ready.session }
+        requires few { self.old.tables.stamp < 2 ^ 64 - 1 }
+        requires pages { length ready.changes ≤ self.old.cache.room.pages }
+        requires lists { HasEntryRoom self.old.journal.room }
+        ensures ok { OnOk result ((mine : CallerState) (flight : Flight) → slice_get self.old.callers ticket.now.caller ≡ Some mine → mine.flight ≡ Some flight → call ≡ flight.call → reply ≡ ready.reply → IsLogged self.old self.new ticket.now.caller mine flight ticket.now ready) }
+        ensures err { OnErr result (self.new ≡ self.old) }
+        ensures marks { OnOk result (11 ≤ self.new.journal.room.trail) }
+    {
+        let Ready {
+            reply: answer,
+            op,
+            pick,
+            changes,
+            session,
+            shared: _,
+        } = ready;
+        self.put(ticket.caller, &op, pick, &changes, session)?;
+        let (ordinal, moment) = self.numbers(ticket.caller);
+        let entry = Entry {
+            caller: ticket.caller,
+            ordinal,
+            call,
+            pick,
+            moment,
+            reply: answer,
+        };
+        self.book(*ticket, entry, op, reply);
+        Ok(())
+    }
+}
+
+impl<F: FileSys, D: Disk> Fields<F, D> {
+    /// A call without its entry finishes over its pages. The answers come in the order `Skip`, `Busy`, `Stale`, `Logged`;
+    /// `NoMemory` may come in the place of the last two, and nothing has changed then. After `Logged` a checkpoint is not
+    /// refused.
+    pub fn finish(
+        &mut self,
+        alloc: Global,
+        ticket: &Ticket,
+        pages: &Pages,
+        ready: Ready,
+    ) -> Finished
+        requires inside { (mine : CallerState) × (slice_get self.old.callers ticket.now.caller ≡ Some mine) × (mine.inside ≡ true) × IsSome mine.flight }
+        requires pins { HasPins self.old ticket.now.caller }
+        requires holder { HolderFlies self.old.floor self.old.callers }
+        requires seats { ticket.now.caller < length self.old.tables.sessions }
+        requires session { HasDescriptorInRange ready.session }
+        requires stamps { self.old.tables.stamp < 2 ^ 64 - 1 }
+        requires few { (mine : CallerState) → slice_get self.old.callers ticket.now.caller ≡ Some mine → 4 ≤ mine.stales → AllFresh ready.shared ticket.now.caller self.old.cache.stamps self.old.tables mine.pages pages.now }
+        ensures finishes { (mine : CallerState) (flight : Flight) → slice_get self.old.callers ticket.now.caller ≡ Some mine → mine.flight ≡ Some flight → Finishes self.old self.new ticket.now mine flight pages.now ready result }
+        ensures logged { result ≡ Finished.Logged → 11 ≤ self.new.journal.room.trail }
+    {
+        if ticket.incarnation != self.incarnation {
+            return Finished::Skip {
+                mine: ticket.incarnation,
+                now: self.incarnation,
+            };
+        }
+        if let Some(holder) = self.busy(ticket.caller) {
+            return Finished::Busy { holder };
+        }
+        match self.stale(ticket.caller, ready.shared, pages) {
+            Some(block) => match self.gather_anew(ticket, block) {
+                Ok(()) => Finished::Stale { block },
+                Err(NoMemory) => Finished::NoMemory,
+            },
+            None => match self.log(alloc, ticket, ready) {
+                Ok(()) => Finished::Logged,
+                Err(NoMemory) => Finished::NoMemory,
+            },
+        }
+    }
+
+    /// The least stale block of a call's pages; `None` exactly where nothing is stale.
+    fn stale(&self, caller: u8, shared: bool, pages: &Pages) -> Option<u32>
+        requires { caller < length self.now.callers }
+        ensures none { (mine : CallerState) → slice_get self.now.callers caller ≡ Some mine → IfNone result (AllFresh shared caller self.now.cache.stamps self.now.tables mine.pages pages.now) }
+        ensures some { (mine : CallerState) → slice_get self.now.callers caller ≡ Some mine → IfSome result (IsLeastStale shared caller self.now.cache.stamps self.now.tables mine.pages pages.now) }
+    {
+        let stamp = self.tables.stamp();
+        self.callers
+            .get(caller)
+            .stale_block(&self.cache, stamp, caller, shared, pages)
+    }
+
+    /// A call without its entry gathers anew; at its fourth stale answer it gets the right to commit alone. The only error
+    /// is want of memory, for its step of the trace and ten more; nothing has changed then.
+    fn gather_anew(&mut self, ticket: &Ticket, block: u32) -> Result<(), NoMemory>
+        requires inside { (mine : CallerState) × (slice_get self.old.callers ticket.now.caller ≡ Some mine) × (mine.inside ≡ true) × (mine.stales < 4) }
+        requires pins { HasPins self.old ticket.now.caller }
+        ensures ok { OnOk result ((mine : CallerState) → slice_get self.old.callers ticket.now.caller ≡ Some mine → (self.new ≡ with_room (staling self.old ticket.now.caller mine ticket.now block self.new.cache.pins) self.new) × GivesBack self.old.cache.pins self.new.cache.pins mine.undo) }
+        ensures err { OnErr result (self.new ≡ with_room self.old self.new) }
+        ensures marks { OnOk result (10 ≤ self.new.journal.room.trail) }
+        ensures kept { (self.old.journal.room.history ≤ self.new.journal.room.history) × (self.old.journal.room.records ≤ self.new.journal.room.records) }
+    {
+        self.journal.reserve_steps(11)?;
+        self.give_back_copies(*ticket, block);
+        Ok(())
+    }
+
+    fn give_back_copies(&mut self, ticket: Ticket, block: u32)
+        requires inside { (mine : CallerState) × (slice_get self.old.callers ticket.caller ≡ Some mine) × (mine.inside ≡ true) × (mine.stales < 4) }
+        requires pins { HasPins self.old ticket.caller }
+        requires trail { 0 < self.old.journal.room.trail }
+        ensures anew { (mine : CallerState) → slice_get self.old.callers ticket.caller ≡ Some mine → (self.new ≡ with_room (staling self.old ticket.caller mine ticket block self.new.cache.pins) self.new) × GivesBack self.old.cache.pins self.new.cache.pins mine.undo }
+        ensures room { Leaves self.old.journal.room self.new.journal.room 1 0 }
+    {
+        let floor = self.floor_after(ticket.caller);
+        self.callers
+            .get_mut(ticket.caller)
+            .gather_anew(&mut self.cache, ticket.caller, floor);
+        self.floor = floor;
+        self.journal.mark(Step::Stale(ticket, block));
+    }
+
+    /// Who has the right to commit alone after one stale answer more to a caller's ticket.
+    fn floor_after(&self, caller: u8) -> Option<u8>
+        requires { caller < length self.now.callers }
+        ensures { (mine : CallerState) → slice_get self.now.callers caller ≡ Some mine → result ≡ floor_after caller mine.stales self.now.floor }
+    {
+        if self.callers.get(caller).stales() == 3 {
+            Some(caller)
+        } else {
+            self.floor
+        }
+    }
+}
