@@ -1,3 +1,4 @@
+pub mod Choosing
 pub mod Entering
 pub mod Fields
 pub mod Growth

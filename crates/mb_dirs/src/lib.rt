@@ -10,6 +10,7 @@
 //! says it of fields, `specs/Entering.antt` of names, `specs/Making.antt` of new inodes.
 #![tactic(auto)]
 
+mod choices;
 mod enters;
 mod fields;
 mod grows;
@@ -18,6 +19,7 @@ mod rewrites;
 mod slot_writes;
 mod steps;
 
+pub use choices::{Chosen, choose_number};
 pub use enters::{Entered, Gap, clear_slot, enter};
 pub use fields::{FieldChange, set_fields};
 pub use makes::{NewInode, make_directory, make_file};
