@@ -1,4 +1,5 @@
 pub mod Choosing
+pub mod Creating
 pub mod FieldSetting
 pub mod Growing
 pub mod GrowthSteps

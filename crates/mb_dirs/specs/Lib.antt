@@ -1,4 +1,5 @@
 pub mod Choosing
+pub mod Creating
 pub mod Entering
 pub mod Fields
 pub mod Growth
