@@ -1,4 +1,4 @@
--- A file made under a new name: the number chosen, the name entered, the inode made.
+-- An inode made under a new name: the number chosen, the name entered, the inode made.
 use Rattle.std.proofs.Common.{ℕ, ◌≡◌, ◌≢◌, ◌<◌, ◌≤◌, Bool, List, [], Option, Some, None, Err, IfSome, refl, sym, ap, subst, ◌∙◌, arith}
 use Rattle.std.specs.FinMap as fin
 use Rattle.mb_kinds.specs.Image.{Image}
@@ -12,21 +12,19 @@ use Rattle.mb_tree.specs.declared.trees.Tree.{Tree}
 use Rattle.mb_tree.proofs.FiniteMaps.{get_there}
 use Rattle.mb_iface.specs.Acting.{PicksNumber, with_changes}
 use Rattle.mb_iface.specs.Changed.{ChangeList, IsWithinView}
+use Rattle.mb_iface.specs.Needs.{IsNeed}
 use Rattle.mb_iface.specs.declared.replies.Need.{Need}
 use Rattle.mb_nodes.specs.Stored.{IsStored, with_node}
 use Rattle.mb_moves.specs.Advancing.{AdvancesTo, OnStored}
 use Rattle.mb_moves.proofs.InARow.{changed_in_turn, near_before, nothing_changed}
 use Rattle.mb_moves.proofs.Trees.{refused_more}
 use Rattle.mb_dirs.specs.Choosing.{Chooses}
-use Rattle.mb_dirs.specs.Creating.{CreatesIn, with_file}
+use Rattle.mb_dirs.specs.Creating.{MakesIn, with_new}
 use Rattle.mb_dirs.specs.Entering.{Enters, IsGap, named_node}
-use Rattle.mb_dirs.specs.Making.{MakesFile, file_made}
-use Rattle.mb_dirs.specs.Steps.{IsLookedThrough, IsNearFirst, IsUnusedIn}
+use Rattle.mb_dirs.specs.Steps.{IsLookedThrough, IsNearFirst, IsUnusedIn, OnUnused}
 use Rattle.mb_dirs.specs.declared.choices.Chosen.TheVariants as chosen
 use Rattle.mb_dirs.specs.declared.enters.Entered.TheVariants as entered
 use Rattle.mb_dirs.specs.declared.enters.Gap.{Gap}
-use Rattle.mb_dirs.specs.declared.makes.NewInode.{NewInode}
-use Rattle.mb_dirs.specs.declared.steps.Advanced.TheVariants as advanced
 
 -- ---- the number, demanded or not
 
@@ -56,15 +54,15 @@ none_chosen : (shown : ℕ → Option (List ℕ)) (old mid : ChangeList) (demand
 none_chosen shown old mid None chooses image tree chain part stored free = chooses image tree chain part stored
 none_chosen shown old mid (Some number) chooses image tree chain part stored free = absurd (chooses.1 image tree chain part stored free)
 
-module _ (shown : ℕ → Option (List ℕ)) (old mid : ChangeList) (dir links : ℕ) (gap : Gap) (name : List ℕ) (new : NewInode) (demanded : Option ℕ) where
-  pub no_number : (now : ChangeList) → Chooses shown old mid demanded chosen.NoneLeft → CreatesIn shown old now dir links gap name new demanded chosen.NoneLeft
+module _ (shown : ℕ → Option (List ℕ)) (old mid : ChangeList) (dir links moment : ℕ) (gap : Gap) (name : List ℕ) (made : ℕ → Node) (demanded : Option ℕ) where
+  pub no_number : (now : ChangeList) → Chooses shown old mid demanded chosen.NoneLeft → MakesIn shown old now dir links moment gap name made demanded chosen.NoneLeft
   no_number now chooses = λ image tree chain part stored looks node slots look stands free. record { picked = None; picks = none_chosen shown old mid demanded chooses image tree chain part stored free; full = tt }
 
-  number_asked_by : (asked : Option ℕ) (need : Need) (now : ChangeList) → Chooses shown old mid asked (chosen.Need need) → CreatesIn shown old now dir links gap name new asked (chosen.Need need)
+  number_asked_by : (asked : Option ℕ) (need : Need) (now : ChangeList) → Chooses shown old mid asked (chosen.Need need) → MakesIn shown old now dir links moment gap name made asked (chosen.Need need)
   number_asked_by None need now chooses = (chooses.0, λ image tree chain part stored looks node slots look stands free. chooses.1 image tree chain part stored looks)
   number_asked_by (Some number) need now chooses = (chooses.1.0, λ image tree chain part stored looks node slots look stands free. chooses.1.1 image tree chain part stored looks)
 
-  pub number_asked : (need : Need) (now : ChangeList) → Chooses shown old mid demanded (chosen.Need need) → CreatesIn shown old now dir links gap name new demanded (chosen.Need need)
+  pub number_asked : (need : Need) (now : ChangeList) → Chooses shown old mid demanded (chosen.Need need) → MakesIn shown old now dir links moment gap name made demanded (chosen.Need need)
   number_asked need now chooses = number_asked_by demanded need now chooses
 
   module _ (ino : ℕ) (chooses : Chooses shown old mid demanded (chosen.Number ino)) where
@@ -73,7 +71,7 @@ module _ (shown : ℕ → Option (List ℕ)) (old mid : ChangeList) (dir links :
     has_chosen image tree chain part stored looks free = chosen_step shown old mid demanded ino chooses image tree chain part stored looks free
 
     abbrev named : Node → Node
-    named node = named_node links new.moment name ino node
+    named node = named_node links moment name ino node
 
     apart : (tree : Tree) (looks : ℕ → Bool) (node : Node) (slots : List PlainSlot) → IsLookedThrough tree looks dir node slots → IsFreeNumber tree ino → ino ≢ dir
     apart tree looks node slots look free e = (let there = look.has in let none = subst (λ k. fin.get tree.nodes k ≡ None) e free.unused in cc)
@@ -81,17 +79,17 @@ module _ (shown : ℕ → Option (List ℕ)) (old mid : ChangeList) (dir links :
     still_free : (tree : Tree) (looks : ℕ → Bool) (node : Node) (slots : List PlainSlot) → IsLookedThrough tree looks dir node slots → IsFreeNumber tree ino → fin.get (fin.insert tree.nodes dir (named node)) ino ≡ None
     still_free tree looks node slots look free = get_there tree.nodes dir (named node) ino (apart tree looks node slots look free) ∙ free.unused
 
-    pub no_room : (then now : ChangeList) → Enters shown mid then dir links new.moment gap name ino entered.NoneLeft → CreatesIn shown old now dir links gap name new demanded chosen.NoneLeft
+    pub no_room : (then now : ChangeList) → Enters shown mid then dir links moment gap name ino entered.NoneLeft → MakesIn shown old now dir links moment gap name made demanded chosen.NoneLeft
     no_room then now enters = λ image tree chain part stored looks node slots look stands free.
         (let got = has_chosen image tree chain part stored looks free in
         let short = enters image tree got.step.0 part got.step.1.follows.stored looks node slots look stands in
         record {
           picked = Some ino;
           picks = got.picks;
-          full = refused_more tree (fin.insert tree.nodes dir (named node)) ino (file_made new) (still_free tree looks node slots look got.free) short;
+          full = refused_more tree (fin.insert tree.nodes dir (named node)) ino (made ino) (still_free tree looks node slots look got.free) short;
         })
 
-    pub name_asked : (then now : ChangeList) (need : Need) → Enters shown mid then dir links new.moment gap name ino (entered.Need need) → CreatesIn shown old now dir links gap name new demanded (chosen.Need need)
+    pub name_asked : (then now : ChangeList) (need : Need) → Enters shown mid then dir links moment gap name ino (entered.Need need) → MakesIn shown old now dir links moment gap name made demanded (chosen.Need need)
     name_asked then now need enters = (
       enters.0,
       λ image tree chain part stored looks node slots look stands free.
@@ -100,7 +98,7 @@ module _ (shown : ℕ → Option (List ℕ)) (old mid : ChangeList) (dir links :
           (enters.1 image tree got.step.0 part got.step.1.follows.stored looks node slots look stands)),
     )
 
-    module _ (then : ChangeList) (enters : Enters shown mid then dir links new.moment gap name ino entered.Done) where
+    module _ (then : ChangeList) (enters : Enters shown mid then dir links moment gap name ino entered.Done) where
       both : (image : Image) (tree : Tree) (chain : List ℕ) → IsPart shown image.at → IsStored (with_changes image old) tree chain → (looks : ℕ → Bool) (node : Node) (slots : List PlainSlot)
           → IsLookedThrough tree looks dir node slots → IsGap slots gap → IfSome demanded (IsFreeNumber tree) → AdvancesTo image tree looks old then (with_node tree dir (named node))
       both image tree chain part stored looks node slots look stands free =
@@ -110,7 +108,7 @@ module _ (shown : ℕ → Option (List ℕ)) (old mid : ChangeList) (dir links :
       unused : (tree : Tree) (looks : ℕ → Bool) (node : Node) (slots : List PlainSlot) → IsLookedThrough tree looks dir node slots → IsFreeNumber tree ino → IsUnusedIn (with_node tree dir (named node)) ino
       unused tree looks node slots look free = record { some = (let low = free.above in omega (arith, low)); within = free.within; unused = still_free tree looks node slots look free }
 
-      pub inode_asked : (now : ChangeList) (need : Need) → MakesFile shown then now ino new (advanced.Need need) → CreatesIn shown old now dir links gap name new demanded (chosen.Need need)
+      pub inode_asked : (now : ChangeList) (need : Need) → IsNeed shown need × OnUnused shown then ino (IsNearFirst then need.first) → MakesIn shown old now dir links moment gap name made demanded (chosen.Need need)
       inode_asked now need makes = (
         makes.0,
         λ image tree chain part stored looks node slots look stands free.
@@ -120,7 +118,17 @@ module _ (shown : ℕ → Option (List ℕ)) (old mid : ChangeList) (dir links :
             (makes.1 image (with_node tree dir (named node)) step.0 part step.1.follows.stored looks (unused tree looks node slots look got.free))),
       )
 
-      pub all_done : (now : ChangeList) → MakesFile shown then now ino new advanced.Done → CreatesIn shown old now dir links gap name new demanded (chosen.Number ino)
+      pub inode_refused : (now : ChangeList) → OnUnused shown then ino (λ image tree looks. fitting tree (fin.insert tree.nodes ino (made ino)) ≡ Err ENOSPC) → MakesIn shown old now dir links moment gap name made demanded chosen.NoneLeft
+      inode_refused now short = λ image tree chain part stored looks node slots look stands free.
+          (let got = has_chosen image tree chain part stored looks free in
+          let step = both image tree chain part stored looks node slots look stands free in
+          record {
+            picked = Some ino;
+            picks = got.picks;
+            full = short image (with_node tree dir (named node)) step.0 part step.1.follows.stored looks (unused tree looks node slots look got.free);
+          })
+
+      pub all_done : (now : ChangeList) → (IsWithinView shown then → IsWithinView shown now) × OnUnused shown then ino (λ image tree looks. AdvancesTo image tree looks then now (with_node tree ino (made ino))) → MakesIn shown old now dir links moment gap name made demanded (chosen.Number ino)
       all_done now makes = (
         λ inside. makes.0 (enters.0 (chosen_within shown old mid demanded ino chooses inside)),
         λ image tree chain part stored looks node slots look stands free.
@@ -129,6 +137,6 @@ module _ (shown : ℕ → Option (List ℕ)) (old mid : ChangeList) (dir links :
             let last = makes.1 image (with_node tree dir (named node)) step.0 part step.1.follows.stored looks (unused tree looks node slots look got.free) in (
               got.picks,
               got.free,
-              changed_in_turn image tree (with_node tree dir (named node)) (with_file tree dir links name new node ino) looks old then now step last,
+              changed_in_turn image tree (with_node tree dir (named node)) (with_new tree dir links moment name made node ino) looks old then now step last,
             )),
       )

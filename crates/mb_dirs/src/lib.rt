@@ -21,7 +21,7 @@ mod slot_writes;
 mod steps;
 
 pub use choices::{Chosen, choose_number};
-pub use creates::create_in;
+pub use creates::{create_in, make_directory_in};
 pub use enters::{Entered, Gap, clear_slot, enter};
 pub use fields::{FieldChange, set_fields};
 pub use makes::{NewInode, make_directory, make_file};
