@@ -1,5 +1,5 @@
 -- An inode made under a new name: the number chosen, the name entered, the inode made.
-use Rattle.std.proofs.Common.{ℕ, ◌≡◌, ◌≢◌, ◌<◌, ◌≤◌, Bool, List, [], Option, Some, None, Err, IfSome, refl, sym, ap, subst, ◌∙◌, arith}
+use Rattle.std.proofs.Common.{ℕ, ◌≡◌, ◌≢◌, Bool, List, Option, Some, None, Err, IfSome, sym, ap, subst, ◌∙◌, arith}
 use Rattle.std.specs.FinMap as fin
 use Rattle.mb_kinds.specs.Image.{Image}
 use Rattle.mb_kinds.specs.declared.errors.Errno.TheVariants.{ENOSPC}
@@ -15,7 +15,7 @@ use Rattle.mb_iface.specs.Changed.{ChangeList, IsWithinView}
 use Rattle.mb_iface.specs.Needs.{IsNeed}
 use Rattle.mb_iface.specs.declared.replies.Need.{Need}
 use Rattle.mb_nodes.specs.Stored.{IsStored, with_node}
-use Rattle.mb_moves.specs.Advancing.{AdvancesTo, OnStored}
+use Rattle.mb_moves.specs.Advancing.{AdvancesTo}
 use Rattle.mb_moves.proofs.InARow.{changed_in_turn, near_before, nothing_changed}
 use Rattle.mb_moves.proofs.Trees.{refused_more}
 use Rattle.mb_dirs.specs.Choosing.{Chooses}

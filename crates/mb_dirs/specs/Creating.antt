@@ -1,13 +1,10 @@
 -- An inode made under a new name of a directory: a file, or a directory.
-use Rattle.std.specs.Prelude.{List, ℕ, ◌≡◌, Bool, Option, Some, None, Err, IfSome}
-use Rattle.std.specs.FinMap as fin
+use Rattle.std.specs.Prelude.{List, ℕ, ◌≡◌, Bool, Option, Some, Err, IfSome}
 use Rattle.mb_kinds.specs.Image.{Image}
 use Rattle.mb_kinds.specs.declared.errors.Errno.TheVariants.{ENOSPC}
 use Rattle.mb_tree.specs.Effect.{fitting}
-use Rattle.mb_tree.specs.Maps.{Numbered}
 use Rattle.mb_tree.specs.Step.{IsFreeNumber}
 use Rattle.mb_tree.specs.declared.nodes.Node.{Node}
-use Rattle.mb_tree.specs.declared.nodes.PlainSlot.{PlainSlot}
 use Rattle.mb_tree.specs.declared.trees.Tree.{Tree}
 use Rattle.mb_iface.specs.Acting.{PicksNumber}
 use Rattle.mb_iface.specs.Changed.{ChangeList, IsWithinView}
