@@ -1,0 +1,3 @@
+pub mod Erasing
+pub mod Freeing
+pub mod Walking
