@@ -1,2 +1,4 @@
 pub mod Attributes
+pub mod Links
 pub mod Performing
+pub mod Places

@@ -8,6 +8,9 @@
 
 mod attributes;
 mod holds;
+mod links;
+mod places;
 
 pub use attributes::{set_mode, set_owner, set_times};
 pub use holds::hold;
+pub use links::{delink, enlink};
