@@ -2,3 +2,4 @@ pub mod Attributes
 pub mod Links
 pub mod Performing
 pub mod Places
+pub mod Releasing

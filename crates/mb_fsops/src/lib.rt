@@ -10,7 +10,9 @@ mod attributes;
 mod holds;
 mod links;
 mod places;
+mod releases;
 
 pub use attributes::{set_mode, set_owner, set_times};
 pub use holds::hold;
 pub use links::{delink, enlink};
+pub use releases::release;
