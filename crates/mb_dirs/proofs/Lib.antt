@@ -1,0 +1,12 @@
+pub mod FieldSetting
+pub mod LookedThrough
+pub mod Rewriting
+pub mod SlotRewriting
+pub mod SlotSetting
+pub mod SlotWriting
+pub mod StoredWays
+pub mod PartReached
+pub mod Growing
+pub mod GrowthSteps
+pub mod Making
+pub mod MakingSteps

@@ -1,14 +1,12 @@
 -- A slot of a directory written, and a name entered in a directory or taken out of it.
-use Rattle.std.specs.Prelude.{List, ℕ, ◌<◌, ◌≡◌, Bool, not, Option, Some, None, Err, length, position, slice_set}
+use Rattle.std.specs.Prelude.{List, ℕ, ◌<◌, ◌≡◌, not, Option, Some, None, Err, length, position, slice_set}
 use Rattle.std.specs.FinMap as fin
-use Rattle.mb_kinds.specs.Image.{Image}
 use Rattle.mb_kinds.specs.declared.errors.Errno.TheVariants.{ENOSPC}
 use Rattle.mb_tree.specs.Effect.{fitting, with_name, without_name}
 use Rattle.mb_tree.specs.Lookup.{is_used, is_named}
 use Rattle.mb_tree.specs.declared.nodes.Body.TheVariants.{Directory}
 use Rattle.mb_tree.specs.declared.nodes.Node.{Node}
 use Rattle.mb_tree.specs.declared.nodes.PlainSlot.{PlainSlot}
-use Rattle.mb_tree.specs.declared.trees.Tree.{Tree}
 use Rattle.mb_iface.specs.Changed.{ChangeList, IsWithinView}
 use Rattle.mb_iface.specs.Needs.{IsNeed}
 use Rattle.mb_nodes.specs.Stored.{with_node}

@@ -1,5 +1,5 @@
 -- Fields of an inode that are set together, in a node and in an inode's value.
-use Rattle.std.specs.Prelude.{List, ℕ, ◌≡◌, ◌≢◌, Option, bit_or}
+use Rattle.std.specs.Prelude.{List, ℕ, ◌≢◌, Option, bit_or}
 use Rattle.mb_layout.specs.declared.dinodes.Dinode.{Dinode}
 use Rattle.mb_tree.specs.Effect.{touched, with_mode, with_owner, with_times}
 use Rattle.mb_tree.specs.Inodes.{kind_of}

@@ -1,5 +1,5 @@
 -- A slot added behind those of a directory.
-use Rattle.std.specs.Prelude.{List, ℕ, ◌+◌, Option, None}
+use Rattle.std.specs.Prelude.{List, ℕ, ◌+◌, Option}
 use Rattle.mb_layout.specs.declared.dinodes.Dinode.{Dinode}
 use Rattle.mb_iface.specs.Changed.{ChangeList}
 use Rattle.mb_dirs.specs.Entering.{Enters}

@@ -8,11 +8,8 @@ use Rattle.mb_tree.specs.declared.nodes.Node.{Node}
 use Rattle.mb_tree.specs.declared.nodes.PlainSlot.{PlainSlot}
 use Rattle.mb_tree.specs.declared.trees.Tree.{Tree}
 use Rattle.mb_iface.specs.Acting.{with_changes}
-use Rattle.mb_iface.specs.Changed.{ChangeList, IsWithinView}
-use Rattle.mb_iface.specs.Needs.{IsNeed}
-use Rattle.mb_moves.specs.Advancing.{OnStored, AdvancesTo, IsNearTo}
-use Rattle.mb_dirs.specs.declared.steps.Advanced.{Advanced}
-use Rattle.mb_dirs.specs.declared.steps.Advanced.TheVariants as advanced
+use Rattle.mb_iface.specs.Changed.{ChangeList}
+use Rattle.mb_moves.specs.Advancing.{OnStored, IsNearTo}
 
 -- of a tree that has a node with the number
 abbrev pub OnNode : (ℕ → Option (List ℕ)) → ChangeList → ℕ → (Image → Tree → (ℕ → Bool) → Node → Type 0) → Type 0

@@ -14,11 +14,7 @@ pub enum FieldChange {
     /// Its owner and the owner's group.
     Owner { uid: u16, gid: u16, moment: u32 },
     /// When it was read and when its bytes were written.
-    Times {
-        atime: u32,
-        mtime: u32,
-        moment: u32,
-    },
+    Times { atime: u32, mtime: u32, moment: u32 },
     /// Its link count.
     Links { links: u16, moment: u32 },
     /// A directory's link count, with a change of its slots.

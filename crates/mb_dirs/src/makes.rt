@@ -30,12 +30,7 @@ const DOT: Name = [46, 0, 0, 0, 0, 0, 0, 0, 0, 0, 0, 0, 0, 0];
 const DOT_DOT: Name = [46, 46, 0, 0, 0, 0, 0, 0, 0, 0, 0, 0, 0, 0];
 
 /// Makes an empty regular file with one link in a free inode, one from 1 to the last.
-pub fn make_file<V: View>(
-    view: &V,
-    changes: &mut Changes,
-    ino: u16,
-    new: &NewInode,
-) -> Advanced
+pub fn make_file<V: View>(view: &V, changes: &mut Changes, ino: u16, new: &NewInode) -> Advanced
     ensures { MakesFile (V.shown view.now) changes.old changes.new ino new.now result }
 {
     write_blank(view, changes, ino, &inode_of(new, 0x8000 | new.mode, 1, 0))
