@@ -23,15 +23,15 @@ use Rattle.mb_file.specs.declared.walks.Collected.{Collected}
 use Rattle.mb_file.specs.declared.walks.Collected.TheVariants as collected
 
 -- the blocks that an inode of a kind with addresses holds
-abbrev pub held_by : Pointers → Dinode → List ℕ
-held_by ps d = cond (is_directory d.mode || is_regular d.mode) (under_dinode ps d) []
+abbrev pub held_blocks : Pointers → Dinode → List ℕ
+held_blocks ps d = cond (is_directory d.mode || is_regular d.mode) (under_dinode ps d) []
 
-abbrev pub Holds : (ℕ → Option (List ℕ)) → ChangeList → Dinode → Collected → Type 0
-Holds shown changes d (collected.Blocks list) = (blocks : ℕ → List ℕ) → IsPart shown blocks
-    → IsListable [] (held_by (pointers (over blocks (changed changes))) d) → list.items ≡ held_by (pointers (over blocks (changed changes))) d
-Holds shown changes d (collected.Need need) = IsNeed shown need
-    × ((blocks : ℕ → List ℕ) → IsPart shown blocks → Contains (held_by (pointers (over blocks (changed changes))) d) need.first)
-Holds shown changes d collected.NoMemory = Unit {0}
+abbrev pub ListsHeld : (ℕ → Option (List ℕ)) → ChangeList → Dinode → Collected → Type 0
+ListsHeld shown changes d (collected.Blocks list) = (blocks : ℕ → List ℕ) → IsPart shown blocks
+    → IsListable [] (held_blocks (pointers (over blocks (changed changes))) d) → list.items ≡ held_blocks (pointers (over blocks (changed changes))) d
+ListsHeld shown changes d (collected.Need need) = IsNeed shown need
+    × ((blocks : ℕ → List ℕ) → IsPart shown blocks → Contains (held_blocks (pointers (over blocks (changed changes))) d) need.first)
+ListsHeld shown changes d collected.NoMemory = Unit {0}
 
 -- a node that is looked at, of the kind that its mode says
 pub record IsErasable (tree : Tree) (looks : ℕ → Bool) (ino : ℕ) (node : Node) : Type 0 where

@@ -1,5 +1,5 @@
 -- Blocks in hand put back on the free chain one after another.
-use Rattle.std.specs.Prelude.{List, [], ℕ, ◌<◌, ◌≤◌, ◌≡◌, ◌⊎◌, Bool, Option}
+use Rattle.std.specs.Prelude.{List, ℕ, ◌<◌, ◌≤◌, ◌≡◌, ◌⊎◌, Bool, Option}
 use Rattle.std.specs.List.{Contains}
 use Rattle.mb_word.specs.Fields.{fsize_of, isize_of, ninode_of}
 use Rattle.mb_tree.specs.Views.{over, IsPart}
@@ -13,7 +13,7 @@ use Rattle.mb_alloc.specs.declared.frees.Hung.TheVariants as hung
 
 abbrev pub PutsBack : (ℕ → Option (List ℕ)) → ChangeList → ChangeList → ℕ → Hung → Type 0
 PutsBack shown old new block hung.Done = (IsWithinView shown old → IsWithinView shown new)
-    × ((blocks : ℕ → List ℕ) → IsPart shown blocks → KeepsRules (over blocks (changed old)) → 1 < block → IsFreed (over blocks (changed old)) (over blocks (changed new)) block)
+    × ((blocks : ℕ → List ℕ) → IsPart shown blocks → KeepsRules (over blocks (changed old)) → 1 < block → block < 262144 → IsFreed (over blocks (changed old)) (over blocks (changed new)) block)
 PutsBack shown old new block (hung.Need need) = IsNeed shown need × ((need.first ≡ 1) ⊎ (need.first ≡ block))
 PutsBack shown old new block hung.NoMemory = Unit {0}
 

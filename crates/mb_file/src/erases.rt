@@ -1,4 +1,4 @@
-ghost use Rattle.mb_file.specs.Erasing.{Erases, ErasesWhole, Holds};
+ghost use Rattle.mb_file.specs.Erasing.{Erases, ErasesWhole, ListsHeld};
 
 use crate::frees::put_all_back;
 use crate::walks::{Collected, collect};
@@ -52,7 +52,7 @@ pub fn erase_in<V: View>(alloc: Global, view: &V, changes: &mut Changes, ino: u1
 
 /// The blocks that an inode holds: none where it is neither a directory nor a regular file.
 fn held<V: View>(alloc: Global, view: &V, changes: &Changes, inode: &Dinode) -> Collected
-    ensures { Holds (V.shown view.now) changes.now inode.now result }
+    ensures { ListsHeld (V.shown view.now) changes.now inode.now result }
 {
     if is_directory(inode.mode) || is_regular(inode.mode) {
         collect(alloc, view, changes, inode)
