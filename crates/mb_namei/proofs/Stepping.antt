@@ -60,8 +60,11 @@ found_there tree sound cred dir ino name h =
     let body = slots_directory one.0.body two.0 (some_ok (slots_of one.0.body) ENOTDIR two.0 two.1) in
     let used : is_used slot.0 ≡ true = first_and (is_used slot.0) (bytes_eq slot.0.name name) at.3 in
     let leads = (sound.slots dir one.0 two.0 (some_ok (fin.get tree.nodes dir) ENOTDIR one.0 one.1) body).leads at.0 slot.0 (record { has = at.2; used = used }) in
-    subst (IsThere tree.nodes) slot.2 leads.1
+    there_by slot.0 ino slot.2 leads.1
   where
+    there_by : (slot : PlainSlot) (n : ℕ) → slot.ino ≡ n → IsThere tree.nodes slot.ino → IsThere tree.nodes n
+    there_by slot n e there = subst (IsThere tree.nodes) e there
+
     mapped : (o : Option PlainSlot) (n : ℕ) → option_map (λ slot. slot.ino) o ≡ Some n → (slot : PlainSlot) × (o ≡ Some slot) × (slot.ino ≡ n)
     mapped None n e = cc
     mapped (Some slot) n e = (slot, refl, same_Some slot.ino n e)

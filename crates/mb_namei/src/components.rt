@@ -5,6 +5,9 @@ ghost use Rattle.mb_namei.specs.Pieces.{StartsPiece, IsPieceLen};
 
 use mb_kinds::Name;
 
+/// What stands between the components of a path.
+const SLASH: u8 = b'/';
+
 /// A component of a path, and what is behind it.
 #[derive(Clone, Copy, Debug, Drop)]
 pub struct Component<'a> {
@@ -35,7 +38,7 @@ fn without_slashes(path: &[u8]) -> &[u8]
     ensures { StartsPiece path.now result.now }
 {
     for (i, byte) in path.iter().enumerate() {
-        if *byte != 47 {
+        if *byte != SLASH {
             return &path[i..];
         }
     }
@@ -47,7 +50,7 @@ fn piece_len(path: &[u8]) -> usize
     ensures { IsPieceLen path.now result }
 {
     for (i, byte) in path.iter().enumerate() {
-        if *byte == 47 {
+        if *byte == SLASH {
             return i;
         }
     }

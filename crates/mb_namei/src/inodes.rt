@@ -17,6 +17,7 @@ pub enum Looked {
 
 /// Reads the inode with a number from 1 on (V7 filsys(5)). Of a number past the volume's last one it
 /// reads what stands in the block where that inode would be.
+#[inline(always)]
 pub fn info<V: View>(view: &V, changes: &Changes, ino: u16) -> Looked
     ensures { LooksAt (V.shown view.now) changes.now ino result }
 {
@@ -28,6 +29,7 @@ pub fn info<V: View>(view: &V, changes: &Changes, ino: u16) -> Looked
 }
 
 /// What stat tells of an inode (V7 stat(2)).
+#[inline(always)]
 pub fn stat_by(ino: u16, inode: &Dinode) -> Stat
     ensures { result ≡ inodes.stat_by ino inode.now }
 {

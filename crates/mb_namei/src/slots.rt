@@ -6,6 +6,9 @@ ghost use Rattle.mb_namei.specs.Slots.{Glimpses, CountsSlots};
 use mb_kinds::Name;
 use mb_word::word_at;
 
+/// The number of an empty slot (V7 dir(5)).
+const EMPTY: u16 = 0;
+
 /// What was found among the first slots of a directory's block.
 #[derive(Clone, Copy, Debug, PartialEq, Drop)]
 pub(crate) enum Glimpse {
@@ -33,7 +36,7 @@ pub(crate) fn scan_slots(bytes: &[u8; 512], count: u32, name: &Name) -> Glimpse
     let mut empty = count;
     for place in 0..count {
         let ino = word_at(bytes, 16 * place as usize);
-        if ino == 0 {
+        if ino == EMPTY {
             empty = empty.min(place);
         } else if has_name(bytes, place, name) {
             return Glimpse::Named { place, ino };
@@ -49,7 +52,7 @@ pub(crate) fn count_slots(bytes: &[u8; 512], count: u32) -> u32
 {
     let mut used = 0;
     for place in 0..count {
-        if word_at(bytes, 16 * place as usize) != 0 {
+        if word_at(bytes, 16 * place as usize) != EMPTY {
             used += 1;
         }
     }
