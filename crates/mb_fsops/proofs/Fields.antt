@@ -1,15 +1,14 @@
 -- Fields of an inode set, and an inode held.
-use Rattle.std.proofs.Common.{ℕ, ◌≡◌, ◌≢◌, ◌<◌, Bool, false, List, [], Option, Some, None, Ok, refl, sym, ap, subst, ◌∙◌, bit_or}
+use Rattle.std.proofs.Common.{ℕ, ◌≡◌, ◌≢◌, false, List, [], Option, Some, None, Ok, refl, sym, ap, subst, bit_or}
 use Rattle.std.specs.FinMap as fin
-use Rattle.mb_kinds.specs.Image.{Image}
 use Rattle.mb_tree.specs.Answers.{Answer}
 use Rattle.mb_tree.specs.Effect.{tree_after, with_mode, with_owner, with_times}
-use Rattle.mb_tree.specs.Fits.{Fits, IsOpenable}
+use Rattle.mb_tree.specs.Fits.{Fits}
 use Rattle.mb_tree.specs.Inodes.{kind_of}
 use Rattle.mb_tree.specs.Maps.{Numbered, changed_at}
 use Rattle.mb_tree.specs.PickLaws.{makes_inode}
 use Rattle.mb_tree.specs.Sessions.{Counts}
-use Rattle.mb_tree.specs.Trees.{IsSound, IsThere}
+use Rattle.mb_tree.specs.Trees.{IsSound}
 use Rattle.mb_tree.specs.declared.nodes.Node.{Node}
 use Rattle.mb_tree.specs.declared.operations.FsOp.{FsOp}
 use Rattle.mb_tree.specs.declared.operations.FsOp.TheVariants.{SetMode, SetOwner, SetTimes, Hold}
@@ -28,7 +27,7 @@ use Rattle.mb_dirs.specs.declared.fields.FieldChange.TheVariants.{Mode, Owner, T
 use Rattle.mb_dirs.specs.declared.steps.Advanced.TheVariants as advanced
 use Rattle.mb_fsops.specs.Attributes.{IsSetting, SetsThese}
 use Rattle.mb_fsops.specs.Performing.{PerformsAnyway}
-use Rattle.mb_fsops.proofs.Steps.{at_first, changed_there, done, mode_above, near_first, none_within, stored_first}
+use Rattle.mb_fsops.proofs.Steps.{changed_there, done, mode_above, near_first, none_within, stored_first}
 
 -- the operation sets the fields of a node that stays one in use
 record SetsOn (tree : Tree) (opens : Counts) (op : FsOp) (ino : ℕ) (change : FieldChange) : Type 0 where

@@ -1,15 +1,14 @@
 -- A name entered for an inode.
-use Rattle.std.proofs.Common.{ℕ, ◌≡◌, ◌≢◌, ◌+◌, ◌<◌, ◌≤◌, Bool, true, false, ◌||◌, nat_eq, nat_le, nat_lt, List, [], ◌∷◌, length, Option, Some, None, Ok, Err, option_map, unwrap_or, inl, inr, refl, sym, ap, subst, ◌∙◌, arith}
+use Rattle.std.proofs.Common.{ℕ, ◌≡◌, ◌≢◌, ◌+◌, ◌<◌, ◌≤◌, Bool, true, false, ◌||◌, nat_eq, nat_le, nat_lt, List, [], Option, Some, None, Ok, Err, option_map, unwrap_or, refl, sym, ap, subst, ◌∙◌, arith}
 use Rattle.std.specs.FinMap as fin
 use Rattle.std.proofs.lemmas.Bool.Decides.{nat_tests}
 use Rattle.mb_kinds.specs.Image.{Image}
 use Rattle.mb_kinds.specs.declared.errors.Errno.TheVariants.{EEXIST, EMLINK, ENOSPC}
-use Rattle.mb_tree.specs.Answers.{Answer, need, ◌>>◌}
+use Rattle.mb_tree.specs.Answers.{need, ◌>>◌}
 use Rattle.mb_tree.specs.Cost.{cost}
 use Rattle.mb_tree.specs.Effect.{fitting, linked, nlink_in, tree_after, with_name}
-use Rattle.mb_tree.specs.Fits.{FitsLink, Fits}
+use Rattle.mb_tree.specs.Fits.{FitsLink}
 use Rattle.mb_tree.specs.Inodes.{slots_of}
-use Rattle.mb_tree.specs.Lookup.{number_in}
 use Rattle.mb_tree.specs.Maps.{Numbered, changed_at}
 use Rattle.mb_tree.specs.Views.{IsPart}
 use Rattle.mb_tree.specs.Volume.{IsVolume}
@@ -21,7 +20,7 @@ use Rattle.mb_tree.specs.declared.trees.Tree.{Tree}
 use Rattle.mb_tree.proofs.FiniteMaps.{get_there}
 use Rattle.mb_iface.specs.Acting.{with_changes}
 use Rattle.mb_iface.specs.Changed.{ChangeList}
-use Rattle.mb_iface.specs.Near.{IsNear, IsTouched}
+use Rattle.mb_iface.specs.Near.{IsTouched}
 use Rattle.mb_iface.specs.OpenCounts.{count_of}
 use Rattle.mb_iface.specs.declared.replies.Acted.{Acted}
 use Rattle.mb_iface.specs.declared.replies.Acted.TheVariants as acted
@@ -176,7 +175,7 @@ module _ (shown : ℕ → Option (List ℕ)) (old mid : ChangeList) (none : old 
             (let step = first image tree part volume can fits in
             let stored = stored_after image tree (next image tree part volume can fits) (touches tree op) [] mid step in
             let full = entered image (next image tree part volume can fits) stored.0 part stored.1 (touches tree op) can.parent can.slots
-                (record { has = parent_there image tree part volume can fits; body = can.directory.body; looked_at = looks_dir tree dir name ino moment }) can.stands in
+            (record { has = parent_there image tree part volume can fits; body = can.directory.body; looked_at = looks_dir tree dir name ino moment }) can.stands in
             refused shown image tree part volume op refl (count_of opens) demanded ENOSPC
             (after image tree part volume can fits (count_of opens)
             ∙ subst (λ (n : Node). fitting tree (fin.insert (next image tree part volume can fits).nodes dir n) ≡ Err ENOSPC) (same_links image tree part volume can fits links can.same) full));

@@ -1,14 +1,14 @@
 -- A name looked for in a directory of a volume.
-use Rattle.std.proofs.Common.{ℕ, ◌≡◌, ◌<◌, ◌≤◌, List, [], Option, Some, None, refl, sym, ap, subst, ◌∙◌, arith}
+use Rattle.std.proofs.Common.{ℕ, ◌≡◌, List, [], Option, Some, None, refl, sym, ap, subst, ◌∙◌}
 use Rattle.std.specs.FinMap as fin
 use Rattle.mb_kinds.specs.Image.{Image}
-use Rattle.mb_word.specs.Fields.{inode_block, inode_place, nlink_of, size_of}
+use Rattle.mb_word.specs.Fields.{inode_block, inode_place}
 use Rattle.mb_layout.specs.Inode.{dinode_at}
 use Rattle.mb_layout.specs.declared.dinodes.Dinode.{Dinode}
 use Rattle.mb_tree.specs.Inodes.{slots_of}
 use Rattle.mb_tree.specs.Lookup.{is_named, number_in, number_of}
 use Rattle.std.specs.Prelude.{option_and_then, position}
-use Rattle.mb_tree.specs.Trees.{IsDirectoryAt, IsThere}
+use Rattle.mb_tree.specs.Trees.{IsDirectoryAt}
 use Rattle.mb_tree.specs.Views.{over, IsPart}
 use Rattle.mb_tree.specs.Volume.{IsVolume}
 use Rattle.mb_tree.specs.declared.nodes.Node.{Node}
@@ -87,7 +87,10 @@ module _ (shown : ℕ → Option (List ℕ)) (changes : ChangeList) (none : chan
           (links_first d read image part tree volume node is.has, record { missing = s.0; stands = s.1 })
 
       pub search_asks : (need : Need) → Seeks shown changes ino d.size name (sought.Need need) → FindsName shown ino name (place.Need need)
-      search_asks need holds = (holds.0, λ image tree part volume node slots is.
-          (let there : IsDirectoryAt tree.nodes ino = record { node = node; slots = slots; has = is.has; body = is.body } in
-          near_block image tree volume (λ n. n ≡ ino) ino need.first refl (record { node = node; has = is.has }) (holds_addresses image tree volume ino there)
-          (slots_say (λ blocks slots. IsBlockOf blocks ino need.first) holds.1 image tree part volume node slots is)))
+      search_asks need holds = (
+        holds.0,
+        λ image tree part volume node slots is.
+            (let there : IsDirectoryAt tree.nodes ino = record { node = node; slots = slots; has = is.has; body = is.body } in
+            near_block image tree volume (λ n. n ≡ ino) ino need.first refl (record { node = node; has = is.has }) (holds_addresses image tree volume ino there)
+            (slots_say (λ blocks slots. IsBlockOf blocks ino need.first) holds.1 image tree part volume node slots is)),
+      )

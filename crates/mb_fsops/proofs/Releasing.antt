@@ -1,13 +1,12 @@
 -- Open files released, one inode after another.
-use Rattle.std.proofs.Common.{ℕ, ◌≡◌, ◌≢◌, ◌-◌, ◌+◌, ◌<◌, ◌≤◌, Bool, true, false, ◌&&◌, ◌==◌, nat_eq, List, [], ◌∷◌, length, get_or, drop, drop-cons, add-one, suc, Option, Some, None, Ok, inl, inr, refl, sym, ap, subst, ◌∙◌, arith}
+use Rattle.std.proofs.Common.{ℕ, ◌≡◌, ◌≢◌, ◌-◌, ◌+◌, ◌<◌, ◌≤◌, true, false, ◌&&◌, ◌==◌, nat_eq, List, [], ◌∷◌, length, get_or, drop, drop-cons, add-one, suc, Option, Some, None, Ok, inl, inr, refl, sym, ap, subst, ◌∙◌, arith}
 use Rattle.std.specs.Prelude.{count_by}
 use Rattle.std.specs.FinMap as fin
 use Rattle.std.proofs.lemmas.List.{drop_all}
 use Rattle.std.proofs.lemmas.List.Elements.{All-get_or, Contains-get_or}
 use Rattle.mb_kinds.specs.Image.{Image}
 use Rattle.mb_layout.specs.declared.dinodes.Dinode.{Dinode}
-use Rattle.mb_tree.specs.Answers.{Answer}
-use Rattle.mb_tree.specs.Effect.{is_lost, less_open, release, tree_after}
+use Rattle.mb_tree.specs.Effect.{is_lost, less_open, release}
 use Rattle.mb_tree.specs.Fits.{FitsRelease}
 use Rattle.mb_tree.specs.Maps.{Numbered}
 use Rattle.mb_tree.specs.Sessions.{Counts}
@@ -15,7 +14,6 @@ use Rattle.mb_tree.specs.Trees.{IsThere}
 use Rattle.mb_tree.specs.Views.{over, IsPart}
 use Rattle.mb_tree.specs.Volume.{HasInode, IsVolume}
 use Rattle.mb_tree.specs.declared.nodes.Node.{Node}
-use Rattle.mb_tree.specs.declared.operations.FsOp.{FsOp}
 use Rattle.mb_tree.specs.declared.operations.FsOp.TheVariants.{Release}
 use Rattle.mb_tree.specs.declared.trees.Tree.{Tree}
 use Rattle.mb_tree.proofs.FiniteMaps.{gone_here, gone_there, one_or_not}
@@ -78,15 +76,21 @@ module _ (nodes : Numbered Node) (opens : Counts) (ino : ℕ) where
 
 module _ (shown : ℕ → Option (List ℕ)) (old : ChangeList) (opens : OpenFiles) (inos : List ℕ) (ino : ℕ) where
   pub one_reads : (new : ChangeList) (need : Need) → ReadsInode shown old ino (inode.Need need) → ReleasesOne shown old new opens inos ino (hung.Need need)
-  one_reads new need was = (was.0, λ image tree chain part stored looks can.
-      subst (λ block. IsNearTo (with_changes image old) tree looks block) (sym was.1) (inode_near (with_changes image old) tree chain stored looks ino can.some can.within))
+  one_reads new need was = (
+    was.0,
+    λ image tree chain part stored looks can.
+        subst (λ block. IsNearTo (with_changes image old) tree looks block) (sym was.1) (inode_near (with_changes image old) tree chain stored looks ino can.some can.within),
+  )
 
   -- nothing is done where the inode is not lost
   stays : ((image : Image) (tree : Tree) (chain : List ℕ) → IsPart shown image.at → IsStored (with_changes image old) tree chain → is_lost (release (count_of opens) inos) ino (fin.get tree.nodes ino) ≡ false)
       → ReleasesOne shown old old opens inos ino hung.Done
-  stays kept = (λ within. within, λ image tree chain part stored looks can.
-      subst (λ (nodes : Numbered Node). AdvancesTo image tree looks old old (record tree { nodes = nodes })) (sym (one_kept tree.nodes (release (count_of opens) inos) ino (kept image tree chain part stored)))
-      (nothing_changed image tree chain looks old stored))
+  stays kept = (
+    λ within. within,
+    λ image tree chain part stored looks can.
+        subst (λ (nodes : Numbered Node). AdvancesTo image tree looks old old (record tree { nodes = nodes })) (sym (one_kept tree.nodes (release (count_of opens) inos) ino (kept image tree chain part stored)))
+        (nothing_changed image tree chain looks old stored),
+  )
 
   module _ (d : Dinode) (read : ReadsInode shown old ino (inode.Here d)) where
     read_mode : (image : Image) (tree : Tree) (chain : List ℕ) → IsPart shown image.at → IsStored (with_changes image old) tree chain → (node : Node) → fin.get tree.nodes ino ≡ Some node → d.mode ≢ 0
@@ -116,19 +120,25 @@ module _ (shown : ℕ → Option (List ℕ)) (old : ChangeList) (opens : OpenFil
           ] refl)
 
       pub one_erased : (new : ChangeList) (mode : d.mode ≢ 0) → lost_with d.nlink left ≡ true → (result : Hung) → Erases shown old new ino result → ReleasesOne shown old new opens inos ino result
-      one_erased new used lost hung.Done was = (was.0, λ image tree chain part stored looks can.
-          elim (fin.get tree.nodes ino) as (λ o. fin.get tree.nodes ino ≡ o → AdvancesTo image tree looks old new (without_lost tree opens inos ino)) [
-            | None ↦ λ has. absurd (used (free_mode image tree chain part stored can.some can.within has))
-            | Some node ↦ λ has.
-                (let is = ap (is_lost (release (count_of opens) inos) ino) has ∙ loss node (read_links shown old ino d read image tree chain part stored node has) ∙ lost in
-                subst (λ (nodes : Numbered Node). AdvancesTo image tree looks old new (record tree { nodes = nodes })) (sym (one_lost tree.nodes (release (count_of opens) inos) ino is))
-                (was.1 image tree chain part stored looks node (record { looked = can.looked; has = has; kind = can.kind node has })))
-          ] refl)
-      one_erased new used lost (hung.Need need) was = (was.0, λ image tree chain part stored looks can.
-          elim (fin.get tree.nodes ino) as (λ o. fin.get tree.nodes ino ≡ o → IsNearTo (with_changes image old) tree looks need.first) [
-            | None ↦ λ has. absurd (used (free_mode image tree chain part stored can.some can.within has))
-            | Some node ↦ λ has. was.1 image tree chain part stored looks node (record { looked = can.looked; has = has; kind = can.kind node has })
-          ] refl)
+      one_erased new used lost hung.Done was = (
+        was.0,
+        λ image tree chain part stored looks can.
+            elim (fin.get tree.nodes ino) as (λ o. fin.get tree.nodes ino ≡ o → AdvancesTo image tree looks old new (without_lost tree opens inos ino)) [
+              | None ↦ λ has. absurd (used (free_mode image tree chain part stored can.some can.within has))
+              | Some node ↦ λ has.
+                  (let is = ap (is_lost (release (count_of opens) inos) ino) has ∙ loss node (read_links shown old ino d read image tree chain part stored node has) ∙ lost in
+                  subst (λ (nodes : Numbered Node). AdvancesTo image tree looks old new (record tree { nodes = nodes })) (sym (one_lost tree.nodes (release (count_of opens) inos) ino is))
+                  (was.1 image tree chain part stored looks node (record { looked = can.looked; has = has; kind = can.kind node has })))
+            ] refl,
+      )
+      one_erased new used lost (hung.Need need) was = (
+        was.0,
+        λ image tree chain part stored looks can.
+            elim (fin.get tree.nodes ino) as (λ o. fin.get tree.nodes ino ≡ o → IsNearTo (with_changes image old) tree looks need.first) [
+              | None ↦ λ has. absurd (used (free_mode image tree chain part stored can.some can.within has))
+              | Some node ↦ λ has. was.1 image tree chain part stored looks node (record { looked = can.looked; has = has; kind = can.kind node has })
+            ] refl,
+      )
       one_erased new used lost hung.NoMemory was = tt
 
 -- ---- all of them

@@ -1,19 +1,16 @@
 -- A name taken from an inode.
-use Rattle.std.proofs.Common.{ℕ, ◌≡◌, ◌≢◌, ◌-◌, ◌<◌, ◌≤◌, Bool, true, false, ◌||◌, ◌&&◌, ◌==◌, if◌then◌else◌, nat_eq, List, [], Option, Some, None, Ok, Err, option_map, unwrap_or, inl, inr, refl, sym, ap, subst, ◌∙◌, arith}
+use Rattle.std.proofs.Common.{ℕ, ◌≡◌, ◌≢◌, ◌-◌, Bool, true, false, ◌&&◌, ◌==◌, if◌then◌else◌, List, [], Option, Some, None, Ok, option_map, inr, refl, sym, ap, subst, ◌∙◌}
 use Rattle.std.specs.FinMap as fin
 use Rattle.mb_kinds.specs.Image.{Image}
 use Rattle.mb_kinds.specs.declared.errors.Errno.TheVariants.{ENOENT}
-use Rattle.mb_word.specs.Fields.{inode_block, inode_place}
-use Rattle.mb_layout.specs.Inode.{dinode_at}
 use Rattle.mb_layout.specs.declared.dinodes.Dinode.{Dinode}
-use Rattle.mb_tree.specs.Answers.{Answer}
 use Rattle.mb_tree.specs.Effect.{delink, is_lost, less_name, tree_after, unlinked, without_name}
-use Rattle.mb_tree.specs.Fits.{FitsUnlink, Fits}
+use Rattle.mb_tree.specs.Fits.{FitsUnlink}
 use Rattle.mb_tree.specs.Inodes.{slots_of}
 use Rattle.mb_tree.specs.Lookup.{number_in}
 use Rattle.mb_tree.specs.Maps.{Numbered, changed_at}
 use Rattle.mb_tree.specs.Sessions.{Counts}
-use Rattle.mb_tree.specs.Views.{over, IsPart}
+use Rattle.mb_tree.specs.Views.{IsPart}
 use Rattle.mb_tree.specs.Volume.{IsVolume}
 use Rattle.mb_tree.specs.declared.nodes.Node.{Node}
 use Rattle.mb_tree.specs.declared.nodes.PlainSlot.{PlainSlot}
@@ -22,8 +19,8 @@ use Rattle.mb_tree.specs.declared.operations.FsOp.TheVariants.{Delink}
 use Rattle.mb_tree.specs.declared.trees.Tree.{Tree}
 use Rattle.mb_tree.proofs.FiniteMaps.{get_there}
 use Rattle.mb_iface.specs.Acting.{with_changes}
-use Rattle.mb_iface.specs.Changed.{ChangeList, changed, IsWithinView}
-use Rattle.mb_iface.specs.Near.{IsNear, IsTouched}
+use Rattle.mb_iface.specs.Changed.{ChangeList}
+use Rattle.mb_iface.specs.Near.{IsTouched}
 use Rattle.mb_iface.specs.OpenCounts.{count_of}
 use Rattle.mb_iface.specs.declared.replies.Acted.{Acted}
 use Rattle.mb_iface.specs.declared.replies.Acted.TheVariants as acted
@@ -74,29 +71,38 @@ read_links shown old ino d read image tree chain part stored node has = ap (λ (
 
 module _ (shown : ℕ → Option (List ℕ)) (old new : ChangeList) (opens : OpenFiles) (ino moment : ℕ) where
   pub lose_reads : (need : Need) → ReadsInode shown old ino (inode.Need need) → LosesName shown old new opens ino moment (hung.Need need)
-  lose_reads need was = (was.0, λ image tree chain part stored looks node can.
-      (let range = stored.numbers ino node can.has in
-      subst (λ block. IsNearTo (with_changes image old) tree looks block) (sym was.1) (inode_near (with_changes image old) tree chain stored looks ino range.0 range.1)))
+  lose_reads need was = (
+    was.0,
+    λ image tree chain part stored looks node can.
+        (let range = stored.numbers ino node can.has in
+        subst (λ block. IsNearTo (with_changes image old) tree looks block) (sym was.1) (inode_near (with_changes image old) tree chain stored looks ino range.0 range.1)),
+  )
 
   module _ (d : Dinode) (read : ReadsInode shown old ino (inode.Here d)) (links files : ℕ) (less : links ≡ d.nlink - 1) (count : files ≡ count_of opens ino) where
     loss : (node : Node) → d.nlink ≡ node.nlink → is_lost (count_of opens) ino (Some (unlinked moment node)) ≡ lost_with links files
     loss node same = sym (ap (λ n. n == 0 && files == 0) (less ∙ ap (λ n. n - 1) same) ∙ ap (λ n. (node.nlink - 1) == 0 && n == 0) count)
 
     pub lose_erased : (result : Hung) → lost_with links files ≡ true → Erases shown old new ino result → LosesName shown old new opens ino moment result
-    lose_erased hung.Done lost was = (was.0, λ image tree chain part stored looks node can.
-        (let is = loss node (read_links shown old ino d read image tree chain part stored node can.has) ∙ lost in
-        subst (λ (nodes : Numbered Node). AdvancesTo image tree looks old new (record tree { nodes = nodes })) (sym (name_gone tree.nodes (count_of opens) moment ino node can.has is)) (was.1 image tree chain part stored looks node can)))
+    lose_erased hung.Done lost was = (
+      was.0,
+      λ image tree chain part stored looks node can.
+          (let is = loss node (read_links shown old ino d read image tree chain part stored node can.has) ∙ lost in
+          subst (λ (nodes : Numbered Node). AdvancesTo image tree looks old new (record tree { nodes = nodes })) (sym (name_gone tree.nodes (count_of opens) moment ino node can.has is)) (was.1 image tree chain part stored looks node can)),
+    )
     lose_erased (hung.Need need) lost was = (was.0, λ image tree chain part stored looks node can. was.1 image tree chain part stored looks node can)
     lose_erased hung.NoMemory lost was = tt
 
     pub lose_less : lost_with links files ≡ false → SetsFields shown old new ino (Links links moment) advanced.Done → LosesName shown old new opens ino moment hung.Done
-    lose_less kept was = (was.0, λ image tree chain part stored looks node can.
-        (let same = read_links shown old ino d read image tree chain part stored node can.has in
-        let is = loss node same ∙ kept in
-        let step = was.1 image tree chain part stored looks node can.has (mode_above node.mode node.mode node.body can.kind refl) in
-        let fewer : links ≡ node.nlink - 1 = less ∙ ap (λ n. n - 1) same in
-        subst (λ (nodes : Numbered Node). AdvancesTo image tree looks old new (record tree { nodes = nodes })) (sym (name_less tree.nodes (count_of opens) moment ino node can.has is))
-        (subst (λ n. AdvancesTo image tree looks old new (with_node tree ino (record node { nlink = n; ctime = moment }))) fewer step)))
+    lose_less kept was = (
+      was.0,
+      λ image tree chain part stored looks node can.
+          (let same = read_links shown old ino d read image tree chain part stored node can.has in
+          let is = loss node same ∙ kept in
+          let step = was.1 image tree chain part stored looks node can.has (mode_above node.mode node.mode node.body can.kind refl) in
+          let fewer : links ≡ node.nlink - 1 = less ∙ ap (λ n. n - 1) same in
+          subst (λ (nodes : Numbered Node). AdvancesTo image tree looks old new (record tree { nodes = nodes })) (sym (name_less tree.nodes (count_of opens) moment ino node can.has is))
+          (subst (λ n. AdvancesTo image tree looks old new (with_node tree ino (record node { nlink = n; ctime = moment }))) fewer step)),
+    )
 
     pub lose_asks : (need : Need) → SetsFields shown old new ino (Links links moment) (advanced.Need need) → LosesName shown old new opens ino moment (hung.Need need)
     lose_asks need was = (was.0, λ image tree chain part stored looks node can. was.1 image tree chain part stored looks node can.has)

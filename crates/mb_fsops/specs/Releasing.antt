@@ -1,7 +1,6 @@
 -- Open files released.
 use Rattle.std.specs.Prelude.{List, [], ◌∷◌, ℕ, ◌≤◌, ◌≡◌, Bool, true, Option, Some}
 use Rattle.std.specs.FinMap as fin
-use Rattle.mb_kinds.specs.Image.{Image}
 use Rattle.mb_tree.specs.Effect.{less_open, release}
 use Rattle.mb_tree.specs.Trees.{HasKind}
 use Rattle.mb_tree.specs.declared.nodes.Node.{Node}

@@ -1,4 +1,4 @@
-use Rattle.std.proofs.Common.{refl, ◌+◌, arith}
+use Rattle.std.proofs.Common.{refl, ◌+◌}
 use Rattle.mb_fsops.proofs.Linking.{inode_asks, linked_at, links_full, name_asked, name_there}
 use Rattle.mb_fsops.proofs.links.enlink.Goals as goal
 

@@ -1,6 +1,5 @@
-use Rattle.std.proofs.Common.{List, ℕ, None, sym, subst}
+use Rattle.std.proofs.Common.{List, ℕ, None, subst}
 use Rattle.mb_tree.specs.declared.operations.FsOp.TheVariants.{Release}
-use Rattle.mb_iface.specs.declared.replies.Acted.{Acted}
 use Rattle.mb_iface.specs.declared.replies.Acted.TheVariants as acted
 use Rattle.mb_fsops.specs.Performing.{PerformsAlways}
 use Rattle.mb_fsops.proofs.Releasing.{release_asks, release_begins, release_ends, release_next}
