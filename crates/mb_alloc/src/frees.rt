@@ -19,7 +19,8 @@ pub enum Hung {
 /// Puts a block, one above 1 and below 262,144, back on the free chain (V7 alloc(9), filsys(5)): its
 /// address becomes the last of the super-block's list. An empty list gets address 0 first, which ends
 /// the chain, and a full one of 50 moves into the block, whose bytes are otherwise kept. It asks for
-/// block 1 alone: that the view has the block handed in is for the caller to see to.
+/// block 1 alone: that the view has the block handed in, where the list is full, is for the caller to
+/// see to.
 pub fn free_block<V: View>(view: &V, changes: &mut Changes, block: u32) -> Hung
     requires { block < 262144 }
     ensures { Frees (V.shown view.now) changes.old changes.new block result }

@@ -1,5 +1,6 @@
-use Rattle.std.proofs.Common.{refl, sym, ap, subst, IsSome, ◌∙◌, take, drop, ℕ, replicate, arith}
+use Rattle.std.proofs.Common.{refl, sym, ap, subst, IsSome, IfSome, ◌≢◌, ◌∙◌, take, drop, ℕ, replicate, arith}
 use Rattle.std.proofs.lemmas.List.{length-replicate}
+use Rattle.mb_word.specs.Fields.{nfree_of}
 use Rattle.mb_word.specs.Numbers.{word_at, put_at, word_bytes}
 use Rattle.mb_tree.specs.Views.{over}
 use Rattle.mb_iface.specs.Changed.{changed}
@@ -14,6 +15,7 @@ returns-then-count-gt50 g c = (
   λ blocks part keeps real.
       absurd (let bytes = c.in-Some.ensures.found blocks part in
       too_many (over blocks (changed c.args.changes.now)) c.word_at-count.result keeps (c.word_at-count.ensures ∙ ap (λ b. word_at b 6) (sym bytes)) c.if-count-gt50.true),
+  λ room within. within,
 )
 
 pub returns-in-Ok : goal.returns-in-Ok
@@ -31,6 +33,7 @@ returns-in-Ok g c = (
       (length-take_drop (over blocks (changed c.args.changes.now) 1) 202 6 (let l = keeps.sized 1 in omega (arith, l)))
       (c.put_word.ensures ∙ ap (λ b. put_at b 6 (word_bytes 1)) (sym bytes)) c.put_long.ensures
       (c.in-Ok.ensures.ok blocks))),
+  λ room within. absurd (subst (λ o. IfSome o (λ first. nfree_of first ≢ 50)) c.in-Some.ensures.there room (sym c.word_at-count.ensures ∙ c.if-count-eq50.true)),
 )
 
 pub returns-in-Done : goal.returns-in-Done
@@ -42,6 +45,7 @@ returns-in-Done g c = (
       (freed_none (over blocks (changed c.args.changes.now)) (over blocks (changed c.edit.new.changes)) c.word_at-count.result c.args.block _ _ _ _ keeps
       (c.word_at-count.ensures ∙ ap (λ b. word_at b 6) (sym bytes)) c.if-count-eq0.true real c.requires refl
       c.put_word-then-count-eq0.ensures c.put_long-then-count-eq0.ensures c.put_long-then-count-eq0-2.ensures (c.in-Done.ensures.wrote blocks part))),
+  λ room. c.in-Done.ensures.within,
 )
 
 pub returns-in-Done-edit_both : goal.returns-in-Done-edit_both
@@ -53,4 +57,5 @@ returns-in-Done-edit_both g c = (
       (freed_some (over blocks (changed c.args.changes.now)) (over blocks (changed c.edit_both.new.changes)) c.word_at-count.result c.args.block _ _ _ keeps
       (c.word_at-count.ensures ∙ ap (λ b. word_at b 6) (sym bytes)) c.if-count-eq0.false (omega (arith, c.if-count-gt50.false, c.if-count-eq50.false)) real c.requires refl
       c.put_long-2.ensures refl (c.in-Done-edit_both.ensures.wrote blocks part))),
+  λ room. c.in-Done-edit_both.ensures.within,
 )

@@ -1,0 +1,14 @@
+pub mod Acting
+pub mod Answering
+pub mod Clearing
+pub mod ErasedInodes
+pub mod ErasingSteps
+pub mod Finding
+pub mod Holding
+pub mod InHand
+pub mod Listing
+pub mod PuttingBack
+pub mod PuttingBytes
+pub mod PuttingParts
+pub mod PuttingWhole
+pub mod Reading

@@ -1,0 +1,93 @@
+ghost use Rattle.mb_file.specs.Walking.{Collects, PushesUnder};
+
+use mb_iface::{Changes, Need, View, seen};
+use mb_layout::Dinode;
+use mb_word::long_at;
+use std::alloc::Global;
+
+/// What became of blocks that were to be listed.
+#[derive(Clone, Copy, Debug, PartialEq, Drop)]
+pub(crate) enum Walked {
+    /// They are listed.
+    Done,
+    /// The view lacks an index block.
+    Need(Need),
+    /// Memory was wanted and not given.
+    NoMemory,
+}
+
+/// The blocks that an inode holds.
+#[derive(Drop)]
+pub(crate) enum Collected {
+    /// All of them, each once: an index block, and then what stands under its addresses, the last first.
+    Blocks(Vec<u32>),
+    /// The view lacks an index block.
+    Need(Need),
+    /// Memory was wanted and not given.
+    NoMemory,
+}
+
+/// Lists the block to which an address leads and all that stands under it, so many levels of index
+/// blocks down; nothing for address 0. More blocks than a volume can have are not listed, nor an
+/// address of 262,144 or more: no volume has them.
+fn push_under<V: View>(
+    view: &V,
+    changes: &Changes,
+    address: u32,
+    levels: u8,
+    list: &mut Vec<u32>,
+) -> Walked
+    ensures { PushesUnder (V.shown view.now) changes.now address levels list.old.items list.new.items result }
+{
+    if address == 0 {
+        return Walked::Done;
+    }
+    if address >= 262_144 {
+        return Walked::Done;
+    }
+    if list.len() >= 262_144 {
+        return Walked::Done;
+    }
+    match list.push(address) {
+        Ok(()) => {}
+        Err(_) => return Walked::NoMemory,
+    }
+    if levels == 0 {
+        return Walked::Done;
+    }
+    let Some(index) = seen(view, changes, address) else {
+        return Walked::Need(Need::one(address));
+    };
+    for passed in 0..128usize {
+        let child = long_at(index, 4 * (127 - passed));
+        match push_under(view, changes, child, levels - 1, list) {
+            Walked::Done => {}
+            Walked::Need(need) => return Walked::Need(need),
+            Walked::NoMemory => return Walked::NoMemory,
+        }
+    }
+    Walked::Done
+}
+
+/// The blocks that an inode's thirteen addresses lead to, the last first.
+pub(crate) fn collect<V: View>(
+    alloc: Global,
+    view: &V,
+    changes: &Changes,
+    inode: &Dinode,
+) -> Collected
+    ensures { Collects (V.shown view.now) changes.now inode.now result }
+{
+    let mut list = Vec::new(alloc);
+    for passed in 0..13u8 {
+        let place = 12 - passed;
+        let address = inode.address(place);
+        let levels = place.saturating_sub(9);
+        match push_under(view, changes, address, levels, &mut list) {
+            Walked::Done => {}
+            Walked::Need(need) => return Collected::Need(need),
+            Walked::NoMemory => return Collected::NoMemory,
+        }
+    }
+    Collected::Blocks(list)
+}

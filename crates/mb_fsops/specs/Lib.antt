@@ -1,0 +1,5 @@
+pub mod Attributes
+pub mod Links
+pub mod Performing
+pub mod Places
+pub mod Releasing

@@ -1,0 +1,10 @@
+pub mod Answering
+pub mod Fetching
+pub mod InodeNodes
+pub mod Looking
+pub mod Pieces
+pub mod Searching
+pub mod SlotRows
+pub mod SlotScans
+pub mod Stepping
+pub mod TreeDirectories

@@ -1,0 +1,10 @@
+pub mod Components
+pub mod Directories
+pub mod Inodes
+pub mod InodeLaws
+pub mod Lookups
+pub mod Pieces
+pub mod Searching
+pub mod Parts
+pub mod PartSearches
+pub mod Slots

@@ -1,0 +1,74 @@
+ghost use Rattle.std.specs.Prelude.{◌≤◌, ◌<◌, ◌+◌};
+ghost use Rattle.mb_namei.specs.Parts.{Fetches};
+
+use mb_bmap::{Located, address};
+use mb_iface::{Changes, Need, View, seen};
+
+/// A part of a file, read from its block.
+pub(crate) enum Fetched<'a> {
+    /// Its bytes.
+    Bytes(&'a [u8; 512]),
+    /// No block is there for it.
+    Hole,
+    /// The view lacks its block, or one on the way to it.
+    Need(Need),
+}
+
+/// A part of a file that has so many parts. It asks for the neighbours of the part's block with it, as
+/// many parts as were passed before it and one more: so the runs double while a file is gone through.
+pub(crate) fn fetch<'a, V: View>(
+    view: &'a V,
+    changes: &'a Changes,
+    ino: u16,
+    part: u32,
+    parts: u32,
+) -> Fetched<'a>
+    requires few { parts ≤ 2113674 }
+    requires part { part < parts }
+    ensures { Fetches (V.shown view.now) changes.now ino part result }
+{
+    let block = match address(view, changes, ino, part) {
+        Located::At(block) => block,
+        Located::Missing { .. } => return Fetched::Hole,
+        Located::Need(need) => return Fetched::Need(need),
+    };
+    if block >= 262_144 {
+        return Fetched::Hole;
+    }
+    match seen(view, changes, block) {
+        Some(bytes) => Fetched::Bytes(bytes),
+        None => {
+            let most = (part + 1).min(parts - part).min(32);
+            let wanted = neighbours(view, changes, ino, part, block, most);
+            Fetched::Need(Need::run(view, block, wanted))
+        }
+    }
+}
+
+/// How many parts from one on, at most so many, stand at neighbouring blocks, as far as that can be
+/// told.
+fn neighbours<V: View>(
+    view: &V,
+    changes: &Changes,
+    ino: u16,
+    part: u32,
+    block: u32,
+    most: u32,
+) -> u32
+    requires most { 1 ≤ most }
+    requires few { part + most ≤ 2113674 }
+    requires below { block < 262144 }
+    ensures { 1 ≤ result }
+{
+    for more in 1..most {
+        match address(view, changes, ino, part + more) {
+            Located::At(next) => {
+                if next != block + more {
+                    return more;
+                }
+            }
+            _ => return more,
+        }
+    }
+    most
+}

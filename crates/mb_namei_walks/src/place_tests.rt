@@ -1,0 +1,87 @@
+use crate::volumes::{Ended, Gathered, find_on, nothing, place_on, volume};
+use mb_iface::{Answer, View};
+use mb_kinds::Errno;
+use std::test::Fail;
+
+#[test]
+fn last_component_may_be_missing(rt: HostRuntime) -> Result<(), Fail> {
+    let disk = volume(rt.alloc())?;
+    let mut view = nothing(rt.alloc());
+    match place_on(rt.alloc(), &disk, &mut view, 5, b"../big/new/")? {
+        Ended::Found(Answer::Place { dir, name, ino }) => {
+            assert_eq!(rt; dir, 5);
+            assert_eq!(rt; name, *b"new\0\0\0\0\0\0\0\0\0\0\0");
+            assert_eq!(rt; ino, None);
+        }
+        _ => return Err("no place".into()),
+    }
+    match place_on(rt.alloc(), &disk, &mut view, 5, b"f")? {
+        Ended::Found(Answer::Place { dir, ino, .. }) => {
+            assert_eq!(rt; dir, 3);
+            assert_eq!(rt; ino, Some(4));
+        }
+        _ => return Err("no place".into()),
+    }
+    Ok(())
+}
+
+#[test]
+fn path_without_components(rt: HostRuntime) -> Result<(), Fail> {
+    let disk = volume(rt.alloc())?;
+    let mut view = nothing(rt.alloc());
+    match place_on(rt.alloc(), &disk, &mut view, 5, b"/")? {
+        Ended::Found(Answer::Itself(ino)) => assert_eq!(rt; ino, 2),
+        _ => return Err("no start".into()),
+    }
+    match place_on(rt.alloc(), &disk, &mut view, 5, b"")? {
+        Ended::Found(Answer::Itself(ino)) => assert_eq!(rt; ino, 3),
+        _ => return Err("no start".into()),
+    }
+    Ok(())
+}
+
+#[test]
+fn errors_of_a_place(rt: HostRuntime) -> Result<(), Fail> {
+    let disk = volume(rt.alloc())?;
+    let mut view = nothing(rt.alloc());
+    match place_on(rt.alloc(), &disk, &mut view, 5, b"g/x")? {
+        Ended::Refused(error) => assert_eq!(rt; error, Errno::ENOENT),
+        Ended::Found(_) => return Err("a place".into()),
+    }
+    match place_on(rt.alloc(), &disk, &mut view, 6, b"x")? {
+        Ended::Refused(error) => assert_eq!(rt; error, Errno::EACCES),
+        Ended::Found(_) => return Err("a place".into()),
+    }
+    match place_on(rt.alloc(), &disk, &mut view, 5, b"f/x")? {
+        Ended::Refused(error) => assert_eq!(rt; error, Errno::ENOTDIR),
+        Ended::Found(_) => return Err("a place".into()),
+    }
+    Ok(())
+}
+
+/// A view that has every block of the volume but one.
+fn without(view: &mut Gathered, disk: &Gathered, missing: u32) -> Result<(), Fail> {
+    for block in 0..120 {
+        if block != missing {
+            if let Some(bytes) = disk.get(block) {
+                view.blocks.put(block, bytes)?;
+            }
+        }
+    }
+    Ok(())
+}
+
+/// Each block in turn is missing, and asked for where it is wanted.
+#[test]
+fn each_block_is_asked_for(rt: HostRuntime) -> Result<(), Fail> {
+    let disk = volume(rt.alloc())?;
+    for missing in 0..120 {
+        let mut view = nothing(rt.alloc());
+        without(&mut view, &disk, missing)?;
+        match find_on(rt.alloc(), &disk, &mut view, 5, b"/big/n999")? {
+            Ended::Found(Answer::Node(stat)) => assert_eq!(rt; stat.ino, 4),
+            _ => return Err("no inode".into()),
+        }
+    }
+    Ok(())
+}

@@ -1,0 +1,57 @@
+use crate::volumes::{Gathered, gather, nothing, numbered, volume};
+use mb_iface::Changes;
+use mb_namei::{Sought, search};
+use std::alloc::Global;
+use std::test::Fail;
+
+/// Searches a directory from a view of nothing, and counts how often blocks were asked for.
+fn search_on(
+    heap: Global,
+    disk: &Gathered,
+    dir: u16,
+    size: u32,
+    name: &[u8],
+) -> Result<(Sought, u32), Fail> {
+    let mut padded = [0; 14];
+    for (k, byte) in name.iter().enumerate() {
+        if k < 14 {
+            padded[k] = *byte;
+        }
+    }
+    let mut view = nothing(heap);
+    let none = Changes::new(heap);
+    for asked in 0..40 {
+        match search(&view, &none, dir, size, &padded) {
+            Sought::Need(need) => gather(disk, &mut view, need)?,
+            other => return Ok((other, asked)),
+        }
+    }
+    Err("a search asks too often".into())
+}
+
+#[test]
+fn slots_of_a_small_directory(rt: HostRuntime) -> Result<(), Fail> {
+    let disk = volume(rt.alloc())?;
+    let (found, _) = search_on(rt.alloc(), &disk, 3, 96, b"f")?;
+    assert_eq!(rt; found, Sought::Found { at: 3, ino: 4 });
+    let (empty, _) = search_on(rt.alloc(), &disk, 3, 96, b"gone")?;
+    assert_eq!(rt; empty, Sought::Empty { at: 2 });
+    let (first, _) = search_on(rt.alloc(), &disk, 2, 96, b"new")?;
+    assert_eq!(rt; first, Sought::Empty { at: 3 });
+    let (full, _) = search_on(rt.alloc(), &disk, 2, 48, b"big")?;
+    assert_eq!(rt; full, Sought::Full);
+    Ok(())
+}
+
+/// A directory of 32 neighbouring blocks is asked for in windows that double: the inode's block, the
+/// index block, and its parts in 6 runs.
+#[test]
+fn windows_double(rt: HostRuntime) -> Result<(), Fail> {
+    let disk = volume(rt.alloc())?;
+    let (last, asked) = search_on(rt.alloc(), &disk, 5, 16_000, &numbered(999))?;
+    assert_eq!(rt; last, Sought::Found { at: 999, ino: 4 });
+    assert_eq!(rt; asked, 8);
+    let (full, _) = search_on(rt.alloc(), &disk, 5, 16_000, b"none")?;
+    assert_eq!(rt; full, Sought::Full);
+    Ok(())
+}
