@@ -1,3 +1,4 @@
+pub mod Creating
 pub mod Fields
 pub mod Linking
 pub mod Names

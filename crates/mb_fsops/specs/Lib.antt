@@ -1,4 +1,5 @@
 pub mod Attributes
+pub mod Creating
 pub mod Links
 pub mod Performing
 pub mod Places

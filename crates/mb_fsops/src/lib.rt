@@ -7,12 +7,14 @@
 #![tactic(auto)]
 
 mod attributes;
+mod creates;
 mod holds;
 mod links;
 mod places;
 mod releases;
 
 pub use attributes::{set_mode, set_owner, set_times};
+pub use creates::create;
 pub use holds::hold;
 pub use links::{delink, enlink};
 pub use releases::release;
