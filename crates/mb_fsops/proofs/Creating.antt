@@ -1,15 +1,11 @@
 -- A file made under a new name, on a volume.
-use Rattle.std.proofs.Common.{ℕ, ◌≡◌, ◌<◌, ◌≤◌, inl, inr, Bool, true, List, [], ◌∷◌, Option, Some, None, Ok, Err, IfSome, refl, sym, ap, subst, ◌∙◌, arith}
+use Rattle.std.proofs.Common.{ℕ, ◌≡◌, inl, true, List, [], Option, Some, None, Err, IfSome, refl, sym, ap, subst, ◌∙◌}
 use Rattle.std.specs.FinMap as fin
-use Rattle.mb_kinds.specs.Image.{Image}
 use Rattle.mb_kinds.specs.declared.errors.Errno.TheVariants.{EEXIST, ENOSPC}
 use Rattle.mb_tree.specs.Effect.{fitting, tree_after, with_name}
-use Rattle.mb_tree.specs.Fits.{Fits, FitsNew}
+use Rattle.mb_tree.specs.Fits.{FitsNew}
 use Rattle.mb_tree.specs.Maps.{Numbered}
-use Rattle.mb_tree.specs.Views.{IsPart}
-use Rattle.mb_tree.specs.Volume.{IsVolume}
 use Rattle.mb_tree.specs.declared.nodes.Node.{Node}
-use Rattle.mb_tree.specs.declared.nodes.PlainSlot.{PlainSlot}
 use Rattle.mb_tree.specs.declared.operations.FsOp.{FsOp}
 use Rattle.mb_tree.specs.declared.operations.FsOp.TheVariants.{Create}
 use Rattle.mb_tree.specs.declared.trees.Tree.{Tree}
