@@ -1,0 +1,7 @@
+pub mod Creating
+pub mod Fields
+pub mod Linking
+pub mod Names
+pub mod Releasing
+pub mod Steps
+pub mod Unlinking

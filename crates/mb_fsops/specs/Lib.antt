@@ -1,0 +1,6 @@
+pub mod Attributes
+pub mod Creating
+pub mod Links
+pub mod Performing
+pub mod Places
+pub mod Releasing

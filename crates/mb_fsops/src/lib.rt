@@ -1,0 +1,20 @@
+//! The operations of a V7 file system (filsys(5), dir(5)) over a view of blocks: fields of an inode set,
+//! names entered and taken out, files opened and let go. Each says which blocks it changes, or asks for
+//! blocks that the view lacks; it holds nothing and never waits.
+//!
+//! `specs/Performing.antt` says what each promises: on a volume of the reference tree its answer is that
+//! of the tree (`Acts` of `mb_iface`).
+#![tactic(auto)]
+
+mod attributes;
+mod creates;
+mod holds;
+mod links;
+mod places;
+mod releases;
+
+pub use attributes::{set_mode, set_owner, set_times};
+pub use creates::create;
+pub use holds::hold;
+pub use links::{delink, enlink};
+pub use releases::release;
