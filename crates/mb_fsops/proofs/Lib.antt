@@ -1,6 +1,8 @@
 pub mod Creating
 pub mod Fields
+pub mod FreeNumbers
 pub mod Linking
+pub mod MakingDirs
 pub mod Names
 pub mod Releasing
 pub mod Steps

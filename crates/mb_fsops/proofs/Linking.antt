@@ -56,13 +56,13 @@ room_there image tree chain stored =
     let t : nat_le (cost tree) tree.cap ≡ true = grind (arith, nat_tests) in
     ap (λ b. need b ENOSPC >> Ok tree) t
 
-links_are : (nodes : Numbered Node) (ino : ℕ) (node : Node) → fin.get nodes ino ≡ Some node → nlink_in nodes ino ≡ node.nlink
+pub links_are : (nodes : Numbered Node) (ino : ℕ) (node : Node) → fin.get nodes ino ≡ Some node → nlink_in nodes ino ≡ node.nlink
 links_are nodes ino node has = ap (λ (o : Option Node). unwrap_or (option_map (λ (n : Node). n.nlink) o) 0) has
 
-few_links : (n m : ℕ) → n ≡ m → m < 32767 → nat_lt n 32767 ≡ true
+pub few_links : (n m : ℕ) → n ≡ m → m < 32767 → nat_lt n 32767 ≡ true
 few_links n m e low = grind (arith, nat_tests)
 
-many_links : (n m : ℕ) → n ≡ m → 32767 ≤ m → nat_lt n 32767 ≡ false
+pub many_links : (n m : ℕ) → n ≡ m → 32767 ≤ m → nat_lt n 32767 ≡ false
 many_links n m e high = grind (arith, nat_tests)
 
 pub itself_named : (ino : ℕ) → nat_eq ino ino ≡ true

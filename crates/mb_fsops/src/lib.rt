@@ -8,6 +8,7 @@
 
 mod attributes;
 mod creates;
+mod directories;
 mod holds;
 mod links;
 mod places;
@@ -15,6 +16,7 @@ mod releases;
 
 pub use attributes::{set_mode, set_owner, set_times};
 pub use creates::create;
+pub use directories::make_dir;
 pub use holds::hold;
 pub use links::{delink, enlink};
 pub use releases::release;

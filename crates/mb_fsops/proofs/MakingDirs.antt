@@ -1,0 +1,157 @@
+-- A directory made under a new name, on a volume.
+use Rattle.std.proofs.Common.{ℕ, ◌≡◌, ◌≤◌, ◌<◌, ◌+◌, nat_lt, arith, inl, Bool, true, false, List, [], Option, Some, None, Err, IfSome, refl, sym, ap, subst, ◌∙◌}
+use Rattle.std.specs.FinMap as fin
+use Rattle.mb_kinds.specs.declared.errors.Errno.TheVariants.{EEXIST, EMLINK, ENOSPC}
+use Rattle.mb_tree.specs.Answers.{Answer, need, some, ◌>>◌, ◌>>=◌}
+use Rattle.mb_tree.specs.Effect.{fitting, made, first_slots, nlink_in, tree_after, with_link}
+use Rattle.mb_tree.specs.Fits.{FitsNew}
+use Rattle.mb_tree.specs.Maps.{Numbered, changed_at}
+use Rattle.mb_tree.specs.Step.{IsFreeNumber}
+use Rattle.mb_tree.specs.declared.nodes.Node.{Node}
+use Rattle.mb_tree.specs.declared.operations.FsOp.{FsOp}
+use Rattle.mb_tree.specs.declared.operations.FsOp.TheVariants.{MakeDir}
+use Rattle.mb_tree.specs.declared.trees.Tree.{Tree}
+use Rattle.mb_blocks.proofs.Rearranged.{own}
+use Rattle.mb_iface.specs.Acting.{with_changes}
+use Rattle.mb_iface.specs.Changed.{ChangeList}
+use Rattle.mb_iface.specs.Near.{IsTouched}
+use Rattle.mb_iface.specs.OpenCounts.{count_of}
+use Rattle.mb_iface.specs.declared.replies.Acted.{Acted}
+use Rattle.mb_iface.specs.declared.replies.Acted.TheVariants as acted
+use Rattle.mb_iface.specs.declared.replies.Need.{Need}
+use Rattle.mb_moves.specs.Looking.{touches}
+use Rattle.mb_moves.proofs.Done.{operation_done, operation_refused}
+use Rattle.mb_moves.proofs.InARow.{stored_after}
+use Rattle.mb_moves.proofs.Touching.{near_touched, touched_is}
+use Rattle.mb_dirs.specs.Creating.{MakesDirectoryIn, with_new}
+use Rattle.mb_dirs.specs.Making.{directory_made}
+use Rattle.mb_dirs.specs.Steps.{IsLookedThrough}
+use Rattle.mb_dirs.specs.declared.choices.Chosen.TheVariants as chosen
+use Rattle.mb_dirs.specs.declared.enters.Gap.{Gap}
+use Rattle.mb_dirs.specs.declared.makes.NewInode.{NewInode}
+use Rattle.mb_fsops.specs.Creating.{PerformsWith}
+use Rattle.mb_fsops.specs.MakingDirs.{IsOpenBelow, MakesDirAt}
+use Rattle.mb_fsops.specs.Places.{FindsName, IsDirectoryWith}
+use Rattle.mb_fsops.specs.declared.places.NamePlace.TheVariants as place
+use Rattle.mb_fsops.proofs.FreeNumbers.{some_pick}
+use Rattle.mb_fsops.proofs.Linking.{few_links, links_are, many_links, room_there}
+use Rattle.mb_fsops.proofs.Names.{near_one, number_there}
+use Rattle.mb_fsops.proofs.Steps.{acts_fitting, changed_there, none_within, stored_first}
+
+module _ (dir : ℕ) (name : List ℕ) (new : NewInode) where
+  abbrev op : FsOp
+  op = MakeDir dir name new.mode new.uid new.gid new.moment
+
+  abbrev next : Tree → ℕ → Node → ℕ → Tree
+  next tree links parent ino = with_new tree dir links new.moment name (λ number. directory_made new number dir) parent ino
+
+  touches_dir : (tree : Tree) → IsTouched tree op dir
+  touches_dir tree = inl (own dir [])
+
+  looks_dir : (tree : Tree) → touches tree op dir ≡ true
+  looks_dir tree = (touched_is tree op dir).0 (touches_dir tree)
+
+  look : (tree : Tree) (links : ℕ) (gap : Gap) → (can : IsOpenBelow tree dir links gap) → IsLookedThrough tree (touches tree op) dir can.parent can.slots
+  look tree links gap can = record { has = can.directory.has; body = can.directory.body; looked_at = looks_dir tree }
+
+  -- what the operation comes to with a number, once the parent's links are looked at
+  abbrev with_pick : Tree → Option ℕ → Bool → Answer Tree
+  with_pick tree picked few = need few EMLINK >> (some picked ENOSPC >>= (λ ino. fitting tree (fin.insert (changed_at tree.nodes dir (with_link new.moment name ino)) ino (directory_made new ino dir))))
+
+  few_there : (tree : Tree) (links : ℕ) (gap : Gap) → (can : IsOpenBelow tree dir links gap) → nat_lt (nlink_in tree.nodes dir) 32767 ≡ true
+  few_there tree links gap can = few_links (nlink_in tree.nodes dir) can.parent.nlink (links_are tree.nodes dir can.parent can.directory.has) can.few
+
+  after : (tree : Tree) (links : ℕ) (gap : Gap) → (can : IsOpenBelow tree dir links gap) → (opens : ℕ → ℕ) (ino : ℕ) → tree_after tree opens op (Some ino) ≡ fitting tree (next tree links can.parent ino).nodes
+  after tree links gap can opens ino =
+      ap (with_pick tree (Some ino)) (few_there tree links gap can)
+      ∙ ap (λ (nodes : Numbered Node). fitting tree (fin.insert nodes ino (directory_made new ino dir))) (changed_there tree.nodes dir can.parent (with_link new.moment name ino) can.directory.has)
+      ∙ ap (λ n. fitting tree (fin.insert (fin.insert tree.nodes dir (record (with_link new.moment name ino can.parent) { nlink = n })) ino (directory_made new ino dir))) can.more
+
+  after_refused : (tree : Tree) (links : ℕ) (gap : Gap) → (can : IsOpenBelow tree dir links gap) → (opens : ℕ → ℕ) (picked : Option ℕ)
+      → IfSome picked (λ ino. fitting tree (next tree links can.parent ino).nodes ≡ Err ENOSPC) → tree_after tree opens op picked ≡ Err ENOSPC
+  after_refused tree links gap can opens None full = ap (with_pick tree None) (few_there tree links gap can)
+  after_refused tree links gap can opens (Some ino) full = after tree links gap can opens ino ∙ full
+
+  module _ (shown : ℕ → Option (List ℕ)) (old now : ChangeList) (none : old ≡ []) (links : ℕ) (gap : Gap) (demanded : Option ℕ) where
+    pub dir_made : (ino : ℕ) → MakesDirectoryIn shown old now dir links gap name new demanded (chosen.Number ino) → MakesDirAt shown dir links gap name new demanded (acted.Done now (Some ino))
+    dir_made ino was =
+        let makes = subst (λ xs. MakesDirectoryIn shown xs now dir links gap name new demanded (chosen.Number ino)) none was in
+        record {
+          need = tt;
+          answer = λ image tree part volume can opens fits.
+              (let got = makes.1 image tree volume.chain part (stored_first shown image tree part volume) (touches tree op) can.parent can.slots (look tree links gap can) can.stands fits.picked in
+              let stored = stored_after image tree (next tree links can.parent ino) (touches tree op) [] now got.2 in
+              operation_done shown image tree (next tree links can.parent ino) (touches tree op) (count_of opens) op demanded (Some ino) now volume fits got.0
+              (after tree links gap can (count_of opens) ino ∙ room_there (with_changes image now) (next tree links can.parent ino) stored.0 stored.1) got.2 (makes.0 (none_within shown)));
+        }
+
+    pub dir_refused : MakesDirectoryIn shown old now dir links gap name new demanded chosen.NoneLeft → MakesDirAt shown dir links gap name new demanded (acted.Refused ENOSPC)
+    dir_refused was =
+        let short = subst (λ xs. MakesDirectoryIn shown xs now dir links gap name new demanded chosen.NoneLeft) none was in
+        record {
+          need = tt;
+          answer = λ image tree part volume can opens fits.
+              (let got = short image tree volume.chain part (stored_first shown image tree part volume) (touches tree op) can.parent can.slots (look tree links gap can) can.stands fits.picked in
+              operation_refused tree (count_of opens) op demanded got.picked ENOSPC got.picks (after_refused tree links gap can (count_of opens) got.picked got.full));
+        }
+
+    pub dir_asks : (need : Need) → MakesDirectoryIn shown old now dir links gap name new demanded (chosen.Need need) → MakesDirAt shown dir links gap name new demanded (acted.Need need)
+    dir_asks need was =
+        let asks = subst (λ xs. MakesDirectoryIn shown xs now dir links gap name new demanded (chosen.Need need)) none was in
+        record {
+          need = asks.0;
+          answer = λ image tree part volume can opens fits.
+              (near_touched image tree op need.first).1
+              (asks.1 image tree volume.chain part (stored_first shown image tree part volume) (touches tree op) can.parent can.slots (look tree links gap can) can.stands fits.picked);
+        }
+
+  module _ (shown : ℕ → Option (List ℕ)) (demanded : Option ℕ) where
+    pub name_asked : (need : Need) → FindsName shown dir name (place.Need need) → PerformsWith shown op demanded (acted.Need need)
+    name_asked need was opens = record {
+      need = was.0;
+      answer = λ image tree part volume fits.
+          near_one image tree (IsTouched tree op) dir need.first (touches_dir tree)
+          (was.1 image tree part volume fits.missing.directory.node fits.missing.directory.slots (record { has = fits.missing.directory.has; body = fits.missing.directory.body }));
+    }
+
+    pub name_there : (links at other : ℕ) → FindsName shown dir name (place.Slot links at other) → PerformsWith shown op demanded (acted.Refused EEXIST)
+    name_there links at other was opens = record {
+      need = tt;
+      answer = λ image tree part volume fits.
+          (let is : IsDirectoryWith tree dir fits.missing.directory.node fits.missing.directory.slots = record { has = fits.missing.directory.has; body = fits.missing.directory.body } in
+          let found = was image tree part volume fits.missing.directory.node fits.missing.directory.slots is in
+          let no : None ≡ Some other = sym fits.missing.missing ∙ number_there tree dir fits.missing.directory.node fits.missing.directory.slots is name ∙ found.1.leads in
+          absurd (none_some no));
+    }
+      where
+        none_some : {n : ℕ} → None ≡ Some n → ⊥
+        none_some e = cc
+
+    pub dir_made_at : (links more : ℕ) (gap : Gap) → links < 32767 → more ≡ links + 1 → FindsName shown dir name (place.Open links gap)
+        → (result : Acted) → MakesDirAt shown dir more gap name new demanded result → PerformsWith shown op demanded result
+    dir_made_at links more gap low is_more was result at opens = record {
+      need = at.need;
+      answer = λ image tree part volume.
+          acts_fitting shown image tree opens op demanded result (λ (fits : FitsNew tree dir name new.mode demanded).
+          (let is : IsDirectoryWith tree dir fits.missing.directory.node fits.missing.directory.slots = record { has = fits.missing.directory.has; body = fits.missing.directory.body } in
+          let found = was image tree part volume fits.missing.directory.node fits.missing.directory.slots is in
+          at.answer image tree part volume (record {
+            parent = fits.missing.directory.node;
+            slots = fits.missing.directory.slots;
+            directory = is;
+            few = (let same = found.0 in omega (arith, same, low));
+            more = ap (λ n. n + 1) found.0 ∙ sym is_more;
+            stands = found.1.stands;
+          }) opens));
+    }
+
+    pub links_full : (links : ℕ) (gap : Gap) → 32767 ≤ links → FindsName shown dir name (place.Open links gap) → PerformsWith shown op demanded (acted.Refused EMLINK)
+    links_full links gap high was opens = record {
+      need = tt;
+      answer = λ image tree part volume fits.
+          (let is : IsDirectoryWith tree dir fits.missing.directory.node fits.missing.directory.slots = record { has = fits.missing.directory.has; body = fits.missing.directory.body } in
+          let found = was image tree part volume fits.missing.directory.node fits.missing.directory.slots is in
+          let many = many_links (nlink_in tree.nodes dir) links (links_are tree.nodes dir fits.missing.directory.node is.has ∙ found.0) high in
+          let pick = some_pick tree demanded in
+          operation_refused tree (count_of opens) op demanded pick.0 EMLINK pick.1 (ap (with_pick tree pick.0) many));
+    }
