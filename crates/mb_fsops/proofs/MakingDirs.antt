@@ -1,12 +1,11 @@
 -- A directory made under a new name, on a volume.
-use Rattle.std.proofs.Common.{ℕ, ◌≡◌, ◌≤◌, ◌<◌, ◌+◌, nat_lt, arith, inl, Bool, true, false, List, [], Option, Some, None, Err, IfSome, refl, sym, ap, subst, ◌∙◌}
+use Rattle.std.proofs.Common.{ℕ, ◌≡◌, ◌≤◌, ◌<◌, ◌+◌, nat_lt, arith, inl, Bool, true, List, [], Option, Some, None, Err, IfSome, sym, ap, subst, ◌∙◌}
 use Rattle.std.specs.FinMap as fin
 use Rattle.mb_kinds.specs.declared.errors.Errno.TheVariants.{EEXIST, EMLINK, ENOSPC}
 use Rattle.mb_tree.specs.Answers.{Answer, need, some, ◌>>◌, ◌>>=◌}
-use Rattle.mb_tree.specs.Effect.{fitting, made, first_slots, nlink_in, tree_after, with_link}
+use Rattle.mb_tree.specs.Effect.{fitting, nlink_in, tree_after, with_link}
 use Rattle.mb_tree.specs.Fits.{FitsNew}
 use Rattle.mb_tree.specs.Maps.{Numbered, changed_at}
-use Rattle.mb_tree.specs.Step.{IsFreeNumber}
 use Rattle.mb_tree.specs.declared.nodes.Node.{Node}
 use Rattle.mb_tree.specs.declared.operations.FsOp.{FsOp}
 use Rattle.mb_tree.specs.declared.operations.FsOp.TheVariants.{MakeDir}
