@@ -1,3 +1,4 @@
+pub mod Apart
 pub mod Creating
 pub mod Fields
 pub mod FreeNumbers
@@ -5,5 +6,6 @@ pub mod Linking
 pub mod MakingDirs
 pub mod Names
 pub mod Releasing
+pub mod Removing
 pub mod Steps
 pub mod Unlinking
