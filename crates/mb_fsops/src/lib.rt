@@ -3,7 +3,7 @@
 //! blocks it changes, or asks for blocks that the view lacks; it holds nothing and never waits.
 //!
 //! `specs/Performing.antt` says what each promises: on a volume of the reference tree its answer is that
-//! of the tree (`Acts` of `mb_iface`).
+//! of the tree (`Acts` of `mb_iface`). `V7` is the file system itself: all queries and all operations.
 #![tactic(auto)]
 
 mod attributes;
@@ -14,6 +14,7 @@ mod links;
 mod places;
 mod releases;
 mod removes;
+mod v7;
 
 pub use attributes::{set_mode, set_owner, set_times};
 pub use creates::create;
@@ -22,3 +23,4 @@ pub use holds::hold;
 pub use links::{delink, enlink};
 pub use releases::release;
 pub use removes::remove_dir;
+pub use v7::V7;
