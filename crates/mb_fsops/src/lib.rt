@@ -23,4 +23,4 @@ pub use holds::hold;
 pub use links::{delink, enlink};
 pub use releases::release;
 pub use removes::remove_dir;
-pub use v7::V7;
+pub use v7::{V7, perform};

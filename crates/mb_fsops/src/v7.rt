@@ -1,3 +1,6 @@
+ghost use Rattle.std.specs.Prelude.{◌≡◌, true};
+ghost use Rattle.mb_tree.specs.PickLaws.{makes_inode};
+ghost use Rattle.mb_fsops.specs.Creating.{PicksAsV7};
 ghost use Rattle.mb_fsops.specs.Performing.{Performs};
 
 use crate::{
@@ -37,15 +40,18 @@ impl FileSys for V7 {
     }
 }
 
-/// Does one operation, by its function.
-fn perform<V: View>(
+/// Says what an operation changes, as `FileSys::act` does. Where it makes an inode and no number is
+/// demanded the number is V7's pick: the last one in the super-block's cache whose inode is free, and
+/// where none is, the first free one of the i-list (alloc(9)).
+pub fn perform<V: View>(
     alloc: Global,
     view: &V,
     opens: &Opens,
     op: &FsOp,
     demanded: Option<u16>,
 ) -> Acted
-    ensures { Performs (V.shown view.now) opens.now op.now demanded result }
+    ensures performs { Performs (V.shown view.now) opens.now op.now demanded result }
+    ensures picks { makes_inode op.now ≡ true → PicksAsV7 (V.shown view.now) demanded result }
 {
     match op {
         FsOp::Create {
