@@ -1,4 +1,4 @@
-ghost use Rattle.std.specs.Prelude.{◌≡◌, ◌≤◌, ◌<◌, ◌+◌, [], ℕ, Some, None, false, true, OnOk, OnErr, IfNone, IfSome, IsSome, option_copied};
+ghost use Rattle.std.specs.Prelude.{◌≡◌, ◌≤◌, ◌<◌, ◌+◌, [], ℕ, Some, None, false, true, OnOk, OnErr, IfNone, IfSome, IsSome, min, option_copied};
 ghost use Rattle.mb_kinds.specs.declared.entries.Flight.{Flight};
 ghost use Rattle.mb_cache.specs.Stamps.{stamp_of};
 ghost use Rattle.mb_cache.specs.State.{ReadHasCause};
@@ -38,6 +38,13 @@ pub struct CallerState {
     pages: Pages,
     // what is being gathered
     reads: Reads,
+}
+
+/// How many stale answers are counted after one more: up to four.
+fn one_stale_more(stales: u8) -> u8
+    ensures { result ≡ min (stales + 1) 4 }
+{
+    if stales < 4 { stales + 1 } else { 4 }
 }
 
 impl Model for CallerState {
@@ -252,7 +259,6 @@ impl CallerState {
     /// commit alone, that is noted. Needs no memory.
     pub fn gather_anew<D: Disk>(&mut self, cache: &mut Cache<D>, caller: u8, floor: Option<u8>)
         requires inside { self.old.inside ≡ true }
-        requires few { self.old.stales < 4 }
         requires pins { (block : ℕ) → total (is_pin block) self.old.undo ≤ stamp_of cache.old.pins block }
         ensures anew { self.new ≡ gathers_anew self.old caller floor }
         ensures rest { cache.new ≡ record cache.old { pins = cache.new.pins; room = record cache.old.room { pins = cache.new.room.pins } } }
@@ -262,7 +268,7 @@ impl CallerState {
         note_entered(&mut self.undo, self.reserved);
         note_floor(&mut self.undo, caller, floor);
         self.pages.clear();
-        self.stales += 1;
+        self.stales = one_stale_more(self.stales);
     }
 
     /// What the call pinned, reserved and gathered is given back; needs no memory.

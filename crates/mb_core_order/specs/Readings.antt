@@ -1,6 +1,7 @@
 -- What code and its callers read off a core in order.
-use Rattle.std.specs.Prelude.{List, [], ◌∷◌, ◌++◌, ℕ, ◌+◌, ◌≤◌, ◌≡◌, ◌≢◌, Bool, true, false, Option, Some, length, slice_get, slice_set}
+use Rattle.std.specs.Prelude.{List, [], ◌∷◌, ◌++◌, ℕ, ◌+◌, ◌<◌, ◌≤◌, ◌≡◌, ◌≢◌, Bool, true, false, Option, Some, length, slice_get, slice_set}
 use Rattle.mb_kinds.specs.declared.calls.Call.{Call}
+use Rattle.mb_kinds.specs.declared.entries.Entry.{Entry}
 use Rattle.mb_kinds.specs.declared.entries.Flight.{Flight}
 use Rattle.mb_kinds.specs.declared.faults.FaultRecord.{FaultRecord}
 use Rattle.mb_kinds.specs.declared.faults.Ticket.{Ticket}
@@ -14,6 +15,7 @@ use Rattle.mb_core_spec.specs.Callers.{insiders, one_if}
 use Rattle.mb_core_spec.specs.Copies.{AreFresh, AreTrue, CopyList, HoldsFloor, LiveTables, PagesState, shown}
 use Rattle.mb_core_spec.specs.Events.{beginning, begins, entering}
 use Rattle.mb_core_spec.specs.Flights.{IsFlying, IsTicket}
+use Rattle.mb_core_spec.specs.Numbers.{CanFollow}
 use Rattle.mb_core_spec.specs.Owed.{TablesMove}
 use Rattle.mb_core_spec.specs.Right.{IsOrderly}
 use Rattle.mb_core_spec.specs.State.{CallerState, CoreState, records_of, stand_at}
@@ -64,6 +66,11 @@ TablesByRule = (old new : LiveTables) (at : ℕ) (made : SessionChange) (touches
 abbrev pub EntersAtOnce : (F D : Type 0) → Type 0
 EntersAtOnce F D = (core : CoreState F D) (at : ℕ) (mine : CallerState) (call : Call) (flight : Flight) (ticket : Ticket) (reserved : Option ℕ)
     → entering (beginning core at mine call) at (begins core.config.start core.callers mine call) flight ticket reserved ≡ entering core at (begins core.config.start core.callers mine call) flight ticket reserved
+
+-- of two entries the later one can come after the earlier one: of one caller ordinals and moments rise, and moments are distinct
+abbrev pub EntriesRise : (F D : Type 0) → Type 0
+EntriesRise F D = (core : CoreState F D) → IsOrderly core → (one other : ℕ) (earlier later : Entry) → slice_get core.journal.history one ≡ Some earlier → slice_get core.journal.history other ≡ Some later → one < other
+    → CanFollow later.caller later.ordinal later.moment earlier
 
 -- the log of a core in order has at most 2 ^ 32 operations
 abbrev pub LogIsShort : (F D : Type 0) → Type 0

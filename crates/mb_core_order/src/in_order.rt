@@ -1,4 +1,4 @@
-ghost use Rattle.mb_core_order.specs.Readings.{FreshIsPart, FloorIsNotStale, InsideFlies, OneIsInside, RecordsOfOthers, OthersStand, TablesByRule, EntersAtOnce, LogIsShort};
+ghost use Rattle.mb_core_order.specs.Readings.{FreshIsPart, FloorIsNotStale, InsideFlies, OneIsInside, RecordsOfOthers, OthersStand, TablesByRule, EntersAtOnce, EntriesRise, LogIsShort};
 
 use mb_edge::Disk;
 
@@ -32,6 +32,11 @@ pub fn tables_by_rule()
 /// A call that begins and enters at once does the two events after each other.
 pub fn enters_at_once<F, D: Disk>()
     ensures { EntersAtOnce F D }
+{}
+
+/// Of two entries of one caller the later has the greater ordinal and moment, and no two entries have one moment.
+pub fn entries_rise<F, D: Disk>()
+    ensures { EntriesRise F D }
 {}
 
 /// The log is short.

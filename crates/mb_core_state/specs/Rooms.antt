@@ -1,4 +1,4 @@
--- What an event's equation leaves open: the room of the cache and of the journal.
+-- What events ask of the pins, and what a fault leaves.
 use Rattle.std.specs.Prelude.{List, ℕ, ◌≡◌, ◌≤◌, Some, slice_get}
 use Rattle.mb_edge.specs.Damage.{Volatile, damaged}
 use Rattle.mb_edge.specs.declared.strokes.Stroke.{Stroke}
@@ -6,10 +6,6 @@ use Rattle.mb_cache.specs.Stamps.{stamp_of}
 use Rattle.mb_core_spec.specs.Callers.{total}
 use Rattle.mb_core_spec.specs.Flights.{is_pin}
 use Rattle.mb_core_spec.specs.State.{CallerState, CoreState}
-
--- what an event makes of a core, with the room that the new core has
-abbrev pub with_room : {F D : Type 0} → CoreState F D → CoreState F D → CoreState F D
-with_room event new = record event { cache = record event.cache { room = new.cache.room }; journal = record event.journal { room = new.journal.room } }
 
 -- the pins that a caller's steps took are there to be given back
 abbrev pub HasPins : {F D : Type 0} → CoreState F D → ℕ → Type 0

@@ -2,10 +2,10 @@ ghost use Rattle.std.specs.Prelude.{◌≡◌, ◌<◌, ◌≤◌, ℕ, Some, le
 ghost use Rattle.mb_kinds.specs.declared.entries.Flight.{Flight};
 ghost use Rattle.mb_edge.specs.Causes.{Rose};
 ghost use Rattle.mb_cache.specs.State.{ReadHasCause};
-ghost use Rattle.mb_core_spec.specs.Events.{Leaves};
+ghost use Rattle.mb_core_spec.specs.Events.{Leaves, with_room};
 ghost use Rattle.mb_core_spec.specs.State.{CallerState};
 ghost use Rattle.mb_core_state.specs.Answers.{Gathering, IsPresent, KeepsGathered, with_disk};
-ghost use Rattle.mb_core_state.specs.Rooms.{HasPins, with_room};
+ghost use Rattle.mb_core_state.specs.Rooms.{HasPins};
 
 use crate::answers::Gathered;
 use crate::fields::Fields;

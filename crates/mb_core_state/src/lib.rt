@@ -1,7 +1,7 @@
 //! The code of a core of many callers: for each event one equation.
 //!
 //! A contract sees `Fields` as `mb_core_spec`'s `CoreState`. What an event makes of it is that crate's equation
-//! (`specs/Events.antt`, `specs/Recovery.antt`), with the room that is left: `with_room` (`specs/Rooms.antt`). What each
+//! (`specs/Events.antt`, `specs/Recovery.antt`), with the room that is left (`with_room`). What each
 //! answer means, and when it comes, is `Leaving`, `Strikes` and `Gathering` (`specs/Answers.antt`) and `Finishes`
 //! (`specs/Finishing.antt`). The type says nothing of its order: what a core in order knows, an event requires.
 //!

@@ -9,7 +9,7 @@ use Rattle.mb_iface.proofs.CountMaps.{with_none, with_some}
 use Rattle.mb_iface.specs.OpenCounts.{AreCounts, count_of, with_count}
 use Rattle.mb_tree.proofs.FiniteMaps.{one_or_not, same, get_here, get_there, gone_here, gone_there}
 use Rattle.mb_tree.specs.Effect.{hold, release}
-use Rattle.mb_core_spec.specs.Copies.{TableCounts}
+use Rattle.mb_session.specs.OpenFiles.{TellsCounts}
 use Rattle.mb_tables.specs.Follows.{held_once_more, released_each}
 
 -- ---- one count set
@@ -34,7 +34,7 @@ hold_here held ino other is = let test : nat_eq other ino ≡ true = grind (arit
 hold_there : (held : ℕ → ℕ) (ino other : ℕ) → other ≢ ino → hold held ino other ≡ held other
 hold_there held ino other apart = let test : nat_eq other ino ≡ false = grind (arith, nat_tests) in ap (λ b. if b then held other + 1 else held other) test
 
-pub hold_counts : (opens : OpenCounts) (held : ℕ → ℕ) (ino : ℕ) → TableCounts opens held → held ino < 4294967295 → TableCounts (held_once_more opens ino) (hold held ino)
+pub hold_counts : (opens : OpenCounts) (held : ℕ → ℕ) (ino : ℕ) → TellsCounts opens held → held ino < 4294967295 → TellsCounts (held_once_more opens ino) (hold held ino)
 hold_counts opens held ino counts low other = elim (one_or_not other ino) [
   | inl is ↦
       let here = count_here opens ino (min (count_of opens ino + 1) (2 ^ 32 - 1)) in
@@ -43,7 +43,7 @@ hold_counts opens held ino counts low other = elim (one_or_not other ino) [
   | inr apart ↦ count_there opens ino (min (count_of opens ino + 1) (2 ^ 32 - 1)) other apart ∙ counts other ∙ sym (hold_there held ino other apart)
 ]
 
-one_released : (opens : OpenCounts) (held : ℕ → ℕ) (ino : ℕ) → TableCounts opens held → TableCounts (with_count opens ino (count_of opens ino - 1)) (λ other. held other - cond (nat_eq other ino) 1 0)
+one_released : (opens : OpenCounts) (held : ℕ → ℕ) (ino : ℕ) → TellsCounts opens held → TellsCounts (with_count opens ino (count_of opens ino - 1)) (λ other. held other - cond (nat_eq other ino) 1 0)
 one_released opens held ino counts other = elim (one_or_not other ino) [
   | inl is ↦
       let test : nat_eq other ino ≡ true = grind (arith, nat_tests) in
@@ -58,7 +58,7 @@ less_more : (held : ℕ) (b : Bool) (count : ℕ) → held - cond b 1 0 - count 
 less_more held true count = omega arith
 less_more held false count = omega arith
 
-pub release_counts : (opens : OpenCounts) (held : ℕ → ℕ) (inos : List ℕ) → TableCounts opens held → TableCounts (released_each opens inos) (release held inos)
+pub release_counts : (opens : OpenCounts) (held : ℕ → ℕ) (inos : List ℕ) → TellsCounts opens held → TellsCounts (released_each opens inos) (release held inos)
 release_counts opens held [] counts other = counts other ∙ omega arith
 release_counts opens held (ino ∷ inos) counts other =
     let rest = release_counts (with_count opens ino (count_of opens ino - 1)) (λ k. held k - cond (nat_eq k ino) 1 0) inos (one_released opens held ino counts) other in
