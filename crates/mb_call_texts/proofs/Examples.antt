@@ -1,8 +1,8 @@
 -- Texts of calls as they are written by hand, and calls that no text writes.
-use Rattle.std.proofs.Common.{[], ◌∷◌, ◌≡◌, ◌<◌, pos, negsuc, Some, None, codes, refl, absurd, arith}
+use Rattle.std.proofs.Common.{[], ◌≡◌, ◌<◌, negsuc, Some, None, codes, refl}
 use Rattle.std.specs.Fmt.{digits}
 use Rattle.hex.specs.Hex.{encode_with}
-use Rattle.mb_kinds.specs.declared.calls.Call.TheVariants.{Open, Creat, Write, Lseek, Unlink, Chmod, Access, Sync}
+use Rattle.mb_kinds.specs.declared.calls.Call.TheVariants.{Open, Creat, Write, Lseek, Unlink, Chmod, Access}
 use Rattle.mb_kinds.specs.declared.calls.How.TheVariants.{Both}
 use Rattle.mb_kinds.specs.declared.calls.Whence.TheVariants.{Here}
 use Rattle.mb_jobs.specs.Calls.{line_call}

@@ -1,13 +1,12 @@
 -- Numbers are read back from the digits that write them.
-use Rattle.std.proofs.Common.{List, [], ◌∷◌, ◌++◌, ℕ, ℤ, pos, negsuc, zero, suc, ◌+◌, ◌-◌, ◌*◌, ◌/◌, ◌%◌, ◌^◌, ◌<◌, ◌≤◌, ◌≡◌, ◌≢◌, ◌&&◌, Bool, true, false, cond, eqb, nat_le, nat_lt, length, get_or, Option, Some, None, option_map, option_and_then, refl, ap, sym, subst, ◌∙◌, inl, inr, arith}
+use Rattle.std.proofs.Common.{List, [], ◌∷◌, ℕ, ℤ, pos, negsuc, zero, suc, ◌+◌, ◌-◌, ◌*◌, ◌/◌, ◌%◌, ◌^◌, ◌<◌, ◌≤◌, ◌≡◌, ◌≢◌, ◌&&◌, Bool, true, false, cond, eqb, nat_lt, length, get_or, Some, None, option_map, option_and_then, refl, ap, sym, ◌∙◌, inl, inr, arith}
 use Rattle.std.specs.Prelude.{decimal, ◌≤ℤ◌}
 use Rattle.std.specs.Fmt.{digit_glyph, digits, digits_onto, signed_decimal}
 use Rattle.std.proofs.Math.Nat.{div-le_self, div-lt_iff_lt-mul, mod-lt, pow-suc, pow-zero}
 use Rattle.std.proofs.lemmas.Bool.{and_from, cond-false, cond-true, cases_eq, eq-eqb, le-leb, lt-ltb, ne_eqb}
 use Rattle.std.proofs.lemmas.Fmt.{decimal_digit, digits_is_IsNumeral, first_decimal}
 use Rattle.std.proofs.lemmas.Int.{ints}
-use Rattle.core.proofs.fmt.DigitsParse.{digits_onto-nil, digits_onto_last, digits_onto_step}
-use Rattle.mb_jobs.specs.Numbers.{digits_on, from_one, index_in, is_digit, negative, number_below, octal_in, offset_in, short_in}
+use Rattle.mb_jobs.specs.Numbers.{digits_on, from_one, index_in, is_digit, negative, number_below, octal_in, offset_in}
 use Rattle.mb_call_texts.specs.CallText.{octal_word}
 
 -- a digit is read behind the value of those before it
@@ -18,6 +17,22 @@ digits_on-digit base bound value digit more small below =
     let fits : base * value + (48 + digit - 48) < bound = omega arith in
     let is : (is_digit base (48 + digit) && nat_lt (base * value + (48 + digit - 48)) bound) ≡ true = and_from _ _ (and_from _ _ (le-leb 48 (48 + digit) (omega arith)) (lt-ltb (48 + digit) (48 + base) (omega arith))) (lt-ltb _ _ fits) in
     cond-true _ (digits_on base bound (base * value + (48 + digit - 48)) more) None is ∙ ap (λ n. digits_on base bound (base * value + n) more) same
+
+-- the digits of a number, in one step
+onto_spelled : (k base n : ℕ) (acc : List ℕ) (last : Bool) → eqb (n / base) 0 ≡ last
+    → digits_onto (suc k) base false n acc ≡ cond last (digit_glyph false (n % base) ∷ acc) (digits_onto k base false (n / base) (digit_glyph false (n % base) ∷ acc))
+onto_spelled k base n acc last is =
+    ap (λ (b : Bool). cond b (digit_glyph false (n % base) ∷ acc) (digits_onto k base false (n / base) (digit_glyph false (n % base) ∷ acc))) is
+
+onto_last : (k base n : ℕ) (acc : List ℕ) → n / base ≡ 0 → digits_onto (suc k) base false n acc ≡ digit_glyph false (n % base) ∷ acc
+onto_last k base n acc none = onto_spelled k base n acc true (eq-eqb (n / base) 0 none)
+
+onto_more : (k base n : ℕ) (acc : List ℕ) → n / base ≢ 0 → digits_onto (suc k) base false n acc ≡ digits_onto k base false (n / base) (digit_glyph false (n % base) ∷ acc)
+onto_more k base n acc more = onto_spelled k base n acc false (ne_eqb (n / base) 0 more)
+
+digits_are : (base n : ℕ) → digits_onto 64 base false n [] ≡ digits base false n
+unfolding digits
+digits_are base n = refl
 
 glyph_is : (d : ℕ) → d < 10 → digit_glyph false d ≡ 48 + d
 glyph_is d small = ap (λ (b : Bool). cond b (48 + d) (87 + d)) (lt-ltb d 10 small)
@@ -39,18 +54,18 @@ onto_read (suc k) base bound n acc low high below fits =
     let some : 0 < base = omega arith in
     elim (cases_eq (n / base) 0) [
       | inl none ↦
-          ap (digits_on base bound 0) (digits_onto_last base false n acc (suc k) (omega arith) none)
+          ap (digits_on base bound 0) (onto_last k base n acc none)
           ∙ ap (λ v. digits_on base bound v (digit_glyph false (n % base) ∷ acc)) (sym none) ∙ last_digit base bound n acc low high below
       | inr more ↦
           let front : n / base < base ^ k = (div-lt_iff_lt-mul some).1 (omega (arith, pow-suc base k)) in
           let less : n / base < bound = omega (arith, div-le_self n base) in
-          ap (digits_on base bound 0) (digits_onto_step base false n acc (suc k) (omega arith) more)
+          ap (digits_on base bound 0) (onto_more k base n acc more)
           ∙ onto_read k base bound (n / base) (digit_glyph false (n % base) ∷ acc) low high less front ∙ last_digit base bound n acc low high below
     ]
 
 digits_read : (base bound n : ℕ) → 2 ≤ base → base ≤ 10 → n < bound → n < base ^ 64 → digits_on base bound 0 (digits base false n) ≡ Some n
 digits_read base bound n low high below fits =
-    ap (digits_on base bound 0) (sym (digits_onto-nil base false n)) ∙ onto_read 64 base bound n [] low high below fits
+    ap (digits_on base bound 0) (sym (digits_are base n)) ∙ onto_read 64 base bound n [] low high below fits
 
 -- decimal
 
@@ -81,6 +96,7 @@ high_first n fits =
 
 index_in-decimal : (n : ℕ) → n < 2147483648 → index_in 2147483648 (decimal (suc n)) ≡ Some (suc n)
 index_in-decimal n small = ap (λ found. option_and_then from_one found) (number_below-decimal 2147483649 (suc n) (omega arith) (omega arith))
+    ∙ cond-false (eqb (suc n) 0) None (Some (suc n)) (ne_eqb (suc n) 0 (omega arith))
 
 pub offset_in-decimal : (offset : ℤ) → negsuc 2147483647 ≤ℤ offset → offset ≤ℤ pos 2147483647 → offset_in (signed_decimal offset) ≡ Some offset
 offset_in-decimal (pos n) low high =
@@ -95,22 +111,24 @@ offset_in-decimal (negsuc n) low high =
 onto_short : (j k base n : ℕ) (acc : List ℕ) → 2 ≤ base → n < base ^ suc j → length (digits_onto k base false n acc) ≤ suc j + length acc
 onto_short j zero base n acc low fits = omega arith
 onto_short zero (suc k) base n acc low fits =
-    let none : n / base ≡ 0 = omega (arith, pow-suc base 0, pow-zero base) in
-    rw (digits_onto_last base false n acc (suc k) (omega arith) none) (omega arith)
+    let some : 0 < base = omega arith in
+    let front : n / base < base ^ 0 = (div-lt_iff_lt-mul some).1 (omega (arith, pow-suc base 0)) in
+    let none : n / base ≡ 0 = omega (arith, pow-zero base) in
+    rw (onto_last k base n acc none) (omega arith)
 onto_short (suc j) (suc k) base n acc low fits =
     let some : 0 < base = omega arith in
     elim (cases_eq (n / base) 0) [
-      | inl none ↦ rw (digits_onto_last base false n acc (suc k) (omega arith) none) (omega arith)
+      | inl none ↦ rw (onto_last k base n acc none) (omega arith)
       | inr more ↦
           let front : n / base < base ^ suc j = (div-lt_iff_lt-mul some).1 (omega (arith, pow-suc base (suc j))) in
           let rest = onto_short j k base (n / base) (digit_glyph false (n % base) ∷ acc) low front in
-          rw (digits_onto_step base false n acc (suc k) (omega arith) more) (omega (arith, rest))
+          rw (onto_more k base n acc more) (omega (arith, rest))
     ]
 
 octal_short : (j mode : ℕ) → mode < 8 ^ suc j → length (octal_word mode) ≤ suc j
 octal_short j mode fits =
     let onto = onto_short j 64 8 mode [] (omega arith) fits in
-    rw (sym (digits_onto-nil 8 false mode)) (omega (arith, onto))
+    rw (sym (digits_are 8 mode)) (omega (arith, onto))
 
 octal_some : (mode : ℕ) → mode < 4096 → 1 ≤ length (octal_word mode)
 octal_some mode small = (digits_is_IsNumeral 8 false (omega arith) (omega arith) mode (omega arith)).0.0

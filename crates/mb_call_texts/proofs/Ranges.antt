@@ -1,10 +1,10 @@
 -- What the words of a line write is in the ranges of a call's text.
-use Rattle.std.proofs.Common.{List, [], ◌∷◌, ℕ, ℤ, pos, negsuc, zero, suc, ◌+◌, ◌-◌, ◌*◌, ◌^◌, ◌<◌, ◌≤◌, ◌≡◌, ◌≢◌, ◌&&◌, Bool, true, false, eqb, nat_le, nat_lt, length, replicate, Option, Some, None, Result, Ok, Err, option_map, option_and_then, refl, ap, ◌∙◌, inl, inr, arith}
-use Rattle.std.specs.Prelude.{All, IfSome, bytes_eq, ◌≤ℤ◌}
+use Rattle.std.proofs.Common.{List, [], ◌∷◌, ℕ, ℤ, pos, negsuc, zero, suc, ◌+◌, ◌-◌, ◌*◌, ◌^◌, ◌<◌, ◌≤◌, ◌≡◌, ◌&&◌, true, false, eqb, nat_le, nat_lt, length, replicate, Option, Some, None, Result, Ok, Err, option_map, option_and_then, refl, inl, inr, arith}
+use Rattle.std.specs.Prelude.{IfSome, bytes_eq, ◌≤ℤ◌}
 use Rattle.std.specs.List.{list_all}
 use Rattle.std.specs.Result.{result_ok}
 use Rattle.std.proofs.Math.Nat.{mul-le-mul_left, mul-le-mul_right, one-le-pow, pow-suc}
-use Rattle.std.proofs.lemmas.Bool.{and_parts, cases_Bool, cond_both, false≢true, leb-true, ltb-true}
+use Rattle.std.proofs.lemmas.Bool.{and_parts, cases_Bool, cond_both, leb-true, ltb-true, ne_eqb}
 use Rattle.std.proofs.lemmas.Int.{ints}
 use Rattle.std.proofs.lemmas.List.{length-replicate}
 use Rattle.std.proofs.lemmas.List.Elements.{All-from_get_or, All-replicate, All-weaker}
@@ -37,6 +37,9 @@ number_below-IsBelow bound (digit ∷ more) some =
     cond_both (eqb digit 48) (zero_before more) (digits_on 10 bound 0 (digit ∷ more)) (IsBelow bound)
     (λ _. zero_before-IsBelow bound more some) (λ _. digits_on-IsBelow 10 bound 0 (digit ∷ more) some)
 
+next_room : (value d power : ℕ) → d < 8 → (8 * value + d + 1) * power ≤ (value + 1) * (power * 8)
+next_room value d power less = omega (arith, mul-le-mul_right {m = 8 * value + d + 1} {n = 8 * (value + 1)} power (omega arith))
+
 -- octal digits are below a power of 8
 digits_on-octal : (bound value k : ℕ) (word : List ℕ) → length word ≤ k → IsBelow ((value + 1) * 8 ^ k) (digits_on 8 bound value word)
 digits_on-octal bound value k [] short = omega (arith, mul-le-mul_left (value + 1) (one-le-pow k 8 (omega arith)))
@@ -44,13 +47,13 @@ digits_on-octal bound value zero (digit ∷ more) short = absurd (omega arith)
 digits_on-octal bound value (suc k) (digit ∷ more) short =
     cond_both (is_digit 8 digit && nat_lt (8 * value + (digit - 48)) bound) (digits_on 8 bound (8 * value + (digit - 48)) more) None (IsBelow ((value + 1) * 8 ^ suc k))
     (λ holds.
-      let is = and_parts (is_digit 8 digit) (nat_lt (8 * value + (digit - 48)) bound) holds in
-      let small = ltb-true digit (48 + 8) (and_parts (nat_le 48 digit) (nat_lt digit (48 + 8)) is.0).1 in
-      wider (digits_on 8 bound (8 * value + (digit - 48)) more) ((8 * value + (digit - 48) + 1) * 8 ^ k) ((value + 1) * 8 ^ suc k) (room (digit - 48) (omega arith)) (digits_on-octal bound (8 * value + (digit - 48)) k more (omega arith)))
+    let is = and_parts (is_digit 8 digit) (nat_lt (8 * value + (digit - 48)) bound) holds in
+    let small = ltb-true digit (48 + 8) (and_parts (nat_le 48 digit) (nat_lt digit (48 + 8)) is.0).1 in
+    wider (digits_on 8 bound (8 * value + (digit - 48)) more) ((8 * value + (digit - 48) + 1) * 8 ^ k) ((value + 1) * 8 ^ suc k) (room (digit - 48) (omega arith)) (digits_on-octal bound (8 * value + (digit - 48)) k more (omega arith)))
     (λ _. tt)
   where
     room : (d : ℕ) → d < 8 → (8 * value + d + 1) * 8 ^ k ≤ (value + 1) * 8 ^ suc k
-    room d less = omega (arith, pow-suc 8 k, mul-le-mul_right {m = 8 * value + d + 1} {n = 8 * (value + 1)} (8 ^ k) (omega arith))
+    room d less = rw (pow-suc 8 k) (next_room value d (8 ^ k) less)
 
     wider : (found : Option ℕ) (a b : ℕ) → a ≤ b → IsBelow a found → IsBelow b found
     wider None a b le is = tt
@@ -78,7 +81,7 @@ offset_pos (Some n) below = (omega (arith, ints), omega (arith, ints))
 offset_negative : (found : Option ℕ) → IsBelow 2147483649 found → IfSome (option_map negative (option_and_then from_one found)) IsOffset
 offset_negative None below = tt
 offset_negative (Some zero) below = tt
-offset_negative (Some (suc n)) below = (omega (arith, ints), omega (arith, ints))
+offset_negative (Some (suc n)) below = rw (ne_eqb (suc n) 0 (omega arith)) (omega (arith, ints), omega (arith, ints))
 
 pub offset_in-IsOffset : (word : List ℕ) → IfSome (offset_in word) IsOffset
 offset_in-IsOffset [] = tt
@@ -127,12 +130,12 @@ pub raw_in-CanBeWrite : (text : List ℕ) → IfSome (raw_in text) CanBeWrite
 raw_in-CanBeWrite text =
     cond_both (has_bytes 65535 text && list_all is_text_byte text) (Some text) None (λ (found : Option (List ℕ)). IfSome found CanBeWrite)
     (λ holds.
-      let parts = and_parts (has_bytes 65535 text) (list_all is_text_byte text) holds in
-      let sized = and_parts (nat_le 1 (length text)) (nat_le (length text) 65535) parts.0 in
-      record {
-        short = leb-true (length text) 65535 sized.1;
-        small = All-weaker (λ byte. is_text_byte byte ≡ true) (λ byte. byte < 256) text_byte text (AllPass-from_list_all is_text_byte text parts.1);
-      })
+    let parts = and_parts (has_bytes 65535 text) (list_all is_text_byte text) holds in
+    let sized = and_parts (nat_le 1 (length text)) (nat_le (length text) 65535) parts.0 in
+    record {
+      short = leb-true (length text) 65535 sized.1;
+      small = All-weaker (λ byte. is_text_byte byte ≡ true) (λ byte. byte < 256) text_byte text (AllPass-from_list_all is_text_byte text parts.1);
+    })
     (λ _. tt)
 
 some_bytes-CanBeWrite : (bytes : List ℕ) → IsBytes bytes → IfSome (some_bytes bytes) CanBeWrite

@@ -1,7 +1,7 @@
 -- The text of each call is read as that call.
-use Rattle.std.proofs.Common.{List, [], ◌∷◌, ◌++◌, ℕ, ℤ, pos, negsuc, suc, ◌<◌, ◌^◌, ◌≡◌, Option, Some, refl, ap, ◌∙◌, append_assoc, arith}
+use Rattle.std.proofs.Common.{List, [], ◌∷◌, ◌++◌, ℕ, ℤ, pos, negsuc, suc, ◌<◌, ◌≡◌, Option, Some, refl, ap, ◌∙◌, append_assoc, arith}
 use Rattle.std.specs.Prelude.{decimal, ◌≤ℤ◌}
-use Rattle.std.specs.Fmt.{digits, signed_decimal}
+use Rattle.std.specs.Fmt.{signed_decimal}
 use Rattle.std.proofs.lemmas.Int.{ints}
 use Rattle.hex.specs.Hex.{encode_lower}
 use Rattle.mb_kinds.specs.declared.calls.Call.{Call}
@@ -12,7 +12,7 @@ use Rattle.mb_jobs.specs.Paths.{hex_in, how_in, path_in, whence_in}
 use Rattle.mb_jobs.specs.Words.{after_word, first_word}
 use Rattle.mb_call_texts.specs.CallText.{call_text, how_word, octal_word, path_word, whence_word}
 use Rattle.mb_call_texts.specs.Laws.{ReadsBack}
-use Rattle.mb_call_texts.specs.Writable.{CanBePath, CanBeWrite, CanBeWritten}
+use Rattle.mb_call_texts.specs.Writable.{CanBePath, CanBeWrite}
 use Rattle.mb_call_texts.proofs.Arguments.{hex_in-encode_lower, how_in-word, path_in-word, whence_in-word}
 use Rattle.mb_call_texts.proofs.Blanks.{HasNoBlank, after_word-of, decimal_no_blank, first_word-of, path_no_blank}
 use Rattle.mb_call_texts.proofs.Numerals.{number_below-decimal, octal_in-octal, offset_in-decimal}

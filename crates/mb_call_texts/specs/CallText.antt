@@ -1,5 +1,5 @@
 -- The text of a call, as a job has it behind the caller's letter and a blank.
-use Rattle.std.specs.Prelude.{List, [], ◌∷◌, ◌++◌, ℕ, ℤ, false, codes, decimal}
+use Rattle.std.specs.Prelude.{List, [], ◌∷◌, ◌++◌, ℕ, false, codes, decimal}
 use Rattle.std.specs.Fmt.{digits, signed_decimal}
 use Rattle.hex.specs.Hex.{encode_lower}
 use Rattle.mb_kinds.specs.declared.calls.Call.{Call}

@@ -1,7 +1,8 @@
 use super::text_of_call;
 use mb_jobs::{JobFault, job_of};
 
-const WRITTEN: &[u8] = b"calls = [\"a open /p rw\", \"a creat /p 644\", \"a text 3 hi\", \"a fill 3 0 7\", \"a lseek 3 -5 1\", \"a chmod \\\"\\\" 4755\", \"a sync\"]";
+const WRITTEN: &[u8] =
+    b"calls = [\"a open /p rw\", \"a creat /p 644\", \"a text 3 hi\", \"a fill 3 0 7\", \"a lseek 3 -5 1\", \"a chmod \\\"\\\" 4755\", \"a sync\"]";
 
 #[test]
 fn writes_the_texts_of_calls(rt: HostRuntime) -> Result<(), JobFault> {

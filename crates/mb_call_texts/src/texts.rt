@@ -106,12 +106,7 @@ fn write_text(alloc: Global, fd: u16, bytes: &Octets) -> Result<Vec<u8>, AllocEr
 }
 
 /// `lseek FD OFFSET WHENCE`.
-fn lseek_text(
-    alloc: Global,
-    fd: u16,
-    offset: i32,
-    whence: Whence,
-) -> Result<Vec<u8>, AllocError>
+fn lseek_text(alloc: Global, fd: u16, offset: i32, whence: Whence) -> Result<Vec<u8>, AllocError>
     ensures { IfOk result (λ text. text.items ≡ call_text (Call.Lseek fd offset whence)) }
 {
     let mut out = with_number(alloc, b"lseek", fd)?;
