@@ -61,25 +61,86 @@ either : {V : Type 0} (read : V → List ℕ → Option Call) (rest : List ℕ) 
 either read rest None second here after = after
 either read rest (Some verb) second here after = here
 
+read_writable : (rest : List ℕ) → Writable (two Read (short_in (first_word rest)) (short_in (after_word rest)))
+read_writable rest =
+    two_of Read IsShort IsShort (short_in (first_word rest)) (short_in (after_word rest))
+    (λ x y p q. (p, q)) (short_of (first_word rest)) (short_of (after_word rest))
+
+text_writable : (rest : List ℕ) → Writable (two Write (short_in (first_word rest)) (raw_in (after_word rest)))
+text_writable rest =
+    two_of Write IsShort CanBeWrite (short_in (first_word rest)) (raw_in (after_word rest))
+    (λ x y p q. (p, q)) (short_of (first_word rest)) (raw_in-CanBeWrite (after_word rest))
+
+hex_writable : (rest : List ℕ) → Writable (two Write (short_in (first_word rest)) (hex_in (after_word rest)))
+hex_writable rest =
+    two_of Write IsShort CanBeWrite (short_in (first_word rest)) (hex_in (after_word rest))
+    (λ x y p q. (p, q)) (short_of (first_word rest)) (hex_in-CanBeWrite (after_word rest))
+
+fill_writable : (rest : List ℕ) → Writable (three fills (short_in (first_word rest)) (short_in (second_word rest)) (number_below 256 (after_two rest)))
+fill_writable rest =
+    three_of fills IsShort IsShort (λ byte. byte < 256) (short_in (first_word rest)) (short_in (second_word rest)) (number_below 256 (after_two rest))
+    (λ x y z p q r. (p, replicate-CanBeWrite y z q r)) (short_of (first_word rest)) (short_of (second_word rest)) (number_below-IsBelow 256 (after_two rest) (omega arith))
+
+lseek_writable : (rest : List ℕ) → Writable (three Lseek (short_in (first_word rest)) (offset_in (second_word rest)) (whence_in (after_two rest)))
+lseek_writable rest =
+    three_of Lseek IsShort IsOffset (λ whence. Unit {0}) (short_in (first_word rest)) (offset_in (second_word rest)) (whence_in (after_two rest))
+    (λ x y z p q r. (p, q.0, q.1)) (short_of (first_word rest)) (offset_in-IsOffset (second_word rest)) (any (whence_in (after_two rest)))
+
+open_writable : (rest : List ℕ) → Writable (two Open (path_in (first_word rest)) (how_in (after_word rest)))
+open_writable rest =
+    two_of Open CanBePath (λ how. Unit {0}) (path_in (first_word rest)) (how_in (after_word rest))
+    (λ x y p q. p) (path_in-CanBePath (first_word rest)) (any (how_in (after_word rest)))
+
+made_writable : (make : List ℕ → ℕ → Call) → ((path : List ℕ) (mode : ℕ) → CanBePath path → mode < 512 → CanBeWritten (make path mode)) → (rest : List ℕ)
+    → Writable (two make (path_in (first_word rest)) (octal_in 3 (after_word rest)))
+made_writable make both rest =
+    two_of make CanBePath (λ mode. mode < 512) (path_in (first_word rest)) (octal_in 3 (after_word rest))
+    both (path_in-CanBePath (first_word rest)) (octal_in-three (after_word rest))
+
+link_writable : (rest : List ℕ) → Writable (two Link (path_in (first_word rest)) (path_in (after_word rest)))
+link_writable rest =
+    two_of Link CanBePath CanBePath (path_in (first_word rest)) (path_in (after_word rest))
+    (λ x y p q. (p, q)) (path_in-CanBePath (first_word rest)) (path_in-CanBePath (after_word rest))
+
+chmod_writable : (rest : List ℕ) → Writable (two Chmod (path_in (first_word rest)) (octal_in 4 (after_word rest)))
+chmod_writable rest =
+    two_of Chmod CanBePath (λ mode. mode < 4096) (path_in (first_word rest)) (octal_in 4 (after_word rest))
+    (λ x y p q. (p, q)) (path_in-CanBePath (first_word rest)) (octal_in-four (after_word rest))
+
+chown_writable : (rest : List ℕ) → Writable (three Chown (path_in (first_word rest)) (short_in (second_word rest)) (short_in (after_two rest)))
+chown_writable rest =
+    three_of Chown CanBePath IsShort IsShort (path_in (first_word rest)) (short_in (second_word rest)) (short_in (after_two rest))
+    (λ x y z p q r. (p, q, r)) (path_in-CanBePath (first_word rest)) (short_of (second_word rest)) (short_of (after_two rest))
+
+utime_writable : (rest : List ℕ) → Writable (three Utime (path_in (first_word rest)) (number_below 2147483648 (second_word rest)) (number_below 2147483648 (after_two rest)))
+utime_writable rest =
+    three_of Utime CanBePath IsTime IsTime (path_in (first_word rest)) (number_below 2147483648 (second_word rest)) (number_below 2147483648 (after_two rest))
+    (λ x y z p q r. (p, q, r)) (path_in-CanBePath (first_word rest)) (time_of (second_word rest)) (time_of (after_two rest))
+
+access_writable : (rest : List ℕ) → Writable (two Access (path_in (first_word rest)) (number_below 8 (after_word rest)))
+access_writable rest =
+    two_of Access CanBePath (λ bits. bits < 8) (path_in (first_word rest)) (number_below 8 (after_word rest))
+    (λ x y p q. (p, q)) (path_in-CanBePath (first_word rest)) (number_below-IsBelow 8 (after_word rest) (omega arith))
+
 descriptor_writable : (word rest : List ℕ) → Writable (option_and_then (λ verb. read_as verb rest) (descriptor_verb word))
 descriptor_writable word rest =
     pick read_as rest (bytes_eq word (codes "close")) _ _ (one_of Close (short_in rest) (short_of rest)) (
-    pick read_as rest (bytes_eq word (codes "read")) _ _ (two_of Read IsShort IsShort (short_in (first_word rest)) (short_in (after_word rest)) (λ x y p q. (p, q)) (short_of (first_word rest)) (short_of (after_word rest))) (
-    pick read_as rest (bytes_eq word (codes "text")) _ _ (two_of Write IsShort CanBeWrite (short_in (first_word rest)) (raw_in (after_word rest)) (λ x y p q. (p, q)) (short_of (first_word rest)) (raw_in-CanBeWrite (after_word rest))) (
-    pick read_as rest (bytes_eq word (codes "hex")) _ _ (two_of Write IsShort CanBeWrite (short_in (first_word rest)) (hex_in (after_word rest)) (λ x y p q. (p, q)) (short_of (first_word rest)) (hex_in-CanBeWrite (after_word rest))) (
-    pick read_as rest (bytes_eq word (codes "fill")) _ _ (three_of fills IsShort IsShort (λ byte. byte < 256) (short_in (first_word rest)) (short_in (second_word rest)) (number_below 256 (after_two rest)) (λ x y z p q r. (p, replicate-CanBeWrite y z q r)) (short_of (first_word rest)) (short_of (second_word rest)) (number_below-IsBelow 256 (after_two rest) (omega arith))) (
-    pick read_as rest (bytes_eq word (codes "lseek")) _ _ (three_of Lseek IsShort IsOffset (λ whence. Unit {0}) (short_in (first_word rest)) (offset_in (second_word rest)) (whence_in (after_two rest)) (λ x y z p q r. (p, q.0, q.1)) (short_of (first_word rest)) (offset_in-IsOffset (second_word rest)) (any (whence_in (after_two rest)))) (
+    pick read_as rest (bytes_eq word (codes "read")) _ _ (read_writable rest) (
+    pick read_as rest (bytes_eq word (codes "text")) _ _ (text_writable rest) (
+    pick read_as rest (bytes_eq word (codes "hex")) _ _ (hex_writable rest) (
+    pick read_as rest (bytes_eq word (codes "fill")) _ _ (fill_writable rest) (
+    pick read_as rest (bytes_eq word (codes "lseek")) _ _ (lseek_writable rest) (
     pick read_as rest (bytes_eq word (codes "dup")) _ _ (one_of Dup (short_in rest) (short_of rest)) (
     pick read_as rest (bytes_eq word (codes "fstat")) _ _ (one_of Fstat (short_in rest) (short_of rest)) (
     tt))))))))
 
 name_writable : (word rest : List ℕ) → Writable (option_and_then (λ verb. read_as verb rest) (name_verb word))
 name_writable word rest =
-    pick read_as rest (bytes_eq word (codes "open")) _ _ (two_of Open CanBePath (λ how. Unit {0}) (path_in (first_word rest)) (how_in (after_word rest)) (λ x y p q. p) (path_in-CanBePath (first_word rest)) (any (how_in (after_word rest)))) (
-    pick read_as rest (bytes_eq word (codes "creat")) _ _ (two_of Creat CanBePath (λ mode. mode < 512) (path_in (first_word rest)) (octal_in 3 (after_word rest)) (λ x y p q. (p, q)) (path_in-CanBePath (first_word rest)) (octal_in-three (after_word rest))) (
-    pick read_as rest (bytes_eq word (codes "link")) _ _ (two_of Link CanBePath CanBePath (path_in (first_word rest)) (path_in (after_word rest)) (λ x y p q. (p, q)) (path_in-CanBePath (first_word rest)) (path_in-CanBePath (after_word rest))) (
+    pick read_as rest (bytes_eq word (codes "open")) _ _ (open_writable rest) (
+    pick read_as rest (bytes_eq word (codes "creat")) _ _ (made_writable Creat (λ path mode p q. (p, q)) rest) (
+    pick read_as rest (bytes_eq word (codes "link")) _ _ (link_writable rest) (
     pick read_as rest (bytes_eq word (codes "unlink")) _ _ (one_of Unlink (path_in rest) (path_in-CanBePath rest)) (
-    pick read_as rest (bytes_eq word (codes "mkdir")) _ _ (two_of Mkdir CanBePath (λ mode. mode < 512) (path_in (first_word rest)) (octal_in 3 (after_word rest)) (λ x y p q. (p, q)) (path_in-CanBePath (first_word rest)) (octal_in-three (after_word rest))) (
+    pick read_as rest (bytes_eq word (codes "mkdir")) _ _ (made_writable Mkdir (λ path mode p q. (p, q)) rest) (
     pick read_as rest (bytes_eq word (codes "rmdir")) _ _ (one_of Rmdir (path_in rest) (path_in-CanBePath rest)) (
     tt))))))
 
@@ -87,10 +148,10 @@ inode_writable : (word rest : List ℕ) → Writable (option_and_then (λ verb. 
 inode_writable word rest =
     pick read_as rest (bytes_eq word (codes "chdir")) _ _ (one_of Chdir (path_in rest) (path_in-CanBePath rest)) (
     pick read_as rest (bytes_eq word (codes "stat")) _ _ (one_of Stat (path_in rest) (path_in-CanBePath rest)) (
-    pick read_as rest (bytes_eq word (codes "chmod")) _ _ (two_of Chmod CanBePath (λ mode. mode < 4096) (path_in (first_word rest)) (octal_in 4 (after_word rest)) (λ x y p q. (p, q)) (path_in-CanBePath (first_word rest)) (octal_in-four (after_word rest))) (
-    pick read_as rest (bytes_eq word (codes "chown")) _ _ (three_of Chown CanBePath IsShort IsShort (path_in (first_word rest)) (short_in (second_word rest)) (short_in (after_two rest)) (λ x y z p q r. (p, q, r)) (path_in-CanBePath (first_word rest)) (short_of (second_word rest)) (short_of (after_two rest))) (
-    pick read_as rest (bytes_eq word (codes "utime")) _ _ (three_of Utime CanBePath IsTime IsTime (path_in (first_word rest)) (number_below 2147483648 (second_word rest)) (number_below 2147483648 (after_two rest)) (λ x y z p q r. (p, q, r)) (path_in-CanBePath (first_word rest)) (time_of (second_word rest)) (time_of (after_two rest))) (
-    pick read_as rest (bytes_eq word (codes "access")) _ _ (two_of Access CanBePath (λ bits. bits < 8) (path_in (first_word rest)) (number_below 8 (after_word rest)) (λ x y p q. (p, q)) (path_in-CanBePath (first_word rest)) (number_below-IsBelow 8 (after_word rest) (omega arith))) (
+    pick read_as rest (bytes_eq word (codes "chmod")) _ _ (chmod_writable rest) (
+    pick read_as rest (bytes_eq word (codes "chown")) _ _ (chown_writable rest) (
+    pick read_as rest (bytes_eq word (codes "utime")) _ _ (utime_writable rest) (
+    pick read_as rest (bytes_eq word (codes "access")) _ _ (access_writable rest) (
     pick read_as rest (bytes_eq word (codes "umask")) _ _ (one_of Umask (octal_in 3 rest) (octal_in-three rest)) (
     tt)))))))
 
