@@ -1,0 +1,7 @@
+pub mod Arguments
+pub mod Blanks
+mod Examples
+pub mod Numerals
+pub mod Ranges
+pub mod ReadBack
+pub mod Writables

@@ -1,0 +1,16 @@
+ghost use Rattle.mb_call_texts.specs.Laws.{HasOneText, ReadsBack, ReadsWritable};
+
+/// The text of each call that a text can write is read as that call.
+pub fn reads_back()
+    ensures { ReadsBack }
+{}
+
+/// Each call that is read of a text is one that a text can write.
+pub fn reads_writable()
+    ensures { ReadsWritable }
+{}
+
+/// The call that is read of a text is read of its own text too.
+pub fn has_one_text()
+    ensures { HasOneText }
+{}
