@@ -1,0 +1,91 @@
+-- What the steps of one caller leave of the others, one after another.
+use Rattle.std.proofs.Common.{◌≡◌, ◌≢◌, ◌⊎◌, [], ◌∷◌, ◌++◌, ℕ, ◌+◌, inl, inr, refl, ap, sym, ◌∙◌, arith, append_assoc, length, length-append, None, Some}
+use Rattle.std.proofs.lemmas.List.{append-nil}
+use Rattle.mb_kinds.specs.Own.{own}
+use Rattle.mb_kinds.specs.declared.entries.Entry.{Entry}
+use Rattle.mb_kinds.specs.declared.faults.FaultRecord.{FaultRecord}
+use Rattle.mb_kinds.specs.declared.faults.Kind.{Kind}
+use Rattle.mb_kinds.specs.declared.faults.Ticket.{Ticket}
+use Rattle.mb_run.specs.Events.{Stays, Strikes}
+use Rattle.mb_run.specs.Served.{Acts}
+use Rattle.mb_run.specs.Sights.{Sight}
+use Rattle.mb_run.proofs.Lists.{all_both, own_other}
+
+pub acts_same : (caller : ℕ) (s : Sight) → Acts caller s s
+acts_same caller s = record {
+  config = refl;
+  seats = λ other apart. refl;
+  own = λ other apart. refl;
+  more = [];
+  records = sym (append-nil s.records);
+  mine = tt;
+  later = omega arith;
+  runs = λ same running. running;
+  copies = λ same running other apart. refl;
+  stales = λ same running other apart. refl;
+  calm = λ same. refl;
+  floor = inr (inr refl);
+}
+
+pub acts_then : (caller : ℕ) (a b d : Sight) → Acts caller a b → Acts caller b d → Acts caller a d
+acts_then caller a b d one two = record {
+  config = two.config ∙ one.config;
+  seats = λ other apart. two.seats other apart ∙ one.seats other apart;
+  own = λ other apart. two.own other apart ∙ one.own other apart;
+  more = one.more ++ two.more;
+  records = two.records ∙ ap (λ rs. rs ++ two.more) one.records ∙ append_assoc a.records one.more two.more;
+  mine = all_both (λ (fault : FaultRecord). fault.caller ≡ caller) one.more two.more one.mine two.mine;
+  later = omega (arith, one.later, two.later);
+  runs = λ same running.
+      (let first : b.incarnation ≡ a.incarnation = omega (arith, one.later, two.later) in let second : d.incarnation ≡ b.incarnation = omega (arith, one.later, two.later) in
+      two.runs second (one.runs first running));
+  copies = λ same running other apart.
+      (let first : b.incarnation ≡ a.incarnation = omega (arith, one.later, two.later) in let second : d.incarnation ≡ b.incarnation = omega (arith, one.later, two.later) in
+      two.copies second (one.runs first running) other apart ∙ one.copies first running other apart);
+  stales = λ same running other apart.
+      (let first : b.incarnation ≡ a.incarnation = omega (arith, one.later, two.later) in let second : d.incarnation ≡ b.incarnation = omega (arith, one.later, two.later) in
+      two.stales second (one.runs first running) other apart ∙ one.stales first running other apart);
+  calm = λ same.
+      (let first : length b.records ≡ length a.records + length one.more = ap length one.records ∙ length-append a.records one.more in
+      let second : length d.records ≡ length b.records + length two.more = ap length two.records ∙ length-append b.records two.more in
+      let here : length b.records ≡ length a.records = omega arith in let there : length d.records ≡ length b.records = omega arith in two.calm there ∙ one.calm here);
+  floor = elim two.floor [ inl none ↦ inl none | inr rest ↦ elim rest [ inl mine ↦ inr (inl mine) | inr same ↦ elim one.floor [ inl none ↦ inl (same ∙ none) | inr more ↦ elim more [ inl mine ↦ inr (inl (same ∙ mine)) | inr still ↦ inr (inr (same ∙ still)) ] ] ] ];
+}
+
+pub acts_stays : (caller : ℕ) (old new : Sight) → Stays caller old new → ((other : ℕ) → other ≢ caller → own new.history other ≡ own old.history other)
+    → (new.floor ≡ None) ⊎ (new.floor ≡ Some caller) ⊎ (new.floor ≡ old.floor) → Acts caller old new
+acts_stays caller old new stays own floor = record {
+  config = stays.config;
+  seats = stays.seats;
+  own = own;
+  more = [];
+  records = stays.records ∙ sym (append-nil old.records);
+  mine = tt;
+  later = omega (arith, stays.incarnation);
+  runs = λ same running. stays.stage ∙ running;
+  copies = λ same running other apart. stays.copies other apart;
+  stales = λ same running other apart. stays.stales other apart;
+  calm = λ same. stays.incarnation;
+  floor = floor;
+}
+
+pub acts_entry : (caller : ℕ) (old new : Sight) (entry : Entry) → Stays caller old new → entry.caller ≡ caller → new.history ≡ old.history ++ entry ∷ []
+    → (new.floor ≡ None) ⊎ (new.floor ≡ Some caller) ⊎ (new.floor ≡ old.floor) → Acts caller old new
+acts_entry caller old new entry stays mine more floor =
+    acts_stays caller old new stays (λ other apart. ap (λ h. own h other) more ∙ own_other old.history entry other (λ same. apart (sym same ∙ mine))) floor
+
+pub acts_strikes : (caller : ℕ) (old new : Sight) (ticket : Ticket) (kind : Kind) (nth : ℕ) → ticket.caller ≡ caller → Strikes old new ticket kind nth → Acts caller old new
+acts_strikes caller old new ticket kind nth mine strikes = record {
+  config = strikes.config;
+  seats = λ other apart. strikes.seats other;
+  own = λ other apart. ap (λ h. own h other) strikes.counts.history;
+  more = record { caller = ticket.caller; ordinal = ticket.ordinal; kind = kind; nth = nth } ∷ [];
+  records = strikes.records;
+  mine = (mine, tt);
+  later = omega (arith, strikes.incarnation);
+  runs = λ same running. absurd (omega (arith, strikes.incarnation));
+  copies = λ same running other apart. absurd (omega (arith, strikes.incarnation));
+  stales = λ same running other apart. absurd (omega (arith, strikes.incarnation));
+  calm = λ same. absurd (omega (arith, same, ap length strikes.records, length-append old.records (record { caller = ticket.caller; ordinal = ticket.ordinal; kind = kind; nth = nth } ∷ [])));
+  floor = inr (inr strikes.floor);
+}

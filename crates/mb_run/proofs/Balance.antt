@@ -1,0 +1,44 @@
+-- Calls that were begun, entries, and calls in flight without one, event by event; and whether a call has its entry.
+use Rattle.std.proofs.Common.{◌≡◌, ◌∷◌, ◌++◌, [], ℕ, ◌+◌, Bool, false, length, ap, sym, subst, ◌∙◌, arith, Option, None, Some, length-append}
+use Rattle.mb_kinds.specs.declared.calls.Call.{Call}
+use Rattle.mb_kinds.specs.declared.entries.Entry.{Entry}
+use Rattle.mb_kinds.specs.declared.entries.Flight.{Flight}
+use Rattle.mb_kinds.specs.declared.faults.Ticket.{Ticket}
+use Rattle.mb_kinds.specs.declared.replies.Reply.{Reply}
+use Rattle.mb_run.specs.Events.{Answers, Begins, Counts, Logs, entry_of}
+use Rattle.mb_run.specs.Served.{IsBalanced, IsMarked}
+use Rattle.mb_run.specs.Sights.{Sight, flight_of}
+
+pub balanced_same : (old new : Sight) → Counts old new → IsBalanced old → IsBalanced new
+balanced_same old new counts even = counts.begun ∙ even ∙ ap (λ es. length es + old.open_calls) (sym counts.history) ∙ ap (λ n. length new.history + n) (sym counts.open_calls)
+
+pub balanced_begins : (caller : ℕ) (flight : Flight) (old new : Sight) → Begins caller flight old new → IsBalanced old → IsBalanced new
+balanced_begins caller flight old new begins even =
+    let same : length new.history ≡ length old.history = ap length begins.history in
+    omega (arith, begins.begun, begins.open_calls, even, same)
+
+more_by : (old new : Sight) (entry : Entry) → new.history ≡ old.history ++ entry ∷ [] → length new.history ≡ length old.history + 1
+more_by old new entry more = ap length more ∙ length-append old.history (entry ∷ [])
+
+pub balanced_answers : (caller : ℕ) (flight : Flight) (answer : Reply) (old new : Sight) → Answers caller flight answer old new → IsBalanced old → IsBalanced new
+balanced_answers caller flight answer old new answers even =
+    let more = more_by old new (entry_of caller flight None answer) answers.history in
+    omega (arith, answers.begun, answers.open_calls, even, more)
+
+pub balanced_logs : (caller : ℕ) (old new : Sight) (ticket : Ticket) → Logs caller old new ticket → IsBalanced old → IsBalanced new
+balanced_logs caller old new ticket logs even =
+    let more = more_by old new (entry_of caller logs.flight logs.pick logs.answer) logs.history in
+    omega (arith, logs.begun, logs.open_calls, even, more)
+
+-- ---- whether the call in flight has its entry
+
+pub marked_begins : (answered : Bool) (sight : Sight) (caller : ℕ) (call : Call) (before : Option Flight) → IsMarked answered before → IsMarked answered (Some (flight_of sight caller call before))
+marked_begins answered sight caller call None marked = sym marked
+marked_begins answered sight caller call (Some flight) marked = marked
+
+pub marked_lacks : (answered : Bool) (sight : Sight) (caller : ℕ) (call : Call) (before : Option Flight) → IsMarked answered before → (flight_of sight caller call before).answered ≡ false → answered ≡ false
+marked_lacks answered sight caller call None marked lacks = marked
+marked_lacks answered sight caller call (Some flight) marked lacks = sym marked ∙ lacks
+
+pub marked_here : (answered : Bool) (before : Option Flight) (flight : Flight) → before ≡ Some flight → flight.answered ≡ false → IsMarked answered before → answered ≡ false
+marked_here answered before flight here lacks marked = sym (subst (IsMarked answered) here marked) ∙ lacks

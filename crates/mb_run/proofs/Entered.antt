@@ -1,0 +1,227 @@
+-- A call enters, is answered, or leaves.
+use Rattle.std.proofs.Common.{◌≡◌, List, [], ◌∷◌, ℕ, ◌+◌, ◌-◌, ◌*◌, ◌<◌, ◌≤◌, Bool, false, cond, length, inl, inr, refl, ap, sym, subst, ◌∙◌, arith, Option, None, Some, slice_index}
+use Rattle.std.specs.List.{AllByRecursion}
+use Rattle.mb_edge.specs.Crossings.{place_of}
+use Rattle.mb_edge.specs.declared.crossings.Crossing.{Crossing}
+use Rattle.mb_edge.specs.declared.crossings.Crossings.{Crossings}
+use Rattle.mb_kinds.specs.declared.calls.Call.{Call}
+use Rattle.mb_kinds.specs.declared.entries.Flight.{Flight}
+use Rattle.mb_kinds.specs.declared.faults.FaultRecord.{FaultRecord}
+use Rattle.mb_kinds.specs.declared.faults.Kind.{Kind}
+use Rattle.mb_kinds.specs.declared.faults.Kind.TheVariants.{Enter, Gather, Finish, Leave, Remount, Replay}
+use Rattle.mb_kinds.specs.declared.faults.Ticket.{Ticket}
+use Rattle.mb_kinds.specs.declared.replies.Reply.{Reply}
+use Rattle.mb_kinds.specs.Own.{own}
+use Rattle.std.proofs.lemmas.Bool.{eq-eqb}
+use Rattle.mb_core_spec.specs.Copies.{PagesState, no_pages}
+use Rattle.mb_run.specs.Pages.{has}
+use Rattle.mb_run.specs.Events.{Answers, Enters, EntersInside, Leaves, entry_of}
+use Rattle.mb_run.specs.Served.{Acts, AreCounts, Did, GoesIn, IsAtBy, IsCounted, InLine, IsBalanced, IsStanding, LineBy, MayStep, Nears, advanced, busy, calls_in, calls_of, missing, rank, work}
+use Rattle.mb_run.specs.Sights.{IsOld, IsOrderly, Limits, Seat, Sight, flight_of, one_if, recovers}
+use Rattle.mb_run.specs.declared.runner.At.{At}
+use Rattle.mb_run.specs.declared.runner.At.TheVariants as at
+use Rattle.mb_run.specs.declared.answers.Enter.TheVariants as enter
+use Rattle.mb_jobs.specs.declared.jobs.JobCall.{JobCall}
+use Rattle.mb_run.specs.declared.progress.Went.{Went}
+use Rattle.mb_run.specs.declared.progress.Went.TheVariants as went
+use Rattle.mb_run.specs.declared.runner.Runner.{Runner}
+use Rattle.mb_run.proofs.Acting.{acts_same, acts_then, acts_stays, acts_entry}
+use Rattle.mb_run.proofs.Balance.{balanced_answers, balanced_begins, balanced_same, marked_begins, marked_lacks}
+use Rattle.mb_run.proofs.Lines.{line_enters, line_leaves}
+use Rattle.mb_run.proofs.Openings.{line_answers, line_made}
+use Rattle.mb_run.proofs.Lists.{all_map, calls_push}
+use Rattle.mb_run.proofs.Missing.{missing_most}
+use Rattle.mb_run.proofs.Places.{at_begins, at_ends, at_leaves}
+
+old_begins : (sight : Sight) (caller : ℕ) (call : Call) (incarnation : ℕ) (before : Option Flight) → IsOld incarnation before → IsOld incarnation (Some (flight_of sight caller call before))
+old_begins sight caller call incarnation None old = tt
+old_begins sight caller call incarnation (Some flight) old = old
+
+counted_next : (crossings next : Crossings) (records : List FaultRecord) → next.caller ≡ crossings.caller → next.ordinal ≡ crossings.ordinal + 1 → AllByRecursion (IsCounted crossings) records → AllByRecursion (IsCounted next) records
+counted_next crossings next records same more all = all_map (IsCounted crossings) (IsCounted next) records
+    (λ fault is mine. elim (is (mine ∙ same)) [ inl earlier ↦ inl (omega (arith, earlier)) | inr here ↦ inl (omega (arith, here.0)) ]) all
+
+no_counts : (crossings : Crossings) → AreCounts (record crossings { counts = 0 ∷ 0 ∷ 0 ∷ 0 ∷ 0 ∷ 0 ∷ [] })
+no_counts crossings = record {
+  six = refl;
+  fits = λ kind. elim kind as (λ (k : Kind). slice_index (0 ∷ 0 ∷ 0 ∷ 0 ∷ 0 ∷ 0 ∷ []) (place_of k) ≤ 4294967295) [
+    | Enter ↦ omega arith
+    | Gather ↦ omega arith
+    | Finish ↦ omega arith
+    | Leave ↦ omega arith
+    | Remount ↦ omega arith
+    | Replay ↦ omega arith
+  ];
+}
+
+rank_outside : (incarnation stales : ℕ) (pages : PagesState) (a : At) → a ≡ at.Outside → rank incarnation stales pages a ≡ 4194304
+rank_outside incarnation stales pages a outside = ap (rank incarnation stales pages) outside
+
+module _ (calls : List JobCall) (test : Option (Crossing → Bool)) (old : Sight) (runner : Runner) (call : Call) (may : MayStep calls test old runner call) where
+  -- the call has its entry and its flight ends
+  pub did_end : (new : Sight) → Acts runner.crossings.caller old new → (InLine runner.crossings.caller old → InLine runner.crossings.caller new) → (IsBalanced old → IsBalanced new) → new.records ≡ old.records
+      → IsAtBy (calls_of calls runner.crossings.caller) (calls_in new.history runner.crossings.caller) (runner.done + 1) (new.seats runner.crossings.caller).begun (new.seats runner.crossings.caller).flight
+      → (new.seats runner.crossings.caller).flight ≡ None → Did calls test old new runner (advanced runner) went.Ended
+  did_end new acts lined balanced records here gone = record {
+    nears = record {
+      same = refl;
+      counts = no_counts (advanced runner).crossings;
+      acts = acts;
+      lined = lined;
+      balanced = balanced;
+      served = record {
+        caller_is = refl;
+        ordinal = ap (λ n. n + 1) may.served.ordinal;
+        calls = here;
+        stands = rw gone tt;
+        marked = rw gone refl;
+        counted = rw records (counted_next runner.crossings (advanced runner).crossings old.records refl refl may.served.counted);
+      };
+      sound = rw records may.sound;
+    };
+    goes = (refl, gone);
+  }
+
+  pub did_leave : (new : Sight) (flight : Flight) → Leaves runner.crossings.caller flight old new → Did calls test old new runner (advanced runner) went.Ended
+  did_leave new flight leaves =
+      let was = subst (IsAtBy (calls_of calls runner.crossings.caller) (calls_in old.history runner.crossings.caller) runner.done (old.seats runner.crossings.caller).begun) leaves.was may.served.calls in
+      did_end new (acts_stays runner.crossings.caller old new leaves.stays (λ other apart. ap (λ h. own h other) leaves.counts.history) (elim leaves.floor [ inl none ↦ inl none | inr same ↦ inr (inr same) ])) (line_leaves runner.crossings.caller flight old new leaves) (balanced_same old new leaves.counts) leaves.stays.records
+      (rw (leaves.mine, leaves.counts.history) (at_leaves (calls_of calls runner.crossings.caller) (calls_in old.history runner.crossings.caller) runner.done (old.seats runner.crossings.caller).begun flight leaves.answered was))
+      (ap (λ (s : Seat). s.flight) leaves.mine)
+
+  -- an entry that changes nothing: the call begins, if it had not, and ends
+  pub did_answer : (new : Sight) (flight : Flight) (answer : Reply) → Answers runner.crossings.caller flight answer old new → flight.answered ≡ false
+      → IsAtBy (calls_of calls runner.crossings.caller) (calls_in old.history runner.crossings.caller) runner.done flight.ordinal (Some flight)
+      → (Answers runner.crossings.caller flight answer old new → InLine runner.crossings.caller old → LineBy old.config.start old.history new.begun (Some flight)) → Did calls test old new runner (advanced runner) went.Ended
+  did_answer new flight answer answers lacks here line =
+      let entry = entry_of runner.crossings.caller flight None answer in
+      did_end new (acts_entry runner.crossings.caller old new entry answers.stays refl answers.history (elim answers.floor [ inl none ↦ inl none | inr same ↦ inr (inr same) ])) (λ lined. line_answers runner.crossings.caller flight answer old new answers lacks (line answers lined)) (balanced_answers runner.crossings.caller flight answer old new answers) answers.stays.records
+      (rw (answers.mine, answers.history, calls_push old.history entry runner.crossings.caller refl)
+      (at_ends (calls_of calls runner.crossings.caller) (calls_in old.history runner.crossings.caller) runner.done flight.ordinal flight lacks here))
+      (ap (λ (s : Seat). s.flight) answers.mine)
+
+  flight : Flight
+  flight = flight_of old runner.crossings.caller call (old.seats runner.crossings.caller).flight
+
+  begun : (flight : Flight) → flight.ordinal ≡ (flight_of old runner.crossings.caller call (old.seats runner.crossings.caller).flight).ordinal → flight.call ≡ (flight_of old runner.crossings.caller call (old.seats runner.crossings.caller).flight).call
+      → flight.answered ≡ (flight_of old runner.crossings.caller call (old.seats runner.crossings.caller).flight).answered
+      → IsAtBy (calls_of calls runner.crossings.caller) (calls_in old.history runner.crossings.caller) runner.done flight.ordinal (Some flight)
+  begun flight ordinal called answered =
+      at_begins (calls_of calls runner.crossings.caller) (calls_in old.history runner.crossings.caller) runner.done old runner.crossings.caller call (old.seats runner.crossings.caller).flight flight may.served.calls may.next ordinal called answered
+
+  pub did_done : (new : Sight) (answer : Reply) → Enters old new runner.crossings.caller call (enter.Done answer) → Did calls test old new runner (advanced runner) went.Ended
+  did_done new answer enters = elim enters [
+    | inl left ↦ did_leave new left.0 left.1
+    | inr made ↦ did_answer new (flight_of old runner.crossings.caller call (old.seats runner.crossings.caller).flight) answer made.2 made.0 (begun (flight_of old runner.crossings.caller call (old.seats runner.crossings.caller).flight) refl refl refl)
+        (λ answers line. line_made runner.crossings.caller call answer old new answers line)
+  ]
+
+  -- before it the call was outside
+  module _ (outside : runner.at ≡ at.Outside) where
+    was_old : IsOld old.incarnation (old.seats runner.crossings.caller).flight
+    was_old = subst (IsStanding old runner.crossings.caller runner.pages) outside may.served.stands
+
+    pub did_shut : (new : Sight) → Enters old new runner.crossings.caller call enter.Shut → Did calls test old new runner runner went.Shut
+    did_shut new enters =
+        let begins = enters.2 in
+        let limit : new.config.limit ≡ old.config.limit = ap (λ (l : Limits). l.limit) begins.stays.config in
+        let same : length new.records ≡ length old.records = ap length begins.stays.records in
+        let calm : one_if (recovers new.stage) ≡ one_if (recovers old.stage) = ap (λ s. one_if (recovers s)) begins.stays.stage in
+        let floor : busy runner.crossings.caller new.floor ≡ busy runner.crossings.caller old.floor = ap (busy runner.crossings.caller) begins.floor in
+        record {
+          nears = record {
+            same = refl;
+            counts = may.counts;
+            acts = acts_stays runner.crossings.caller old new begins.stays (λ other apart. ap (λ h. own h other) begins.history) (inr (inr begins.floor));
+            lined = line_enters runner.crossings.caller call (flight_of old runner.crossings.caller call (old.seats runner.crossings.caller).flight) old new begins refl refl;
+            balanced = balanced_begins runner.crossings.caller (flight_of old runner.crossings.caller call (old.seats runner.crossings.caller).flight) old new begins;
+            served = record {
+              caller_is = refl;
+              ordinal = may.served.ordinal;
+              calls = rw (begins.mine, begins.history) (begun (flight_of old runner.crossings.caller call (old.seats runner.crossings.caller).flight) refl refl refl);
+              marked = rw begins.mine (marked_begins runner.answered old runner.crossings.caller call (old.seats runner.crossings.caller).flight may.served.marked);
+              stands = subst (IsStanding new runner.crossings.caller runner.pages) (sym outside)
+                  (rw (begins.mine, begins.stays.incarnation) (old_begins old runner.crossings.caller call old.incarnation (old.seats runner.crossings.caller).flight was_old));
+              counted = rw begins.stays.records may.served.counted;
+            };
+            sound = rw begins.stays.records may.sound;
+          };
+          goes = (
+            refl,
+            (omega (arith, limit, same, calm, floor, rank_outside new.incarnation (new.stales runner.crossings.caller) runner.pages runner.at outside, rank_outside old.incarnation (old.stales runner.crossings.caller) runner.pages runner.at outside)),
+            ap recovers begins.stays.stage ∙ enters.0,
+            outside,
+            (flight_of old runner.crossings.caller call (old.seats runner.crossings.caller).flight, ap (λ (s : Seat). s.flight) begins.mine, enters.1),
+          );
+        }
+
+    -- inside, with no pages yet
+    abbrev pub within : Ticket → Runner
+    within ticket = record runner { at = at.Inside ticket; asked = false; pages = no_pages }
+
+    pub may_inside : (mid : Sight) (ticket : Ticket) → EntersInside old mid runner.crossings.caller call ticket → IsOrderly mid → MayStep calls test mid (within ticket) call
+    may_inside mid ticket enters right =
+        let begins = enters.begins in
+        record {
+          served = record {
+            caller_is = refl;
+            ordinal = may.served.ordinal;
+            calls = rw (begins.mine, begins.history) (begun (record (flight_of old runner.crossings.caller call (old.seats runner.crossings.caller).flight) { ticket = Some ticket }) refl refl refl);
+            stands = (
+              rw begins.mine (record { flight = record (flight_of old runner.crossings.caller call (old.seats runner.crossings.caller).flight) { ticket = Some ticket }; here = refl; mine = refl; ordinal = enters.ordinal; moment = enters.moment; answered = enters.lacks }),
+              record {
+                mine = enters.own;
+                past = omega (arith, enters.present, begins.stays.incarnation);
+                runs = λ present. begins.stays.stage ∙ enters.runs;
+                same = λ present. enters.empty was_old;
+                tables = tt;
+              },
+            );
+            marked = rw begins.mine (marked_begins runner.answered old runner.crossings.caller call (old.seats runner.crossings.caller).flight may.served.marked);
+            counted = rw begins.stays.records may.served.counted;
+          };
+          sound = rw begins.stays.records may.sound;
+          within = rw begins.stays.config may.within;
+          most = rw begins.stays.config may.most;
+          small = may.small;
+          next = may.next;
+          counts = may.counts;
+          right = right;
+        }
+
+    pub did_inside : (mid new : Sight) (now : Runner) (came : Went) (ticket : Ticket) → EntersInside old mid runner.crossings.caller call ticket → GoesIn calls test mid new (within ticket) now came → Did calls test old new runner now came
+    did_inside mid new now came ticket enters goes =
+        let begins = enters.begins in
+        let limit : mid.config.limit ≡ old.config.limit = ap (λ (l : Limits). l.limit) begins.stays.config in
+        let same : length mid.records ≡ length old.records = ap length begins.stays.records in
+        let calm : one_if (recovers mid.stage) ≡ one_if (recovers old.stage) = ap (λ s. one_if (recovers s)) begins.stays.stage in
+        let floor : busy runner.crossings.caller mid.floor ≡ busy runner.crossings.caller old.floor = ap (busy runner.crossings.caller) begins.floor in
+        let present : ticket.incarnation ≡ mid.incarnation = enters.present ∙ sym begins.stays.incarnation in
+        let inside : rank mid.incarnation (mid.stales runner.crossings.caller) no_pages (at.Inside ticket) ≡ 2 * ((4 - mid.stales runner.crossings.caller) * 262146 + missing (has no_pages) 262144 + 1)
+        = ap (λ b. cond b (2 * ((4 - mid.stales runner.crossings.caller) * 262146 + missing (has no_pages) 262144 + 1)) 8388608) (eq-eqb ticket.incarnation mid.incarnation present) in
+        let less : work new runner.crossings.caller now < work old runner.crossings.caller runner =
+        omega (arith, limit, same, calm, floor, inside, missing_most (has no_pages) 262144, rank_outside old.incarnation (old.stales runner.crossings.caller) runner.pages runner.at outside, goes.less) in
+        let nears : Nears calls test old new runner now = record {
+          same = goes.nears.same;
+          counts = goes.nears.counts;
+          acts = acts_then runner.crossings.caller old mid new (acts_stays runner.crossings.caller old mid begins.stays (λ other apart. ap (λ h. own h other) begins.history) (inr (inr begins.floor))) goes.nears.acts;
+          lined = λ line. goes.nears.lined (line_enters runner.crossings.caller call (record (flight_of old runner.crossings.caller call (old.seats runner.crossings.caller).flight) { ticket = Some ticket }) old mid begins refl refl line);
+          balanced = λ even. goes.nears.balanced (balanced_begins runner.crossings.caller (record (flight_of old runner.crossings.caller call (old.seats runner.crossings.caller).flight) { ticket = Some ticket }) old mid begins even);
+          served = goes.nears.served;
+          sound = goes.nears.sound;
+        } in
+        elim goes.goes [
+          | inl on ↦ subst (λ c. Did calls test old new runner now c) (sym on) (record { nears = nears; goes = (goes.done, less) })
+          | inr back ↦ subst (λ c. Did calls test old new runner now c) (sym back) (record { nears = nears; goes = (goes.done, less) })
+        ]
+
+  -- nothing changed, for want of memory
+  pub did_nothing : (new : Sight) → new ≡ old → runner.answered ≡ false → Did calls test old new runner runner went.NoMemory
+  did_nothing new same lacks = subst (λ (s : Sight). Did calls test old s runner runner went.NoMemory) (sym same) (record {
+    nears = record { same = refl; counts = may.counts; acts = acts_same runner.crossings.caller old; lined = λ line. line; balanced = λ even. even; served = may.served; sound = may.sound };
+    goes = (refl, lacks);
+  })
+
+  -- it did not enter, for want of memory
+  pub did_not_enter : (new : Sight) → Enters old new runner.crossings.caller call enter.NoMemory → Did calls test old new runner runner went.NoMemory
+  did_not_enter new enters = did_nothing new enters.0 (marked_lacks runner.answered old runner.crossings.caller call (old.seats runner.crossings.caller).flight may.served.marked enters.1)

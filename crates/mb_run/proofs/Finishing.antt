@@ -1,0 +1,121 @@
+-- What a call that finishes was performed over, a checkpoint after it was logged, and a call that is given up.
+use Rattle.std.proofs.Common.{◌≡◌, List, ℕ, ◌<◌, Bool, true, false, if◌then◌else◌, is_some, refl, ap, sym, subst, ◌∙◌, arith, Option, None, Some, option_map}
+use Rattle.std.proofs.lemmas.Option.{same_Some}
+use Rattle.mb_edge.specs.declared.crossings.Crossing.{Crossing}
+use Rattle.mb_calls.specs.declared.performing.Performed.TheVariants as performed
+use Rattle.mb_calls.specs.declared.performing.Ready.{Ready}
+use Rattle.mb_core_spec.specs.Copies.{KeptBlock, PagesState, kept_at, shown}
+use Rattle.mb_core_spec.specs.declared.stages.Stage.TheVariants as stage
+use Rattle.mb_core_state.specs.declared.answers.Finished.TheVariants as finished
+use Rattle.mb_iface.specs.Needs.{IsNeed}
+use Rattle.mb_iface.specs.declared.replies.Need.{Need}
+use Rattle.mb_jobs.specs.declared.jobs.JobCall.{JobCall}
+use Rattle.mb_kinds.specs.declared.calls.Call.{Call}
+use Rattle.mb_kinds.specs.declared.entries.Flight.{Flight}
+use Rattle.mb_kinds.specs.declared.faults.Kind.{Kind}
+use Rattle.mb_kinds.specs.declared.faults.Ticket.{Ticket}
+use Rattle.mb_run.specs.Events.{Finishes, IsReadyAt, sealed}
+use Rattle.mb_run.specs.Pages.{HasTablesFor, Performs, has}
+use Rattle.mb_run.specs.Served.{Acts, Asks, Did, IsAtBy, IsHeld, IsServed, IsStanding, MayStep, SealsIf, calls_in, calls_of}
+use Rattle.mb_run.specs.Sights.{HasTicket, Sight}
+use Rattle.mb_run.specs.declared.progress.Went.TheVariants as went
+use Rattle.mb_run.specs.declared.runner.At.{At}
+use Rattle.mb_run.specs.declared.runner.At.TheVariants as at
+use Rattle.mb_run.specs.declared.runner.Runner.{Runner}
+use Rattle.mb_run.proofs.Lists.{neq}
+
+-- ---- pages
+
+-- what is asked for was not gathered
+no_copy : (kept : Option KeptBlock) → option_map (λ (k : KeptBlock). k.bytes) kept ≡ None → is_some kept ≡ false
+no_copy None none = refl
+no_copy (Some k) none = absurd (never none) where
+  never : Some k.bytes ≡ None → ⊥
+  never same = cc
+
+pub need_lacks : (pages : PagesState) (need : Need) → IsNeed (shown pages.blocks) need → has pages need.first ≡ false
+need_lacks pages need is =
+    ap (λ b. if b then is_some pages.tables else is_some (kept_at pages.blocks need.first)) (neq need.first 0 (λ same. omega (arith, same, is.above)))
+    ∙ no_copy (kept_at pages.blocks need.first) is.lacking
+
+module _ (calls : List JobCall) (test : Option (Crossing → Bool)) (old : Sight) (runner : Runner) (call : Call) (may : MayStep calls test old runner call) (ticket : Ticket) (inside : runner.at ≡ at.Inside ticket) where
+  stood : HasTicket false (old.seats runner.crossings.caller) ticket × IsHeld old runner.crossings.caller runner.pages ticket
+  stood = subst (IsStanding old runner.crossings.caller runner.pages) inside may.served.stands
+
+  pub held_tables : HasTablesFor old.config.callers runner.pages
+  held_tables = stood.1.tables
+
+  pub held_declared : ticket.caller < old.config.callers
+  held_declared = subst (λ n. n < old.config.callers) (sym stood.1.mine) may.within
+
+  -- what was performed is of the call in flight
+  pub ready_at : (ready : Ready) → Performs runner.pages ticket.caller call ticket.moment (performed.Ready ready) → IsReadyAt old ticket runner.pages ready
+  ready_at ready performs flight here =
+      let is : flight ≡ stood.0.flight = same_Some flight stood.0.flight (sym here ∙ ap (λ n. (old.seats n).flight) stood.1.mine ∙ stood.0.here) in
+      let at_it = subst (IsAtBy (calls_of calls runner.crossings.caller) (calls_in old.history runner.crossings.caller) runner.done (old.seats runner.crossings.caller).begun) stood.0.here may.served.calls in
+      let call_is : call ≡ flight.call = same_Some call stood.0.flight.call (sym may.next ∙ at_it.2) ∙ ap (λ (f : Flight). f.call) (sym is) in
+      let moment_is : ticket.moment ≡ flight.moment = stood.0.moment ∙ ap (λ (f : Flight). f.moment) (sym is) in
+      subst (λ m. Performs runner.pages ticket.caller flight.call m (performed.Ready ready)) moment_is
+      (subst (λ made. Performs runner.pages ticket.caller made ticket.moment (performed.Ready ready)) call_is performs)
+
+  -- a volume on which a call was logged runs
+  pub logged_runs : (new : Sight) → Finishes old new ticket runner.pages finished.Logged → new.stage ≡ stage.Running
+  logged_runs new finishes = finishes.2.stays.stage ∙ stood.1.runs finishes.0
+
+-- the fault injector let the call go on: its pages are as before
+pub asked_ready : (test : Option (Crossing → Bool)) (old mid : Sight) (before m : Runner) (ticket : Ticket) (kind : Kind) (call : Call) (ready : Ready) → Asks test old mid before m ticket kind false
+    → Performs before.pages ticket.caller call ticket.moment (performed.Ready ready) → Performs m.pages ticket.caller call ticket.moment (performed.Ready ready)
+asked_ready test old mid before m ticket kind call ready asks performs =
+    subst (λ (r : Runner). Performs r.pages ticket.caller call ticket.moment (performed.Ready ready)) (sym asks.1) performs
+
+-- ---- a checkpoint
+
+acts_sealed : (caller : ℕ) (old mid new : Sight) → Acts caller old mid → Acts caller old (sealed mid new)
+acts_sealed caller old mid new acts = record {
+  config = acts.config;
+  seats = acts.seats;
+  own = acts.own;
+  more = acts.more;
+  records = acts.records;
+  mine = acts.mine;
+  later = acts.later;
+  runs = acts.runs;
+  copies = acts.copies;
+  stales = acts.stales;
+  calm = acts.calm;
+  floor = acts.floor;
+}
+
+stands_sealed : (mid new : Sight) (caller : ℕ) (pages : PagesState) (a : At) → IsStanding mid caller pages a → IsStanding (sealed mid new) caller pages a
+stands_sealed mid new caller pages at.Outside was = was
+stands_sealed mid new caller pages (at.Inside ticket) was = (was.0, record { mine = was.1.mine; past = was.1.past; runs = was.1.runs; same = was.1.same; tables = was.1.tables })
+stands_sealed mid new caller pages (at.Logged ticket) was = was
+
+served_sealed : (list : List Call) (mid new : Sight) (caller : ℕ) (runner : Runner) → IsServed list mid caller runner → IsServed list (sealed mid new) caller runner
+served_sealed list mid new caller runner served = record {
+  caller_is = served.caller_is;
+  ordinal = served.ordinal;
+  calls = served.calls;
+  stands = stands_sealed mid new caller runner.pages runner.at served.stands;
+  marked = served.marked;
+  counted = served.counted;
+}
+
+did_sealed : (calls : List JobCall) (test : Option (Crossing → Bool)) (old mid new : Sight) (before now : Runner) → Did calls test old mid before now went.On → Did calls test old (sealed mid new) before now went.On
+did_sealed calls test old mid new before now did = record {
+  nears = record {
+    same = did.nears.same;
+    counts = did.nears.counts;
+    acts = acts_sealed before.crossings.caller old mid new did.nears.acts;
+    lined = did.nears.lined;
+    balanced = did.nears.balanced;
+    served = served_sealed (calls_of calls before.crossings.caller) mid new before.crossings.caller now did.nears.served;
+    sound = did.nears.sound;
+  };
+  goes = did.goes;
+}
+
+-- a checkpoint, where one is due, changes nothing of what a step said
+pub did_seals : (calls : List JobCall) (test : Option (Crossing → Bool)) (old mid new : Sight) (before now : Runner) (due : Bool) → Did calls test old mid before now went.On → SealsIf due mid new → Did calls test old new before now went.On
+did_seals calls test old mid new before now true did seals = subst (λ (s : Sight). Did calls test old s before now went.On) (sym seals) (did_sealed calls test old mid new before now did)
+did_seals calls test old mid new before now false did seals = subst (λ (s : Sight). Did calls test old s before now went.On) (sym seals) did

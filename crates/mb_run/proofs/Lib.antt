@@ -1,0 +1,17 @@
+pub mod Lists
+pub mod Acting
+pub mod Places
+pub mod Counting
+pub mod Missing
+pub mod Balance
+pub mod Struck
+pub mod Entered
+pub mod Inside
+pub mod Finishing
+pub mod Rolling
+pub mod Going
+pub mod Everybody
+pub mod GivingUp
+pub mod Lines
+pub mod Openings
+pub mod InOrder

@@ -1,0 +1,263 @@
+-- A recovery that a call runs itself, and calls of others.
+use Rattle.std.proofs.Common.{◌≡◌, ◌≢◌, List, [], ◌∷◌, ◌++◌, ℕ, ◌+◌, ◌<◌, ◌≤◌, Bool, true, false, length, inl, inr, refl, ap, sym, subst, ◌∙◌, arith, Option, None, Some, IfSome, length-append}
+use Rattle.std.specs.List.{AllByRecursion}
+use Rattle.std.proofs.lemmas.List.{append-nil}
+use Rattle.mb_edge.specs.declared.crossings.Crossing.{Crossing}
+use Rattle.mb_edge.specs.declared.crossings.Crossings.{Crossings}
+use Rattle.mb_kinds.specs.Own.{own}
+use Rattle.mb_kinds.specs.declared.calls.Call.{Call}
+use Rattle.mb_kinds.specs.declared.entries.Flight.{Flight}
+use Rattle.mb_kinds.specs.declared.faults.FaultRecord.{FaultRecord}
+use Rattle.mb_kinds.specs.declared.faults.Ticket.{Ticket}
+use Rattle.mb_kinds.specs.declared.replies.Reply.TheVariants as reply
+use Rattle.mb_run.specs.Recovering.{EndsByDevice, GoOn, GoesOn, Rolls, Steps, Strikes, Waits}
+use Rattle.mb_run.specs.Served.{Acts, AreCounts, AreSound, Did, IsAtBy, IsCounted, IsServed, IsStanding, Keeps, MayStep, Nears, Rolled, advanced, with_crossings, busy, calls_in, calls_of, rank}
+use Rattle.mb_run.specs.Sights.{IsOld, IsOrderly, IsWaiting, Limits, Sight, one_if, recovers}
+use Rattle.mb_run.specs.declared.runner.At.TheVariants as at
+use Rattle.mb_jobs.specs.declared.jobs.JobCall.{JobCall}
+use Rattle.mb_core_spec.specs.declared.stages.Stage.TheVariants as stage
+use Rattle.mb_run.specs.declared.answers.Stepped.{Stepped}
+use Rattle.mb_run.specs.declared.answers.Stepped.TheVariants as stepped
+use Rattle.mb_run.specs.declared.progress.Went.{Went}
+use Rattle.mb_run.specs.declared.progress.Went.TheVariants as went
+use Rattle.mb_run.specs.declared.runner.Runner.{Runner}
+use Rattle.mb_run.proofs.Acting.{acts_same}
+use Rattle.mb_run.proofs.Counting.{counted_on, counted_push, sound_push}
+use Rattle.mb_run.proofs.Entered.{did_answer}
+use Rattle.mb_run.proofs.Openings.{line_open}
+use Rattle.mb_run.proofs.Balance.{balanced_same, marked_here}
+use Rattle.mb_run.proofs.Lines.{line_same}
+use Rattle.mb_run.proofs.Lists.{all_map, all_both}
+use Rattle.mb_run.proofs.Struck.{one_most}
+
+not_running : (s : Sight) → recovers s.stage ≡ true → s.stage ≡ stage.Running → ⊥
+not_running s recovered runs = let stopped : recovers s.stage ≡ false = ap recovers runs in let both : true ≡ false = sym recovered ∙ stopped in cc
+
+acts_waits : (caller : ℕ) (old new : Sight) (more : List FaultRecord) → Waits old new → recovers old.stage ≡ true → new.records ≡ old.records ++ more → AllByRecursion (λ (fault : FaultRecord). fault.caller ≡ caller) more → Acts caller old new
+acts_waits caller old new more waits recovered records mine = record {
+  config = waits.config;
+  seats = λ other apart. waits.seats other;
+  own = λ other apart. ap (λ h. own h other) waits.counts.history;
+  more = more;
+  records = records;
+  mine = mine;
+  later = omega (arith, waits.incarnation);
+  runs = λ same running. absurd (not_running old recovered running);
+  copies = λ same running other apart. absurd (not_running old recovered running);
+  stales = λ same running other apart. absurd (not_running old recovered running);
+  calm = λ same. waits.incarnation;
+  floor = elim waits.floor [ inl none ↦ inl none | inr same ↦ inr (inr same) ];
+}
+
+module _ (calls : List JobCall) (test : Option (Crossing → Bool)) (old : Sight) (runner : Runner) (call : Call) (may : MayStep calls test old runner call) (outside : runner.at ≡ at.Outside) where
+  was_old : IsOld old.incarnation (old.seats runner.crossings.caller).flight
+  was_old = subst (IsStanding old runner.crossings.caller runner.pages) outside may.served.stands
+
+  waited : (new : Sight) (crossings : Crossings) → GoesOn runner.crossings crossings → Waits old new → AllByRecursion (IsCounted crossings) new.records → IsServed (calls_of calls runner.crossings.caller) new runner.crossings.caller (with_crossings runner crossings)
+  waited new crossings on waits all = record {
+    caller_is = on.caller;
+    ordinal = on.ordinal ∙ may.served.ordinal;
+    calls = rw (waits.counts.history, waits.seats runner.crossings.caller) may.served.calls;
+    stands = subst (IsStanding new runner.crossings.caller runner.pages) (sym outside) (rw (waits.incarnation, waits.seats runner.crossings.caller) was_old);
+    marked = rw (waits.seats runner.crossings.caller) may.served.marked;
+    counted = all;
+  }
+
+  counts_on : (crossings : Crossings) → GoesOn runner.crossings crossings → AreCounts crossings
+  counts_on crossings on = record { six = on.six ∙ may.counts.six; fits = on.fits }
+
+  -- a step forward
+  pub rolls_near : (new : Sight) (crossings : Crossings) → GoesOn runner.crossings crossings → Rolls old new → Nears calls test old new runner (with_crossings runner crossings)
+  rolls_near new crossings on rolls = record {
+    same = on.caller;
+    counts = counts_on crossings on;
+    acts = acts_waits runner.crossings.caller old new [] rolls.waits rolls.recovered (rolls.records ∙ sym (append-nil old.records)) tt;
+    lined = line_same runner.crossings.caller old new rolls.waits.config rolls.waits.counts (rolls.waits.seats runner.crossings.caller);
+    balanced = balanced_same old new rolls.waits.counts;
+    served = waited new crossings on rolls.waits (rw rolls.records (counted_on runner.crossings crossings old.records on may.served.counted));
+    sound = rw rolls.records may.sound;
+  }
+
+  -- the hook's fault in a recovery
+  pub strikes_near : (new : Sight) (crossings : Crossings) → GoesOn runner.crossings crossings → Strikes test runner.crossings crossings old new → Nears calls test old new runner (with_crossings runner crossings)
+  strikes_near new crossings on strikes = record {
+    same = on.caller;
+    counts = counts_on crossings on;
+    acts = acts_waits runner.crossings.caller old new (strikes.fault ∷ []) strikes.waits strikes.recovered strikes.records (strikes.taken.caller, tt);
+    lined = line_same runner.crossings.caller old new strikes.waits.config strikes.waits.counts (strikes.waits.seats runner.crossings.caller);
+    balanced = balanced_same old new strikes.waits.counts;
+    served = waited new crossings on strikes.waits (subst (AllByRecursion (IsCounted crossings)) (sym strikes.records)
+        (counted_push test runner.crossings crossings old.records strikes.fault on strikes.taken may.served.counted));
+    sound = subst (AreSound test) (sym strikes.records) (sound_push test runner.crossings crossings old.records strikes.fault strikes.taken may.served.counted may.sound);
+  }
+
+  rank_here : (incarnation stales : ℕ) → rank incarnation stales runner.pages runner.at ≡ 4194304
+  rank_here incarnation stales = ap (rank incarnation stales runner.pages) outside
+
+  limits : (new : Sight) → Waits old new → new.config.limit ≡ old.config.limit
+  limits new waits = ap (λ (l : Limits). l.limit) waits.config
+
+  busy_less : (new : Sight) → Waits old new → busy runner.crossings.caller new.floor ≤ busy runner.crossings.caller old.floor
+  busy_less new waits = elim waits.floor [
+    | inl none ↦ (let free : busy runner.crossings.caller new.floor ≡ 0 = ap (busy runner.crossings.caller) none in omega (arith, free))
+    | inr same ↦ (let is : busy runner.crossings.caller new.floor ≡ busy runner.crossings.caller old.floor = ap (busy runner.crossings.caller) same in omega (arith, is))
+  ]
+
+  pub rolled_on : (new : Sight) (crossings : Crossings) → GoesOn runner.crossings crossings → IsWaiting (old.seats runner.crossings.caller) → Rolls old new → recovers new.stage ≡ true → Rolled calls test old new runner (with_crossings runner crossings) went.On
+  rolled_on new crossings on waiting rolls still =
+      let same : length new.records ≡ length old.records = ap length rolls.records in
+      let now : one_if (recovers new.stage) ≡ 1 = ap one_if still in
+      let was : one_if (recovers old.stage) ≡ 1 = ap one_if rolls.recovered in
+      record {
+        nears = rolls_near new crossings on rolls;
+        goes = (
+          refl,
+          outside,
+          rw (rolls.waits.seats runner.crossings.caller) waiting,
+          still,
+          (omega (arith, same, limits new rolls.waits, rolls.fewer)),
+          omega (arith, same, limits new rolls.waits, now, was, busy_less new rolls.waits, rank_here new.incarnation (new.stales runner.crossings.caller), rank_here old.incarnation (old.stales runner.crossings.caller)),
+        );
+      }
+
+  records_more : (new : Sight) (crossings : Crossings) (strikes : Strikes test runner.crossings crossings old new) → length new.records ≡ length old.records + 1
+  records_more new crossings strikes = ap length strikes.records ∙ length-append old.records (strikes.fault ∷ [])
+
+  pub rolled_again : (new : Sight) (crossings : Crossings) → GoesOn runner.crossings crossings → IsWaiting (old.seats runner.crossings.caller) → Strikes test runner.crossings crossings old new → IsOrderly new → recovers new.stage ≡ true
+      → Rolled calls test old new runner (with_crossings runner crossings) went.On
+  rolled_again new crossings on waiting strikes right still =
+      let more = records_more new crossings strikes in
+      record {
+        nears = strikes_near new crossings on strikes;
+        goes = (
+          refl,
+          outside,
+          rw (strikes.waits.seats runner.crossings.caller) waiting,
+          still,
+          (omega (arith, more, limits new strikes.waits, right.records, right.left)),
+          omega (arith, more, limits new strikes.waits, right.records, one_most (recovers new.stage), busy_less new strikes.waits, rank_here new.incarnation (new.stales runner.crossings.caller), rank_here old.incarnation (old.stales runner.crossings.caller)),
+        );
+      }
+
+  pub rolled_back : (new : Sight) (crossings : Crossings) → GoesOn runner.crossings crossings → (waits : Waits old new) → new.records ≡ old.records → recovers old.stage ≡ true → recovers new.stage ≡ false
+      → Rolled calls test old new runner (with_crossings runner crossings) went.Back
+  rolled_back new crossings on waits records recovered over =
+      let same : length new.records ≡ length old.records = ap length records in
+      let now : one_if (recovers new.stage) ≡ 0 = ap one_if over in
+      let was : one_if (recovers old.stage) ≡ 1 = ap one_if recovered in
+      record {
+        nears = record {
+          same = on.caller;
+          counts = counts_on crossings on;
+          acts = acts_waits runner.crossings.caller old new [] waits recovered (records ∙ sym (append-nil old.records)) tt;
+          lined = line_same runner.crossings.caller old new waits.config waits.counts (waits.seats runner.crossings.caller);
+          balanced = balanced_same old new waits.counts;
+          served = waited new crossings on waits (rw records (counted_on runner.crossings crossings old.records on may.served.counted));
+          sound = rw records may.sound;
+        };
+        goes = (refl, outside, (omega (arith, same, limits new waits, now, was, busy_less new waits, rank_here new.incarnation (new.stales runner.crossings.caller), rank_here old.incarnation (old.stales runner.crossings.caller))));
+      }
+
+  pub rolled_struck : (new : Sight) (crossings : Crossings) → GoesOn runner.crossings crossings → Strikes test runner.crossings crossings old new → IsOrderly new → Rolled calls test old new runner (with_crossings runner crossings) went.Back
+  rolled_struck new crossings on strikes right =
+      let more = records_more new crossings strikes in
+      record {
+        nears = strikes_near new crossings on strikes;
+        goes = (refl, outside, (omega (arith, more, limits new strikes.waits, right.records, one_most (recovers new.stage), busy_less new strikes.waits, rank_here new.incarnation (new.stales runner.crossings.caller), rank_here old.incarnation (old.stales runner.crossings.caller))));
+      }
+
+  -- the disk failed: the call is answered
+  pub device_ends : (new : Sight) (crossings : Crossings) → GoesOn runner.crossings crossings → EndsByDevice (Some runner.crossings) old new → (flight : Flight) → (old.seats runner.crossings.caller).flight ≡ Some flight → flight.answered ≡ false
+      → Did calls test old new runner (advanced runner) went.Ended
+  device_ends new crossings on ends flight here lacks =
+      let at_it = subst (IsAtBy (calls_of calls runner.crossings.caller) (calls_in old.history runner.crossings.caller) runner.done (old.seats runner.crossings.caller).begun) here may.served.calls in
+      did_answer calls test old runner call may new flight reply.Device (ends flight here) lacks (at_it.1, at_it.1, at_it.2, at_it.3)
+      (λ made line. line_open runner.crossings.caller flight reply.Device old new made here line)
+
+-- ---- what a caller's steps leave of another caller
+
+older : (was now : ℕ) (flight : Option Flight) → was ≤ now → IsOld was flight → IsOld now flight
+older was now None later old = tt
+older was now (Some flight) later old = elim flight.ticket as (λ (t : Option Ticket). IfSome t (λ (k : Ticket). k.incarnation < was) → IfSome t (λ (k : Ticket). k.incarnation < now)) [
+  | None ↦ λ h. h
+  | Some ticket ↦ λ h. omega (arith, h, later)
+] old
+
+pub other_served : (list : List Call) (caller other : ℕ) (old new : Sight) (runner : Runner) → other ≢ caller → Acts caller old new → IsServed list old other runner → IsServed list new other runner
+other_served list caller other old new runner apart acts served = record {
+  caller_is = served.caller_is;
+  ordinal = served.ordinal;
+  calls = rw (acts.own other apart, acts.seats other apart) served.calls;
+  marked = rw (acts.seats other apart) served.marked;
+  stands = elim runner.at as (λ a. IsStanding old other runner.pages a → IsStanding new other runner.pages a) [
+    | at.Outside ↦ λ was. rw (acts.seats other apart) (older old.incarnation new.incarnation (old.seats other).flight acts.later was)
+    | at.Inside ticket ↦ λ was. (
+      rw (acts.seats other apart) was.0,
+      record {
+        mine = was.1.mine;
+        past = omega (arith, was.1.past, acts.later);
+        tables = rw acts.config was.1.tables;
+        runs = λ present. (let same : new.incarnation ≡ old.incarnation = omega (arith, was.1.past, acts.later, present) in let then : ticket.incarnation ≡ old.incarnation = present ∙ same in acts.runs same (was.1.runs then));
+        same = λ present. (let same : new.incarnation ≡ old.incarnation = omega (arith, was.1.past, acts.later, present) in let then : ticket.incarnation ≡ old.incarnation = present ∙ same in
+            acts.copies same (was.1.runs then) other apart ∙ was.1.same then);
+      },
+    )
+    | at.Logged ticket ↦ λ was. (rw (acts.seats other apart) was.0, was.1, omega (arith, was.2, acts.later))
+  ] served.stands;
+  counted = subst (AllByRecursion (IsCounted runner.crossings)) (sym acts.records) (all_both (IsCounted runner.crossings) old.records acts.more served.counted
+      (all_map (λ (fault : FaultRecord). fault.caller ≡ caller) (IsCounted runner.crossings) acts.more (λ fault theirs mine. absurd (apart (sym served.caller_is ∙ sym mine ∙ theirs))) acts.mine));
+}
+
+-- ---- by the answers of a step
+
+rolled_ended : (calls : List JobCall) (test : Option (Crossing → Bool)) (old new : Sight) (before now : Runner) → Did calls test old new before now went.Ended → Rolled calls test old new before now went.Ended
+rolled_ended calls test old new before now did = record { nears = did.nears; goes = did.goes }
+
+abbrev pub rolled_went : Stepped → Went
+rolled_went (stepped.Failed faults) = went.Back
+rolled_went stepped.Resumed = went.Back
+rolled_went _ = went.On
+
+abbrev pub Ends : Stepped → Type 0
+Ends stepped.Idle = Unit {0}
+Ends stepped.Device = Unit {0}
+Ends stepped.NoMemory = Unit {0}
+Ends _ = ⊥
+
+module _ (calls : List JobCall) (test : Option (Crossing → Bool)) (old : Sight) (runner : Runner) (call : Call) (may : MayStep calls test old runner call) (outside : runner.at ≡ at.Outside) (waiting : IsWaiting (old.seats runner.crossings.caller)) where
+  pub did_roll : (new : Sight) (now : Crossings) (answer : Stepped) → GoesOn runner.crossings now → IsOrderly new → Steps test (Some runner.crossings) (Some now) old new answer → (Ends answer → ⊥)
+      → Rolled calls test old new runner (with_crossings runner now) (rolled_went answer)
+  did_roll new now stepped.Idle on right steps goes = absurd (goes tt)
+  did_roll new now (stepped.Unwound ticket) on right steps goes = rolled_on calls test old runner call may outside new now on waiting steps.1 steps.0
+  did_roll new now (stepped.Failed faults) on right steps goes = elim steps.1 [
+    | inl plain ↦ rolled_back calls test old runner call may outside new now on plain.1 plain.0 plain.2 (ap recovers steps.0)
+    | inr strikes ↦ rolled_struck calls test old runner call may outside new now on strikes right
+  ]
+  did_roll new now stepped.Dropped on right steps goes = rolled_on calls test old runner call may outside new now on waiting steps.1 steps.0
+  did_roll new now stepped.Remounted on right steps goes = rolled_on calls test old runner call may outside new now on waiting steps.2 (ap recovers steps.1)
+  did_roll new now stepped.Reopened on right steps goes = rolled_on calls test old runner call may outside new now on waiting steps.1 steps.0
+  did_roll new now (stepped.Replayed n) on right steps goes = rolled_on calls test old runner call may outside new now on waiting steps.1 steps.0
+  did_roll new now stepped.Resumed on right steps goes = rolled_back calls test old runner call may outside new now on steps.2.waits steps.2.records steps.2.recovered (ap recovers steps.0)
+  did_roll new now (stepped.Again faults) on right steps goes = rolled_again calls test old runner call may outside new now on waiting steps.1 right (ap recovers steps.0)
+  did_roll new now stepped.Device on right steps goes = absurd (goes tt)
+  did_roll new now stepped.NoMemory on right steps goes = absurd (goes tt)
+
+module _ (calls : List JobCall) (test : Option (Crossing → Bool)) (old : Sight) (runner : Runner) (call : Call) (may : MayStep calls test old runner call) (outside : runner.at ≡ at.Outside) (waiting : IsWaiting (old.seats runner.crossings.caller)) where
+  pub kept_roll : (new : Sight) (by : Option Crossings) (now : Runner) (answer : Stepped) → GoOn (Some runner.crossings) by → IsOrderly new → Steps test (Some runner.crossings) by old new answer → (Ends answer → ⊥) → Keeps runner by now
+      → Rolled calls test old new runner now (rolled_went answer)
+  kept_roll new None now answer on right steps goes keeps = absurd keeps
+  kept_roll new (Some crossings) now answer on right steps goes keeps =
+      subst (λ (r : Runner). Rolled calls test old new runner r (rolled_went answer)) (sym keeps) (did_roll calls test old runner call may outside waiting new crossings answer on right steps goes)
+
+  pub device_rolls : (new : Sight) (by : Option Crossings) → GoOn (Some runner.crossings) by → Steps test (Some runner.crossings) by old new stepped.Device → Rolled calls test old new runner (advanced runner) went.Ended
+  device_rolls new None on steps = absurd on
+  device_rolls new (Some crossings) on steps = rolled_ended calls test old new runner (advanced runner) (device_ends calls test old runner call may outside new crossings on steps.1 waiting.0 waiting.1 waiting.2)
+
+  pub rolled_nothing : (new : Sight) → new ≡ old → Rolled calls test old new runner runner went.NoMemory
+  rolled_nothing new same = subst (λ (s : Sight). Rolled calls test old s runner runner went.NoMemory) (sym same) (record {
+    nears = record { same = refl; counts = may.counts; acts = acts_same runner.crossings.caller old; lined = λ line. line; balanced = λ even. even; served = may.served; sound = may.sound };
+    goes = (refl, marked_here runner.answered (old.seats runner.crossings.caller).flight waiting.0 waiting.1 waiting.2 may.served.marked);
+  })
+
+pub never_idle : (s : Sight) → recovers s.stage ≡ true → recovers s.stage ≡ false → ⊥
+never_idle s one other = let both : true ≡ false = sym one ∙ other in cc

@@ -1,0 +1,181 @@
+-- A call that is struck, or turned away with an old ticket, enters again.
+use Rattle.std.proofs.Common.{◌≡◌, ◌≢◌, List, [], ◌∷◌, ◌++◌, ℕ, ◌+◌, ◌-◌, ◌*◌, ◌<◌, ◌≤◌, Bool, true, false, cond, nat_eq, length, inl, inr, refl, ap, sym, subst, ◌∙◌, arith, Option, None, Some, IfSome, length-append}
+use Rattle.std.specs.List.{AllByRecursion}
+use Rattle.mb_edge.specs.Crossings.{next_nth}
+use Rattle.mb_edge.specs.declared.crossings.Crossing.{Crossing}
+use Rattle.mb_kinds.specs.declared.calls.Call.{Call}
+use Rattle.mb_kinds.specs.declared.faults.FaultRecord.{FaultRecord}
+use Rattle.mb_kinds.specs.declared.faults.Kind.{Kind}
+use Rattle.mb_kinds.specs.declared.faults.Ticket.{Ticket}
+use Rattle.mb_core_spec.specs.Copies.{PagesState}
+use Rattle.mb_run.specs.Pages.{has}
+use Rattle.mb_run.specs.Events.{Strikes}
+use Rattle.mb_run.specs.Served.{Asks, AreSound, Did, IsCounted, MayStep, Nears, backed, busy, counted, missing, rank, work}
+use Rattle.mb_run.specs.Sights.{HasTicket, IsOld, IsOrderly, Limits, Seat, Sight, one_if, recovers}
+use Rattle.mb_run.specs.declared.runner.At.{At}
+use Rattle.mb_run.specs.declared.runner.At.TheVariants as at
+use Rattle.mb_jobs.specs.declared.jobs.JobCall.{JobCall}
+use Rattle.mb_run.specs.declared.progress.Went.TheVariants as went
+use Rattle.mb_run.specs.declared.runner.Runner.{Runner}
+use Rattle.mb_run.proofs.Acting.{acts_same, acts_strikes}
+use Rattle.mb_run.proofs.Counting.{counted_are, counted_goes, counted_on, counted_push, counted_taken, sound_push}
+use Rattle.mb_run.proofs.Balance.{balanced_same}
+use Rattle.mb_run.proofs.Lines.{line_same}
+use Rattle.mb_run.proofs.Lists.{neq}
+use Rattle.mb_run.proofs.Missing.{missing_most}
+
+-- ---- numbers
+
+pub one_most : (b : Bool) → one_if b ≤ 1
+one_most true = omega arith
+one_most false = omega arith
+
+pub busy_most : (caller : ℕ) (floor : Option ℕ) → busy caller floor ≤ 1
+busy_most caller None = omega arith
+busy_most caller (Some holder) = elim (nat_eq holder caller) as (λ b. cond b 0 1 ≤ 1) [ true ↦ omega arith | false ↦ omega arith ]
+
+pub rank_most : (incarnation stales : ℕ) (pages : PagesState) (a : At) → rank incarnation stales pages a ≤ 8388608
+rank_most incarnation stales pages at.Outside = omega arith
+rank_most incarnation stales pages (at.Inside ticket) = elim (nat_eq ticket.incarnation incarnation) as (λ b. cond b (2 * ((4 - stales) * 262146 + missing (has pages) 262144 + 1)) 8388608 ≤ 8388608) [
+  | true ↦ omega (arith, missing_most (has pages) 262144)
+  | false ↦ omega arith
+]
+rank_most incarnation stales pages (at.Logged ticket) = elim (nat_eq ticket.incarnation incarnation) as (λ b. cond b 0 8388608 ≤ 8388608) [ true ↦ omega arith | false ↦ omega arith ]
+
+-- the ticket that a place has
+abbrev pub IsIn : At → Ticket → Type 0
+IsIn at.Outside ticket = ⊥
+IsIn (at.Inside mine) ticket = mine ≡ ticket
+IsIn (at.Logged mine) ticket = mine ≡ ticket
+
+pub rank_old : (incarnation stales : ℕ) (pages : PagesState) (a : At) (ticket : Ticket) → IsIn a ticket → ticket.incarnation ≢ incarnation → rank incarnation stales pages a ≡ 8388608
+rank_old incarnation stales pages at.Outside ticket is old = absurd is
+rank_old incarnation stales pages (at.Inside mine) ticket is old =
+    ap (λ b. cond b (2 * ((4 - stales) * 262146 + missing (has pages) 262144 + 1)) 8388608) (neq mine.incarnation incarnation (λ same. old (ap (λ (t : Ticket). t.incarnation) (sym is) ∙ same)))
+rank_old incarnation stales pages (at.Logged mine) ticket is old = ap (λ b. cond b 0 8388608) (neq mine.incarnation incarnation (λ same. old (ap (λ (t : Ticket). t.incarnation) (sym is) ∙ same)))
+
+abbrev strike_at : Ticket → Kind → ℕ → FaultRecord
+strike_at ticket kind nth = record { caller = ticket.caller; ordinal = ticket.ordinal; kind = kind; nth = nth }
+
+-- ---- the ticket of a call that stands inside
+
+pub record Stands (sight : Sight) (caller : ℕ) (runner : Runner) (ticket : Ticket) : Type 0 where
+  pub is : IsIn runner.at ticket
+  pub done : Bool
+  pub has : HasTicket done (sight.seats caller) ticket
+  pub past : ticket.incarnation ≤ sight.incarnation
+
+old_flight : (incarnation : ℕ) (seat : Seat) (done : Bool) (ticket : Ticket) → HasTicket done seat ticket → ticket.incarnation < incarnation → IsOld incarnation seat.flight
+old_flight incarnation seat done ticket here past = rw here.here (rw here.mine past)
+
+module _ (calls : List JobCall) (test : Option (Crossing → Bool)) (old : Sight) (runner : Runner) (call : Call) (may : MayStep calls test old runner call) where
+  -- the hook let the call go on
+  pub may_counted : (kind : Kind) → MayStep calls test old (record runner { crossings = counted runner.crossings kind }) call
+  may_counted kind = record {
+    served = record {
+      caller_is = may.served.caller_is;
+      ordinal = may.served.ordinal;
+      calls = may.served.calls;
+      stands = may.served.stands;
+      marked = may.served.marked;
+      counted = counted_on runner.crossings (counted runner.crossings kind) old.records (counted_goes runner.crossings kind may.counts) may.served.counted;
+    };
+    sound = may.sound;
+    within = may.within;
+    most = may.most;
+    small = may.small;
+    next = may.next;
+    counts = counted_are runner.crossings kind may.counts;
+    right = may.right;
+  }
+
+  -- nothing changed but that the call is back
+  back_counted : (ticket : Ticket) (kind : Kind) → Stands old runner.crossings.caller runner ticket → ticket.incarnation ≢ old.incarnation → Nears calls test old old runner (backed (record runner { crossings = counted runner.crossings kind }))
+  back_counted ticket kind stands older = record {
+    same = refl;
+    counts = counted_are runner.crossings kind may.counts;
+    acts = acts_same runner.crossings.caller old;
+    lined = λ line. line;
+    balanced = λ even. even;
+    served = record {
+      caller_is = refl;
+      ordinal = may.served.ordinal;
+      calls = may.served.calls;
+      marked = may.served.marked;
+      stands = old_flight old.incarnation (old.seats runner.crossings.caller) stands.done ticket stands.has (omega (arith, stands.past));
+      counted = (may_counted kind).served.counted;
+    };
+    sound = may.sound;
+  }
+
+  pub back_same : (ticket : Ticket) → Stands old runner.crossings.caller runner ticket → ticket.incarnation ≢ old.incarnation → Nears calls test old old runner (backed runner)
+  back_same ticket stands older = record {
+    same = refl;
+    counts = may.counts;
+    acts = acts_same runner.crossings.caller old;
+    lined = λ line. line;
+    balanced = λ even. even;
+    served = record {
+      caller_is = refl;
+      ordinal = may.served.ordinal;
+      calls = may.served.calls;
+      marked = may.served.marked;
+      stands = old_flight old.incarnation (old.seats runner.crossings.caller) stands.done ticket stands.has (omega (arith, stands.past));
+      counted = may.served.counted;
+    };
+    sound = may.sound;
+  }
+
+  pub back_less : (ticket : Ticket) → Stands old runner.crossings.caller runner ticket → ticket.incarnation ≢ old.incarnation → work old runner.crossings.caller (backed runner) < work old runner.crossings.caller runner
+  back_less ticket stands older = let top = rank_old old.incarnation (old.stales runner.crossings.caller) runner.pages runner.at ticket stands.is older in omega (arith, top)
+
+  pub did_back : (ticket : Ticket) → Stands old runner.crossings.caller runner ticket → ticket.incarnation ≢ old.incarnation → Did calls test old old runner (backed runner) went.Back
+  did_back ticket stands older = record { nears = back_same ticket stands older; goes = (refl, back_less ticket stands older) }
+
+  -- the call is struck
+  pub struck_near : (new : Sight) (ticket : Ticket) (kind : Kind) → Stands old runner.crossings.caller runner ticket → ticket.caller ≡ runner.crossings.caller → ticket.ordinal ≡ runner.crossings.ordinal
+      → IfSome test (λ fires. fires (record { caller = runner.crossings.caller; ordinal = runner.crossings.ordinal; kind = kind; nth = next_nth runner.crossings.counts kind }) ≡ true)
+      → Strikes old new ticket kind (next_nth runner.crossings.counts kind)
+      → Nears calls test old new runner (backed (record runner { crossings = counted runner.crossings kind }))
+  struck_near new ticket kind stands own ordinal holds strikes =
+      let fault : FaultRecord = record { caller = runner.crossings.caller; ordinal = runner.crossings.ordinal; kind = kind; nth = next_nth runner.crossings.counts kind } in
+      let same : strike_at ticket kind (next_nth runner.crossings.counts kind) ≡ fault = ap (λ n. record { caller = n; ordinal = ticket.ordinal; kind = kind; nth = next_nth runner.crossings.counts kind }) own ∙ ap (λ n. record { caller = runner.crossings.caller; ordinal = n; kind = kind; nth = next_nth runner.crossings.counts kind }) ordinal in
+      let more : new.records ≡ old.records ++ fault ∷ [] = strikes.records ∙ ap (λ (r : FaultRecord). old.records ++ r ∷ []) same in
+      let taken = counted_taken test runner.crossings kind may.counts holds in
+      record {
+        same = refl;
+        counts = counted_are runner.crossings kind may.counts;
+        acts = acts_strikes runner.crossings.caller old new ticket kind (next_nth runner.crossings.counts kind) own strikes;
+        lined = line_same runner.crossings.caller old new strikes.config strikes.counts (strikes.seats runner.crossings.caller);
+        balanced = balanced_same old new strikes.counts;
+        served = record {
+          caller_is = refl;
+          ordinal = may.served.ordinal;
+          calls = rw (strikes.counts.history, strikes.seats runner.crossings.caller) may.served.calls;
+          marked = rw (strikes.seats runner.crossings.caller) may.served.marked;
+          stands = rw (strikes.seats runner.crossings.caller) (old_flight new.incarnation (old.seats runner.crossings.caller) stands.done ticket stands.has (omega (arith, stands.past, strikes.incarnation)));
+          counted = subst (λ rs. AllByRecursion (IsCounted (counted runner.crossings kind)) rs) (sym more)
+              (counted_push test runner.crossings (counted runner.crossings kind) old.records fault (counted_goes runner.crossings kind may.counts) taken may.served.counted);
+        };
+        sound = subst (AreSound test) (sym more) (sound_push test runner.crossings (counted runner.crossings kind) old.records fault taken may.served.counted may.sound);
+      }
+
+  pub struck_less : (new : Sight) (ticket : Ticket) (kind : Kind) (nth : ℕ) (now : Runner) → IsOrderly new → Strikes old new ticket kind nth → work new runner.crossings.caller now < work old runner.crossings.caller runner
+  struck_less new ticket kind nth now right strikes =
+      let more : length new.records ≡ length old.records + 1 = ap length strikes.records ∙ length-append old.records (record { caller = ticket.caller; ordinal = ticket.ordinal; kind = kind; nth = nth } ∷ []) in
+      let limit : new.config.limit ≡ old.config.limit = ap (λ (l : Limits). l.limit) strikes.config in
+      omega (arith, more, limit, right.records, one_most (recovers new.stage), rank_most new.incarnation (new.stales runner.crossings.caller) now.pages now.at, busy_most runner.crossings.caller new.floor)
+
+  -- where the hook was asked: the call is back
+  pub did_asked : (new : Sight) (now : Runner) (ticket : Ticket) (kind : Kind) → Stands old runner.crossings.caller runner ticket → ticket.caller ≡ runner.crossings.caller → ticket.ordinal ≡ runner.crossings.ordinal
+      → IsOrderly new → Asks test old new runner now ticket kind true → Did calls test old new runner now went.Back
+  did_asked new now ticket kind stands own ordinal right asks = elim asks.2 [
+    | inl skipped ↦ subst (λ (s : Sight). Did calls test old s runner now went.Back) (sym skipped.1) (subst (λ (r : Runner). Did calls test old old runner r went.Back) (sym asks.0) (record {
+      nears = back_counted ticket kind stands skipped.0;
+      goes = (refl, back_less ticket stands skipped.0);
+    }))
+    | inr struck ↦ subst (λ (r : Runner). Did calls test old new runner r went.Back) (sym asks.0) (record {
+      nears = struck_near new ticket kind stands own ordinal asks.1 struck.1;
+      goes = (refl, struck_less new ticket kind (next_nth runner.crossings.counts kind) (backed (record runner { crossings = counted runner.crossings kind })) right struck.1);
+    })
+  ]

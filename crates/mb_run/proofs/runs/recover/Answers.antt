@@ -1,0 +1,24 @@
+use Rattle.std.proofs.Common.{refl, ◌∙◌}
+use Rattle.mb_run.proofs.Going.{rolling_begin, rolling_on, rolling_ends, rolling_back, rolling_stops}
+use Rattle.mb_run.proofs.runs.recover.Goals as goal
+
+pub steps-init : goal.steps-init
+steps-init g c = record { rolling = rolling_begin _ _ _ _ _ c.requires.may c.requires.outside c.requires.waits c.requires.recovered; test = refl }
+
+pub roll-requires-clause-may : goal.roll-requires-clause-may
+roll-requires-clause-may g c = rw c.steps.invariant.test c.steps.invariant.rolling.may
+
+pub steps-preserved : goal.steps-preserved
+steps-preserved g c = record { rolling = rolling_on _ _ _ _ _ _ _ _ _ c.steps.invariant.rolling (rw c.steps.invariant.test at c.in-On.ensures.rolled) c.roll.ensures.right; test = c.roll.ensures.test ∙ c.steps.invariant.test }
+
+pub steps-smaller : goal.steps-smaller
+steps-smaller g c = c.in-On.ensures.rolled.goes.4
+
+pub returns-in-Ended-clause-recovers : goal.returns-in-Ended-clause-recovers
+returns-in-Ended-clause-recovers g c = rolling_ends _ _ _ _ _ _ _ _ _ c.steps.invariant.rolling (rw c.steps.invariant.test at c.in-Ended.ensures.rolled)
+
+pub returns-in-Back-clause-recovers : goal.returns-in-Back-clause-recovers
+returns-in-Back-clause-recovers g c = rolling_back _ _ _ _ _ _ _ _ _ c.steps.invariant.rolling (rw c.steps.invariant.test at c.in-Back.ensures.rolled)
+
+pub returns-in-NoMemory-clause-recovers : goal.returns-in-NoMemory-clause-recovers
+returns-in-NoMemory-clause-recovers g c = rolling_stops _ _ _ _ _ _ _ _ _ c.steps.invariant.rolling (rw c.steps.invariant.test at c.in-NoMemory.ensures.rolled)

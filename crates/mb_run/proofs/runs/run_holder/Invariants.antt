@@ -1,0 +1,14 @@
+use Rattle.std.proofs.Common.{◌≡◌}
+use Rattle.mb_run.specs.Served.{IsMine, work}
+use Rattle.mb_run.proofs.Going.{IsTurning}
+use Rattle.mb_run.proofs.runs.run_holder.Given as goal
+
+abbrev pub invariant-turns : goal.invariant-turns
+invariant-turns g l = record {
+  turning : IsTurning l.calls (g.H.Hook.test l.fn.hook) (g.C.EventCore.sight l.fn.core) (g.C.EventCore.sight l.core) l.fn.runner l.runner l.call;
+  mine : IsMine l.fn.runner.crossings.caller (g.C.EventCore.sight l.core).floor;
+  test : g.H.Hook.test l.hook ≡ g.H.Hook.test l.fn.hook;
+}
+
+abbrev pub decreases-turns : goal.decreases-turns
+decreases-turns g l = work (g.C.EventCore.sight l.core) l.runner.crossings.caller l.runner

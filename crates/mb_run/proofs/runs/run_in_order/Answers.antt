@@ -1,0 +1,33 @@
+use Rattle.std.proofs.Common.{◌≡◌, ◌<◌, ◌∙◌, ap, sym, arith, length, Some, slice_get}
+use Rattle.std.proofs.Math.ListN.{length-set}
+use Rattle.std.proofs.lemmas.Option.{slice_get-get_or}
+use Rattle.mb_run.proofs.InOrder.{all_callers, order_after, order_may, order_mine, order_over}
+use Rattle.mb_run.proofs.runs.run_in_order.Goals as goal
+
+pub returns : goal.returns
+returns g c = λ done. order_over _ _ _ _ _ c.loop-made-test.false c.loop-made.invariant.after
+
+pub run_holder-requires-clause-may : goal.run_holder-requires-clause-may
+run_holder-requires-clause-may g c =
+    let here : slice_get c.args.calls.now c.loop-made.made-index ≡ Some c.made-item.result = slice_get-get_or c.args.calls.now c.loop-made.made-index c.made-item.result c.loop-made-test.true ∙ ap Some (sym c.made-item.is) in
+    let few : c.made-item.result.caller < length c.args.runners.now = all_callers c.args.calls.now (length c.args.runners.now) c.loop-made.made-index c.made-item.result c.requires.callers here in
+    let low : c.made-item.result.caller < length c.loop-made.runners = omega (arith, few, c.loop-made.invariant.size) in
+    rw c.loop-made.invariant.test (order_may _ _ _ _ _ c.loop-made.invariant.after c.made-item.result here _ low)
+
+pub run_holder-requires-clause-mine : goal.run_holder-requires-clause-mine
+run_holder-requires-clause-mine g c =
+    let here : slice_get c.args.calls.now c.loop-made.made-index ≡ Some c.made-item.result = slice_get-get_or c.args.calls.now c.loop-made.made-index c.made-item.result c.loop-made-test.true ∙ ap Some (sym c.made-item.is) in
+    let few : c.made-item.result.caller < length c.args.runners.now = all_callers c.args.calls.now (length c.args.runners.now) c.loop-made.made-index c.made-item.result c.requires.callers here in
+    let low : c.made-item.result.caller < length c.loop-made.runners = omega (arith, few, c.loop-made.invariant.size) in
+    order_mine _ _ _ _ _ c.loop-made.invariant.after c.made-item.result here _ low
+
+pub loop-made-preserved : goal.loop-made-preserved
+loop-made-preserved g c =
+    let here : slice_get c.args.calls.now c.loop-made.made-index ≡ Some c.made-item.result = slice_get-get_or c.args.calls.now c.loop-made.made-index c.made-item.result c.loop-made-test.true ∙ ap Some (sym c.made-item.is) in
+    let few : c.made-item.result.caller < length c.args.runners.now = all_callers c.args.calls.now (length c.args.runners.now) c.loop-made.made-index c.made-item.result c.requires.callers here in
+    let low : c.made-item.result.caller < length c.loop-made.runners = omega (arith, few, c.loop-made.invariant.size) in
+    record {
+      after = order_after _ _ _ _ _ c.loop-made.invariant.after c.made-item.result here _ low _ _ (rw c.loop-made.invariant.test at c.if-not-run_holder.ensures.ran) c.run_holder.ensures.right;
+      size = length-set c.loop-made.runners c.made-item.result.caller c.run_holder.new.runner ∙ c.loop-made.invariant.size;
+      test = c.run_holder.ensures.test ∙ c.loop-made.invariant.test;
+    }

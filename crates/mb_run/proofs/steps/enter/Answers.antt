@@ -1,0 +1,21 @@
+use Rattle.mb_run.proofs.Entered.{did_done, did_shut, may_inside, did_inside, did_not_enter}
+use Rattle.mb_run.proofs.Inside.{room}
+use Rattle.mb_run.proofs.steps.enter.Goals as goal
+
+pub advance-requires-clause-done : goal.advance-requires-clause-done
+advance-requires-clause-done g c = room _ _ _ _ _ c.requires.may
+
+pub returns-in-Done-clause-did : goal.returns-in-Done-clause-did
+returns-in-Done-clause-did g c = rw c.advance.ensures (did_done _ _ _ _ _ c.requires.may _ _ c.in-Done.ensures.enters)
+
+pub returns-in-Shut-clause-did : goal.returns-in-Shut-clause-did
+returns-in-Shut-clause-did g c = did_shut _ _ _ _ _ c.requires.may c.requires.outside _ c.in-Shut.ensures.enters
+
+pub returns-in-NoMemory-clause-did : goal.returns-in-NoMemory-clause-did
+returns-in-NoMemory-clause-did g c = did_not_enter _ _ _ _ _ c.requires.may _ c.in-NoMemory.ensures.enters
+
+pub go_in-requires-clause-may : goal.go_in-requires-clause-may
+go_in-requires-clause-may g c = rw c.clear.ensures (may_inside _ _ _ _ _ c.requires.may c.requires.outside _ _ c.in-Inside.ensures.enters c.enter.ensures.right)
+
+pub returns-in-Inside-clause-did : goal.returns-in-Inside-clause-did
+returns-in-Inside-clause-did g c = did_inside _ _ _ _ _ c.requires.may c.requires.outside _ _ _ _ _ c.in-Inside.ensures.enters (rw c.clear.ensures at c.go_in.ensures.did)

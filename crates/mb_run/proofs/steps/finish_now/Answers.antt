@@ -1,0 +1,28 @@
+use Rattle.std.proofs.Common.{sym, subst}
+use Rattle.mb_run.specs.Served.{Did, backed}
+use Rattle.mb_run.specs.Sights.{Sight}
+use Rattle.mb_run.specs.declared.progress.Went.TheVariants as went
+use Rattle.mb_run.proofs.Inside.{inside_back, did_busy, did_nothing, did_stale, did_log}
+use Rattle.mb_run.proofs.Finishing.{did_seals, logged_runs, ready_at}
+use Rattle.mb_run.proofs.steps.finish_now.Goals as goal
+
+pub returns-in-Skip-clause-did : goal.returns-in-Skip-clause-did
+returns-in-Skip-clause-did g c = rw c.back.ensures (subst (λ (s : Sight). Did c.args.calls.now (g.H.Hook.test c.args.hook.now) (g.C.EventCore.sight c.args.core.now) s c.args.runner.now (backed c.args.runner.now) went.Back) (sym c.in-Skip.ensures.finishes.1) (inside_back _ _ _ _ _ c.requires.may c.args.ticket.now c.requires.inside c.in-Skip.ensures.finishes.0))
+
+pub returns-in-Busy-clause-did : goal.returns-in-Busy-clause-did
+returns-in-Busy-clause-did g c = did_busy _ _ _ _ _ c.requires.may c.args.ticket.now c.requires.inside _ c.in-Busy.holder c.in-Busy.ensures.finishes
+
+pub returns-in-Stale-clause-did : goal.returns-in-Stale-clause-did
+returns-in-Stale-clause-did g c = rw c.clear.ensures (did_stale _ _ _ _ _ c.requires.may c.args.ticket.now c.requires.inside _ c.in-Stale.block c.in-Stale.ensures.finishes)
+
+pub returns-in-NoMemory-clause-did : goal.returns-in-NoMemory-clause-did
+returns-in-NoMemory-clause-did g c = subst (λ (s : Sight). Did c.args.calls.now (g.H.Hook.test c.args.hook.now) (g.C.EventCore.sight c.args.core.now) s c.args.runner.now c.args.runner.now went.NoMemory) (sym c.in-NoMemory.ensures.finishes.1) (did_nothing _ _ _ _ _ c.requires.may c.args.ticket.now c.requires.inside)
+
+pub returns-in-Logged-clause-did : goal.returns-in-Logged-clause-did
+returns-in-Logged-clause-did g c = did_seals _ _ _ _ _ _ _ _ (did_log _ _ _ _ _ c.requires.may c.args.ticket.now c.requires.inside _ c.in-Logged.ensures.finishes) c.seal_if_due.ensures.seals
+
+pub seal_if_due-requires-clause-runs : goal.seal_if_due-requires-clause-runs
+seal_if_due-requires-clause-runs g c = logged_runs _ _ _ _ _ c.requires.may c.args.ticket.now c.requires.inside _ c.in-Logged.ensures.finishes
+
+pub finish-finished-requires-clause-ready : goal.finish-finished-requires-clause-ready
+finish-finished-requires-clause-ready g c = ready_at _ _ _ _ _ c.requires.may c.args.ticket.now c.requires.inside _ c.requires.ready

@@ -1,0 +1,22 @@
+use Rattle.mb_kinds.specs.declared.faults.Kind.TheVariants as kind
+use Rattle.mb_core_state.specs.declared.answers.Gathered.TheVariants as gathered
+use Rattle.mb_run.proofs.Inside.{inside_asked, asked_gather, asked_room}
+use Rattle.mb_run.proofs.steps.gather.Goals as goal
+
+pub returns-then-is_struck-clause-did : goal.returns-then-is_struck-clause-did
+returns-then-is_struck-clause-did g c = inside_asked _ _ _ _ _ c.requires.may _ c.requires.inside _ _ kind.Gather c.is_struck.ensures.right c.if-is_struck.ensures.asks
+
+pub advance-requires-clause-done : goal.advance-requires-clause-done
+advance-requires-clause-done g c = asked_room _ _ _ _ _ _ _ c.args.ticket.now kind.Gather c.requires.may c.if-is_struck.ensures.asks
+
+pub returns-in-Skip-clause-did : goal.returns-in-Skip-clause-did
+returns-in-Skip-clause-did g c = rw c.back.ensures (asked_gather _ _ _ _ _ _ _ _ c.args.ticket.now kind.Gather c.args.need c.gather.new.pages (gathered.Skip c.in-Skip.mine c.in-Skip.now) c.requires.may c.requires.inside c.if-is_struck.ensures.asks c.requires.lacks c.requires.first c.in-Skip.ensures.gathers)
+
+pub returns-in-Device-clause-did : goal.returns-in-Device-clause-did
+returns-in-Device-clause-did g c = rw c.advance.ensures (asked_gather _ _ _ _ _ _ _ _ c.args.ticket.now kind.Gather c.args.need c.gather.new.pages gathered.Device c.requires.may c.requires.inside c.if-is_struck.ensures.asks c.requires.lacks c.requires.first c.in-Device.ensures.gathers)
+
+pub returns-in-NoMemory-clause-did : goal.returns-in-NoMemory-clause-did
+returns-in-NoMemory-clause-did g c = asked_gather _ _ _ _ _ _ _ _ c.args.ticket.now kind.Gather c.args.need c.gather.new.pages gathered.NoMemory c.requires.may c.requires.inside c.if-is_struck.ensures.asks c.requires.lacks c.requires.first c.in-NoMemory.ensures.gathers
+
+pub returns-in-Done-clause-did : goal.returns-in-Done-clause-did
+returns-in-Done-clause-did g c = asked_gather _ _ _ _ _ _ _ _ c.args.ticket.now kind.Gather c.args.need c.gather.new.pages gathered.Done c.requires.may c.requires.inside c.if-is_struck.ensures.asks c.requires.lacks c.requires.first c.in-Done.ensures.gathers

@@ -1,0 +1,9 @@
+use Rattle.mb_kinds.specs.declared.faults.Kind.TheVariants as kind
+use Rattle.mb_run.proofs.Inside.{inside_asked, in_on, in_back}
+use Rattle.mb_run.proofs.steps.go_in.Goals as goal
+
+pub returns-then-is_struck-clause-did : goal.returns-then-is_struck-clause-did
+returns-then-is_struck-clause-did g c = in_back _ _ _ _ _ _ (inside_asked _ _ _ _ _ c.requires.may _ c.requires.inside _ _ kind.Enter c.is_struck.ensures.right c.if-is_struck.ensures.asks)
+
+pub returns-clause-did : goal.returns-clause-did
+returns-clause-did g c = in_on _ _ _ _ _ _ _ c.args.ticket.now kind.Enter c.requires.may c.if-is_struck.ensures.asks

@@ -1,0 +1,212 @@
+-- What the events of a core make of what the driver sees, by their answers.
+use Rattle.std.specs.Prelude.{ℕ, ◌+◌, ◌<◌, ◌≡◌, ◌≢◌, ◌⊎◌, [], ◌∷◌, ◌++◌, length, min, true, false, Option, Some, None}
+use Rattle.mb_kinds.specs.declared.calls.Call.{Call}
+use Rattle.mb_kinds.specs.declared.entries.Entry.{Entry}
+use Rattle.mb_kinds.specs.declared.entries.Flight.{Flight}
+use Rattle.mb_kinds.specs.declared.faults.Kind.{Kind}
+use Rattle.mb_kinds.specs.declared.faults.Ticket.{Ticket}
+use Rattle.mb_kinds.specs.declared.replies.Reply.{Reply}
+use Rattle.mb_kinds.specs.declared.replies.Reply.TheVariants as reply
+use Rattle.mb_core_spec.specs.Copies.{PagesState, no_pages, shown}
+use Rattle.mb_run.specs.Pages.{HasTablesFor, Performs, has}
+use Rattle.mb_run.specs.Sights.{Sight, one_if, recovers, flight_of, is_new, IsOld}
+use Rattle.mb_calls.specs.declared.performing.Ready.{Ready}
+use Rattle.mb_calls.specs.declared.performing.Performed.{Performed}
+use Rattle.mb_calls.specs.declared.performing.Performed.TheVariants as performed
+use Rattle.mb_cache.specs.declared.answers.Flushed.{Flushed}
+use Rattle.mb_cache.specs.declared.answers.Flushed.TheVariants as flushed
+use Rattle.mb_iface.specs.Needs.{IsNeed}
+use Rattle.mb_core_spec.specs.declared.steps.Step.TheVariants as step
+use Rattle.mb_run.specs.declared.answers.Enter.{Enter}
+use Rattle.mb_run.specs.declared.answers.Enter.TheVariants as enter
+use Rattle.mb_core_state.specs.declared.answers.Gathered.{Gathered}
+use Rattle.mb_core_state.specs.declared.answers.Gathered.TheVariants as gathered
+use Rattle.mb_core_state.specs.declared.answers.Finished.{Finished}
+use Rattle.mb_core_state.specs.declared.answers.Finished.TheVariants as finished
+use Rattle.mb_core_state.specs.declared.answers.Left.{Left}
+use Rattle.mb_core_state.specs.declared.answers.Left.TheVariants as left
+use Rattle.mb_core_state.specs.declared.answers.Fault.{Fault}
+use Rattle.mb_core_state.specs.declared.answers.Fault.TheVariants as fault
+use Rattle.mb_iface.specs.declared.replies.Need.{Need}
+use Rattle.mb_core_spec.specs.declared.stages.Stage.TheVariants as stage
+
+-- what every event of one caller but a fault leaves as it is
+pub record Stays (caller : ℕ) (old new : Sight) : Type 0 where
+  pub config : new.config ≡ old.config
+  pub records : new.records ≡ old.records
+  pub stage : new.stage ≡ old.stage
+  pub incarnation : new.incarnation ≡ old.incarnation
+  pub seats : (other : ℕ) → other ≢ caller → new.seats other ≡ old.seats other
+  pub copies : (other : ℕ) → other ≢ caller → new.copies other ≡ old.copies other
+  pub stales : (other : ℕ) → other ≢ caller → new.stales other ≡ old.stales other
+
+-- no call begins or ends, and no entry is added
+pub record Counts (old new : Sight) : Type 0 where
+  pub history : new.history ≡ old.history
+  pub begun : new.begun ≡ old.begun
+  pub open_calls : new.open_calls ≡ old.open_calls
+
+-- the call is in flight and waits
+pub record Begins (caller : ℕ) (flight : Flight) (old new : Sight) : Type 0 where
+  pub stays : Stays caller old new
+  pub mine : new.seats caller ≡ record { begun = flight.ordinal; flight = Some flight }
+  pub history : new.history ≡ old.history
+  pub begun : new.begun ≡ old.begun + one_if (is_new (old.seats caller).flight)
+  pub open_calls : new.open_calls ≡ old.open_calls + one_if (is_new (old.seats caller).flight)
+  pub floor : new.floor ≡ old.floor
+
+abbrev pub entry_of : ℕ → Flight → Option ℕ → Reply → Entry
+entry_of caller flight pick answer = record { caller = caller; ordinal = flight.ordinal; call = flight.call; pick = pick; moment = flight.moment; reply = answer }
+
+-- the flight, which has no entry, gets one that changes nothing and ends
+pub record Answers (caller : ℕ) (flight : Flight) (answer : Reply) (old new : Sight) : Type 0 where
+  pub stays : Stays caller old new
+  pub mine : new.seats caller ≡ record { begun = flight.ordinal; flight = None }
+  pub history : new.history ≡ old.history ++ entry_of caller flight None answer ∷ []
+  pub begun : new.begun ≡ old.begun + one_if (is_new (old.seats caller).flight)
+  pub open_calls : new.open_calls + 1 ≡ old.open_calls + one_if (is_new (old.seats caller).flight)
+  pub floor : (new.floor ≡ None) ⊎ (new.floor ≡ old.floor)
+
+-- the flight, which has its entry, ends
+pub record Leaves (caller : ℕ) (flight : Flight) (old new : Sight) : Type 0 where
+  pub stays : Stays caller old new
+  pub was : (old.seats caller).flight ≡ Some flight
+  pub answered : flight.answered ≡ true
+  pub mine : new.seats caller ≡ record { begun = flight.ordinal; flight = None }
+  pub counts : Counts old new
+  pub floor : (new.floor ≡ None) ⊎ (new.floor ≡ old.floor)
+
+-- EIO for a restart, or the failed volume's answer
+abbrev pub IsUnplain : Reply → Type 0
+IsUnplain (reply.Restart first second) = Unit {0}
+IsUnplain reply.Device = Unit {0}
+IsUnplain (reply.Failed faults) = Unit {0}
+IsUnplain _ = ⊥
+
+pub record EntersInside (old new : Sight) (caller : ℕ) (call : Call) (ticket : Ticket) : Type 0 where
+  pub begins : Begins caller (record (flight_of old caller call (old.seats caller).flight) { ticket = Some ticket }) old new
+  pub runs : old.stage ≡ stage.Running
+  pub own : ticket.caller ≡ caller
+  pub ordinal : ticket.ordinal ≡ (flight_of old caller call (old.seats caller).flight).ordinal
+  pub moment : ticket.moment ≡ (flight_of old caller call (old.seats caller).flight).moment
+  pub present : ticket.incarnation ≡ old.incarnation
+  pub lacks : (flight_of old caller call (old.seats caller).flight).answered ≡ false
+  pub empty : IsOld old.incarnation (old.seats caller).flight → new.copies caller ≡ no_pages
+  pub never : IsOld old.incarnation (old.seats caller).flight → new.stales caller ≡ 0
+  pub fresh : IsOld old.incarnation (old.seats caller).flight → new.fresh caller ≡ true
+  pub trail : IsOld old.incarnation (old.seats caller).flight → new.trail ≡ old.trail ++ step.Entered ticket ∷ []
+
+abbrev pub Enters : Sight → Sight → ℕ → Call → Enter → Type 0
+Enters old new caller call (enter.Done answer) =
+    ((flight : Flight) × Leaves caller flight old new)
+    ⊎ (((flight_of old caller call (old.seats caller).flight).answered ≡ false) × IsUnplain answer × Answers caller (flight_of old caller call (old.seats caller).flight) answer old new)
+Enters old new caller call enter.Shut =
+    (recovers old.stage ≡ true) × ((flight_of old caller call (old.seats caller).flight).answered ≡ false) × Begins caller (flight_of old caller call (old.seats caller).flight) old new
+Enters old new caller call (enter.Inside ticket) = EntersInside old new caller call ticket
+Enters old new caller call enter.NoMemory = (new ≡ old) × ((flight_of old caller call (old.seats caller).flight).answered ≡ false)
+
+-- blocks are gathered, into the flight and into the caller's pages alike
+pub record Gains (caller : ℕ) (old new : Sight) (need : Need) (before now : PagesState) : Type 0 where
+  pub stays : Stays caller old new
+  pub mine : new.seats caller ≡ old.seats caller
+  pub counts : Counts old new
+  pub floor : new.floor ≡ old.floor
+  pub same : old.copies caller ≡ before → new.copies caller ≡ now
+  pub stales : new.stales caller ≡ old.stales caller
+  pub fresh : old.fresh caller ≡ true → new.fresh caller ≡ true
+  pub got : has now need.first ≡ true
+  pub keeps : (block : ℕ) → has before block ≡ true → has now block ≡ true
+  pub tables : HasTablesFor old.config.callers before → HasTablesFor old.config.callers now
+  pub trail : new.trail ≡ old.trail
+
+abbrev pub Gathers : Sight → Sight → Ticket → Need → PagesState → PagesState → Gathered → Type 0
+Gathers old new ticket need before now (gathered.Skip mine was) = (ticket.incarnation ≢ old.incarnation) × (new ≡ old) × (now ≡ before)
+Gathers old new ticket need before now gathered.Device = (ticket.incarnation ≡ old.incarnation) × ((flight : Flight) → (old.seats ticket.caller).flight ≡ Some flight → Answers ticket.caller flight reply.Device old new)
+Gathers old new ticket need before now gathered.NoMemory = (new ≡ old) × (now ≡ before)
+Gathers old new ticket need before now gathered.Done = (ticket.incarnation ≡ old.incarnation) × Gains ticket.caller old new need before now
+
+-- the pins and the copies are given back
+pub record IsStale (caller : ℕ) (old new : Sight) (pages : PagesState) : Type 0 where
+  pub stays : Stays caller old new
+  pub mine : new.seats caller ≡ old.seats caller
+  pub counts : Counts old new
+  pub was : (old.floor ≡ None) ⊎ (old.floor ≡ Some caller)
+  pub floor : (new.floor ≡ None) ⊎ (new.floor ≡ Some caller)
+  pub empty : new.copies caller ≡ no_pages
+  pub fresh : new.fresh caller ≡ true
+  pub few : old.copies caller ≡ pages → old.stales caller < 4
+  pub spoiled : old.copies caller ≡ pages → old.fresh caller ≡ false
+  pub stales : new.stales caller ≡ min (old.stales caller + 1) 4
+
+pub record Logs (caller : ℕ) (old new : Sight) (ticket : Ticket) : Type 0 where
+  pub stays : Stays caller old new
+  pub flight : Flight
+  pub was : (old.seats caller).flight ≡ Some flight
+  pub mine : new.seats caller ≡ record { begun = flight.ordinal; flight = Some (record flight { answered = true }) }
+  pub pick : Option ℕ
+  pub answer : Reply
+  pub history : new.history ≡ old.history ++ entry_of caller flight pick answer ∷ []
+  pub begun : new.begun ≡ old.begun
+  pub open_calls : new.open_calls + 1 ≡ old.open_calls
+  pub floor : new.floor ≡ None
+  pub trail : new.trail ≡ old.trail ++ step.Logged ticket ∷ []
+
+abbrev pub Finishes : Sight → Sight → Ticket → PagesState → Finished → Type 0
+Finishes old new ticket pages (finished.Skip mine was) = (ticket.incarnation ≢ old.incarnation) × (new ≡ old)
+Finishes old new ticket pages (finished.Busy holder) = (ticket.incarnation ≡ old.incarnation) × (old.floor ≡ Some holder.caller) × (holder.caller ≢ ticket.caller) × (new ≡ old)
+Finishes old new ticket pages (finished.Stale block) = (ticket.incarnation ≡ old.incarnation) × IsStale ticket.caller old new pages
+Finishes old new ticket pages finished.NoMemory = (ticket.incarnation ≡ old.incarnation) × (new ≡ old)
+Finishes old new ticket pages finished.Logged = (ticket.incarnation ≡ old.incarnation) × ((old.floor ≡ None) ⊎ (old.floor ≡ Some ticket.caller)) × Logs ticket.caller old new ticket
+
+abbrev pub LeavesWith : Sight → Sight → Ticket → Left → Type 0
+LeavesWith old new ticket (left.Skip mine was) = (ticket.incarnation ≢ old.incarnation) × (new ≡ old)
+LeavesWith old new ticket (left.Left answer) = (ticket.incarnation ≡ old.incarnation) × ((flight : Flight) × Leaves ticket.caller flight old new)
+
+-- what a call is performed over that finishes, and what it came to
+abbrev pub IsReadyAt : Sight → Ticket → PagesState → Ready → Type 0
+IsReadyAt sight ticket pages ready = (flight : Flight) → (sight.seats ticket.caller).flight ≡ Some flight
+    → Performs pages ticket.caller flight.call flight.moment (performed.Ready ready)
+
+-- what is asked for is not there yet
+abbrev pub IsAsked : PagesState → Performed → Type 0
+IsAsked pages (performed.Need need) = IsNeed (shown pages.blocks) need
+IsAsked pages _ = Unit {0}
+
+-- a call is struck
+pub record Strikes (old new : Sight) (ticket : Ticket) (kind : Kind) (nth : ℕ) : Type 0 where
+  pub config : new.config ≡ old.config
+  pub records : new.records ≡ old.records ++ record { caller = ticket.caller; ordinal = ticket.ordinal; kind = kind; nth = nth } ∷ []
+  pub stage : new.stage ≡ stage.Struck
+  pub incarnation : new.incarnation ≡ old.incarnation + 1
+  pub seats : (other : ℕ) → new.seats other ≡ old.seats other
+  pub counts : Counts old new
+  pub floor : new.floor ≡ old.floor
+
+abbrev pub FaultsWith : Sight → Sight → Ticket → Kind → ℕ → Fault → Type 0
+FaultsWith old new ticket kind nth (fault.Skip mine was) = (ticket.incarnation ≢ old.incarnation) × (new ≡ old)
+FaultsWith old new ticket kind nth (fault.Struck number) = (ticket.incarnation ≡ old.incarnation) × Strikes old new ticket kind nth
+
+-- ---- what no caller does
+
+-- a checkpoint is taken
+abbrev pub sealed : Sight → Sight → Sight
+sealed old new = record old {
+  trail = old.trail ++ step.Sealed (length old.history) ∷ [];
+  ops = 0;
+  sealed_at = length old.history;
+  current = 0;
+  sealed = new.sealed;
+}
+
+-- a checkpointed page is written back
+abbrev pub FlushesWith : Sight → Sight → Flushed → Type 0
+FlushesWith old new flushed.One = (old.sealed ≡ new.sealed + 1) × (new ≡ record old { sealed = new.sealed })
+FlushesWith old new flushed.Clean = (old.sealed ≡ 0) × (new ≡ old)
+FlushesWith old new flushed.Device = new ≡ old
+
+-- a call in flight without an entry ends and gets none
+pub record Quits (caller : ℕ) (old new : Sight) : Type 0 where
+  pub stays : Stays caller old new
+  pub mine : (new.seats caller).flight ≡ None
+  pub history : new.history ≡ old.history
+  pub trail : new.trail ≡ old.trail

@@ -1,0 +1,6 @@
+pub mod Pages
+pub mod Sights
+pub mod Events
+pub mod Recovering
+pub mod Served
+pub mod Runs

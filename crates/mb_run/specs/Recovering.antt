@@ -1,0 +1,84 @@
+-- What a step of a recovery makes of what the driver sees, and of the crossings of the call that runs it.
+use Rattle.std.specs.Prelude.{ℕ, ◌<◌, ◌≤◌, ◌≡◌, ◌⊎◌, [], ◌∷◌, ◌++◌, length, slice_index, Bool, true, false, Option, Some, None, IfSome}
+use Rattle.mb_edge.specs.Crossings.{place_of}
+use Rattle.mb_edge.specs.declared.crossings.Crossing.{Crossing}
+use Rattle.mb_edge.specs.declared.crossings.Crossings.{Crossings}
+use Rattle.mb_kinds.specs.declared.entries.Flight.{Flight}
+use Rattle.mb_kinds.specs.declared.faults.FaultRecord.{FaultRecord}
+use Rattle.mb_kinds.specs.declared.faults.Kind.{Kind}
+use Rattle.mb_kinds.specs.declared.faults.Kind.TheVariants.{Remount, Replay}
+use Rattle.mb_kinds.specs.declared.replies.Reply.TheVariants as reply
+use Rattle.mb_run.specs.Events.{Counts, Answers}
+use Rattle.mb_run.specs.Sights.{Sight, recovers}
+use Rattle.mb_core_spec.specs.declared.stages.Stage.TheVariants as stage
+use Rattle.mb_run.specs.declared.answers.Stepped.{Stepped}
+use Rattle.mb_run.specs.declared.answers.Stepped.TheVariants as stepped
+
+-- the crossing of a fault record
+abbrev pub crossing_of : FaultRecord → Crossing
+crossing_of fault = record { caller = fault.caller; ordinal = fault.ordinal; kind = fault.kind; nth = fault.nth }
+
+-- the crossings of one call later on: its counts do not fall
+pub record GoesOn (before now : Crossings) : Type 0 where
+  pub caller : now.caller ≡ before.caller
+  pub ordinal : now.ordinal ≡ before.ordinal
+  pub counts : (kind : Kind) → slice_index before.counts (place_of kind) ≤ slice_index now.counts (place_of kind)
+  pub six : length now.counts ≡ length before.counts
+  pub fits : (kind : Kind) → slice_index now.counts (place_of kind) ≤ 4294967295
+
+-- a fault was taken at a crossing that came between
+pub record IsTaken (test : Option (Crossing → Bool)) (before now : Crossings) (fault : FaultRecord) : Type 0 where
+  pub caller : fault.caller ≡ before.caller
+  pub ordinal : fault.ordinal ≡ before.ordinal
+  pub counted : fault.nth ≤ slice_index now.counts (place_of fault.kind)
+  pub later : (slice_index before.counts (place_of fault.kind) < fault.nth) ⊎ (fault.nth ≡ 4294967295)
+  pub holds : IfSome test (λ fires. fires (crossing_of fault) ≡ true)
+
+-- the calls stay as they are
+pub record Waits (old new : Sight) : Type 0 where
+  pub config : new.config ≡ old.config
+  pub incarnation : new.incarnation ≡ old.incarnation
+  pub seats : (other : ℕ) → new.seats other ≡ old.seats other
+  pub counts : Counts old new
+  pub floor : (new.floor ≡ None) ⊎ (new.floor ≡ old.floor)
+
+-- a step forward: no fault came
+pub record Rolls (old new : Sight) : Type 0 where
+  pub waits : Waits old new
+  pub records : new.records ≡ old.records
+  pub recovered : recovers old.stage ≡ true
+  pub fewer : new.left < old.left
+
+-- the hook's fault
+pub record Strikes (test : Option (Crossing → Bool)) (before now : Crossings) (old new : Sight) : Type 0 where
+  pub waits : Waits old new
+  pub recovered : recovers old.stage ≡ true
+  pub fault : FaultRecord
+  pub records : new.records ≡ old.records ++ fault ∷ []
+  pub taken : IsTaken test before now fault
+  pub kind : (fault.kind ≡ Remount) ⊎ (fault.kind ≡ Replay)
+
+-- the call that ran the step, if one did
+abbrev pub EndsByDevice : Option Crossings → Sight → Sight → Type 0
+EndsByDevice None old new = new ≡ old
+EndsByDevice (Some before) old new = (flight : Flight) → (old.seats before.caller).flight ≡ Some flight → Answers before.caller flight reply.Device old new
+
+abbrev pub GoOn : Option Crossings → Option Crossings → Type 0
+GoOn None None = Unit {0}
+GoOn (Some before) (Some now) = GoesOn before now
+GoOn _ _ = ⊥
+
+abbrev pub StrikesBy : Option (Crossing → Bool) → Option Crossings → Option Crossings → Sight → Sight → Type 0
+StrikesBy test (Some before) (Some now) old new = Strikes test before now old new
+StrikesBy test _ _ old new = ⊥
+
+abbrev pub Steps : Option (Crossing → Bool) → Option Crossings → Option Crossings → Sight → Sight → Stepped → Type 0
+Steps test before now old new stepped.Idle = (recovers old.stage ≡ false) × (new ≡ old)
+Steps test before now old new (stepped.Failed faults) =
+    (new.stage ≡ stage.Failed) × (((new.records ≡ old.records) × Waits old new × (recovers old.stage ≡ true)) ⊎ StrikesBy test before now old new)
+Steps test before now old new stepped.Resumed = (new.stage ≡ stage.Running) × (new.floor ≡ None) × Rolls old new
+Steps test before now old new (stepped.Again faults) = (new.stage ≡ stage.Again) × StrikesBy test before now old new
+Steps test before now old new stepped.Device = (recovers old.stage ≡ true) × EndsByDevice before old new
+Steps test before now old new stepped.NoMemory = new ≡ old
+Steps test before now old new stepped.Remounted = (old.stage ≡ stage.Dropped) × (new.stage ≡ stage.Remounted) × Rolls old new
+Steps test before now old new _ = (recovers new.stage ≡ true) × Rolls old new

@@ -1,0 +1,245 @@
+-- What a run of a job over a core was: the clauses of the headline, over the readers of a core and the job alone.
+use Rattle.std.specs.Prelude.{ℕ, ◌+◌, ◌-◌, ◌<◌, ◌≤◌, ◌≡◌, ◌≢◌, ◌⊎◌, List, [], ◌∷◌, ◌++◌, length, map, filter, nat_eq, nat_lt, nat_le, ◌&&◌, ◌||◌, not, slice_get, Bool, true, false, cond, Option, Some, None, IfSome, count_by, option_and_then}
+use Rattle.std.specs.List.{AllByRecursion, list_any, range_with_len}
+use Rattle.mb_kinds.specs.declared.entries.Entry.{Entry}
+use Rattle.mb_kinds.specs.declared.faults.FaultRecord.{FaultRecord}
+use Rattle.mb_kinds.specs.declared.faults.Kind.{Kind}
+use Rattle.mb_kinds.specs.declared.faults.Kind.TheVariants.{Enter, Gather, Finish, Leave, Remount, Replay}
+use Rattle.mb_kinds.specs.declared.replies.Reply.{Reply}
+use Rattle.mb_kinds.specs.declared.replies.Reply.TheVariants as reply
+use Rattle.mb_plan.specs.Fires.{fires, same_kind}
+use Rattle.mb_plan.specs.declared.rules.Rule.{Rule}
+use Rattle.mb_run.specs.Recovering.{crossing_of}
+use Rattle.mb_run.specs.Served.{calls_in, calls_of}
+use Rattle.mb_jobs.specs.declared.jobs.JobCall.{JobCall}
+use Rattle.mb_core_spec.specs.declared.steps.Step.{Step}
+use Rattle.mb_core_spec.specs.declared.steps.Step.TheVariants as step
+
+-- ---- [own calls]
+
+abbrev pub HasOwnCalls : List JobCall → List Entry → Type 0
+HasOwnCalls calls history = (caller : ℕ) → calls_in history caller ≡ calls_of calls caller
+
+-- ---- [moments]
+
+abbrev pub moments : List Entry → List ℕ
+moments history = map (λ (entry : Entry). entry.moment) history
+
+-- each number after the start stands once, up to as many as there are entries
+abbrev pub HasMoments : ℕ → List Entry → Type 0
+HasMoments start history = (moment : ℕ) → start < moment → moment ≤ start + length history → count_by (nat_eq moment) (moments history) ≡ 1
+
+-- in list order the calls stand in the order of their indices, and each at the next moment
+pub record IsInListOrder (start : ℕ) (calls : List JobCall) (history : List Entry) : Type 0 where
+  pub calls_are : map (λ (entry : Entry). entry.call) history ≡ map (λ (made : JobCall). made.call) calls
+  pub callers_are : map (λ (entry : Entry). entry.caller) history ≡ map (λ (made : JobCall). made.caller) calls
+  pub moments_are : moments history ≡ range_with_len (start + 1) (length history)
+
+-- a character is a caller's letter, small or capital
+abbrev pub is_letter_of : ℕ → ℕ → Bool
+is_letter_of letter character = nat_eq character letter || nat_eq (character + 32) letter
+
+-- the place in the order of a caller's first letter; the order's length where there is none
+abbrev pub first_at : List ℕ → ℕ → ℕ
+first_at [] letter = 0
+first_at (character ∷ order) letter = cond (is_letter_of letter character) 0 (1 + first_at order letter)
+
+abbrev pub letter_of : List ℕ → ℕ → Option ℕ
+letter_of letters caller = slice_get letters caller
+
+-- the entry is of a caller's first call, whose letter first stands there
+abbrev pub IsFirstAt : List ℕ → List ℕ → Entry → ℕ → Type 0
+IsFirstAt order letters entry place = (entry.ordinal ≡ 1) × IfSome (letter_of letters entry.caller) (λ letter. first_at order letter ≡ place)
+
+abbrev pub IsEntryAt : List Entry → ℕ → Entry → Type 0
+IsEntryAt history index entry = slice_get history index ≡ Some entry
+
+-- the first calls' moments rise as the callers' letters first stand in the order; those without a letter come last
+abbrev pub FirstsRise : List ℕ → List ℕ → List Entry → Type 0
+FirstsRise order letters history = (i j : ℕ) (one other : Entry) (before after : ℕ) → IsEntryAt history i one → IsEntryAt history j other
+    → IsFirstAt order letters one before → IsFirstAt order letters other after → before < after → one.moment < other.moment
+
+-- the same as a test, for examples
+abbrev pub first_moment : List Entry → ℕ → Option ℕ
+first_moment [] caller = None
+first_moment (entry ∷ history) caller = cond (nat_eq entry.caller caller && nat_eq entry.ordinal 1) (Some entry.moment) (first_moment history caller)
+
+abbrev pub rises : Option ℕ → Option ℕ → Bool
+rises (Some one) (Some other) = nat_lt one other
+rises _ _ = true
+
+abbrev pub pair_rises : List ℕ → List Entry → (ℕ → ℕ) → ℕ → ℕ → Bool
+pair_rises order history letter one other = cond (nat_lt (first_at order (letter one)) (first_at order (letter other))) (rises (first_moment history one) (first_moment history other)) true
+
+-- ---- [records]
+
+abbrev pub AreDistinct : List FaultRecord → Type 0
+AreDistinct [] = Unit {0}
+AreDistinct (fault ∷ later) = AllByRecursion (λ (other : FaultRecord). fault ≢ other) later × AreDistinct later
+
+pub record IsOwnFault (records : List FaultRecord) (caller ordinal number : ℕ) : Type 0 where
+  pub from_one : 1 ≤ number
+  pub fault : FaultRecord
+  pub here : slice_get records (number - 1) ≡ Some fault
+  pub own_caller : fault.caller ≡ caller
+  pub own_ordinal : fault.ordinal ≡ ordinal
+  pub before_leaving : (fault.kind ≡ Enter) ⊎ (fault.kind ≡ Gather) ⊎ (fault.kind ≡ Finish)
+
+abbrev pub IsTwice : List FaultRecord → Entry → Reply → Type 0
+IsTwice records entry (reply.Restart first second) = (first < second) × IsOwnFault records entry.caller entry.ordinal first × IsOwnFault records entry.caller entry.ordinal second
+IsTwice records entry _ = Unit {0}
+
+pub record HasRecords (plan : List Rule) (history : List Entry) (records : List FaultRecord) : Type 0 where
+  pub planned : AllByRecursion (λ (fault : FaultRecord). fires plan (crossing_of fault) ≡ true) records
+  pub distinct : AreDistinct records
+  pub twice : AllByRecursion (λ (entry : Entry). IsTwice records entry entry.reply) history
+
+-- ---- [faults taken], of list order
+
+abbrev pub is_plain : Reply → Bool
+is_plain (reply.Restart first second) = false
+is_plain reply.Device = false
+is_plain (reply.Failed faults) = false
+is_plain _ = true
+
+abbrev pub is_of : ℕ → ℕ → Kind → FaultRecord → Bool
+is_of caller ordinal kind fault = (nat_eq fault.caller caller && nat_eq fault.ordinal ordinal) && same_kind fault.kind kind
+
+abbrev pub is_struck_first : List FaultRecord → ℕ → ℕ → Kind → Bool
+is_struck_first records caller ordinal kind = list_any (λ (fault : FaultRecord). is_of caller ordinal kind fault && nat_eq fault.nth 1) records
+
+abbrev pub is_struck : List FaultRecord → ℕ → ℕ → Kind → Bool
+is_struck records caller ordinal kind = list_any (λ (fault : FaultRecord). is_of caller ordinal kind fault) records
+
+-- a rule of that call and kind has SKIP 0
+abbrev pub has_rule : List Rule → ℕ → ℕ → Kind → Bool
+has_rule plan caller ordinal kind = list_any (λ (rule : Rule). ((nat_eq rule.caller caller && nat_eq rule.ordinal ordinal) && same_kind rule.kind kind) && nat_eq rule.skip 0) plan
+
+abbrev pub TakesFirst : List Rule → List FaultRecord → Entry → Kind → Type 0
+TakesFirst plan records entry kind = has_rule plan entry.caller entry.ordinal kind ≡ true → is_struck_first records entry.caller entry.ordinal kind ≡ true
+
+abbrev pub was_struck_inside : List FaultRecord → Entry → Bool
+was_struck_inside records entry = is_struck records entry.caller entry.ordinal Enter || is_struck records entry.caller entry.ordinal Gather || is_struck records entry.caller entry.ordinal Finish
+
+pub record TakesFaults (plan : List Rule) (records : List FaultRecord) (entry : Entry) : Type 0 where
+  pub enters : TakesFirst plan records entry Enter
+  pub gathers : TakesFirst plan records entry Gather
+  pub finishes : TakesFirst plan records entry Finish
+  pub leaves : TakesFirst plan records entry Leave
+  pub remounts : was_struck_inside records entry ≡ true → TakesFirst plan records entry Remount
+
+-- a record after so many others has an nth that this allows
+abbrev pub is_near : ℕ → Kind → ℕ → Bool
+is_near before Gather nth = true
+is_near before Replay nth = true
+is_near before Leave nth = nat_eq nth 1
+is_near before _ nth = nat_le nth (before + 1)
+
+abbrev pub AreNear : ℕ → List FaultRecord → Type 0
+AreNear before [] = Unit {0}
+AreNear before (fault ∷ later) = (is_near before fault.kind fault.nth ≡ true) × AreNear (before + 1) later
+
+pub record HasTakenFaults (plan : List Rule) (history : List Entry) (records : List FaultRecord) : Type 0 where
+  pub taken : AllByRecursion (λ (entry : Entry). is_plain entry.reply ≡ true → TakesFaults plan records entry) history
+  pub near : AreNear 0 records
+
+-- ---- [device and failure]
+
+abbrev pub HasFailed : ℕ → List FaultRecord → Reply → Type 0
+HasFailed limit records (reply.Failed faults) = (faults ≡ limit + 1) × (length records ≡ limit + 1)
+HasFailed limit records _ = Unit {0}
+
+abbrev pub devices : List Entry → ℕ
+devices history = count_by (λ (entry : Entry). cond (is_plain entry.reply) false (is_device entry.reply)) history where
+  is_device : Reply → Bool
+  is_device reply.Device = true
+  is_device _ = false
+
+-- ---- the steps `Sealed` of a trace
+
+-- what a logged call does to the operation log, and whether a checkpoint comes after it
+pub record Mark : Type 0 where
+  pub grows : Bool
+  pub syncs : Bool
+
+pub record Sealing : Type 0 where
+  pub marks : List Mark  -- of the plain entries still to be logged
+  pub ops : ℕ  -- operations since the last checkpoint
+  pub due : Bool  -- a checkpoint comes next
+  pub others : ℕ  -- checkpoints that nothing asked for
+
+abbrev pub logs_one : ℕ → ℕ → List Mark → ℕ → Option Sealing
+logs_one threshold ops [] others = None
+logs_one threshold ops (mark ∷ marks) others =
+    let more = ops + cond mark.grows 1 0 in
+    Some (record { marks = marks; ops = more; due = nat_le threshold more || mark.syncs; others = others })
+
+abbrev pub next_sealing : ℕ → Sealing → Step → Option Sealing
+next_sealing threshold now (step.Sealed n) = Some (record { marks = now.marks; ops = 0; due = false; others = now.others + cond now.due 0 1 })
+next_sealing threshold now (step.Logged ticket) = cond now.due None (logs_one threshold now.ops now.marks now.others)
+next_sealing threshold now _ = cond now.due None (Some now)
+
+abbrev pub sealings : ℕ → Option Sealing → List Step → Option Sealing
+sealings threshold now [] = now
+sealings threshold now (next ∷ trail) = sealings threshold (option_and_then (λ (s : Sealing). next_sealing threshold s next) now) trail
+
+abbrev pub equals_signs : List ℕ → ℕ
+equals_signs order = count_by (λ character. nat_eq character 61) order
+
+-- right after each call that wants a checkpoint there is one; the others number at most the characters `=`
+abbrev pub IsSealedAsAsked : ℕ → List Mark → List ℕ → List Step → Type 0
+IsSealedAsAsked threshold marks order trail = IfSome (sealings threshold (Some (record { marks = marks; ops = 0; due = false; others = 0 })) trail) (λ end. (end.due ≡ false) × (end.others ≤ equals_signs order))
+
+-- ---- [Fault-free promise], first clause
+
+-- how far each letter has come: 0, 1 or 2 small letters, or a capital (3)
+abbrev pub used : List ℕ → ℕ → ℕ
+used seen letter = count_by (is_letter_of letter) seen
+
+abbrev pub has_capital : List ℕ → ℕ → Bool
+has_capital seen letter = list_any (λ character. nat_eq (character + 32) letter) seen
+
+-- a character may follow those of the prefix
+abbrev pub is_calm_next : List ℕ → List ℕ → ℕ → Bool
+is_calm_next [] seen character = true
+is_calm_next (letter ∷ letters) seen character =
+    cond (is_letter_of letter character) (nat_lt (used seen letter) 2 && (nat_eq (character + 32) letter || not (has_capital seen letter))) true && is_calm_next letters seen character
+
+abbrev pub calm_from : List ℕ → List ℕ → List ℕ → List ℕ
+calm_from letters seen [] = []
+calm_from letters seen (character ∷ order) = cond (is_calm_next letters seen character) (character ∷ calm_from letters (seen ++ character ∷ []) order) []
+
+abbrev pub calm_prefix : List ℕ → List ℕ → List ℕ
+calm_prefix letters order = calm_from letters [] order
+
+-- the callers that have a call, in the order of their first letters
+abbrev pub caller_of : List ℕ → ℕ → ℕ → Option ℕ
+caller_of [] place character = None
+caller_of (letter ∷ letters) place character = cond (is_letter_of letter character) (Some place) (caller_of letters (place + 1) character)
+
+abbrev pub is_begun : List ℕ → ℕ → Bool
+is_begun begun caller = list_any (nat_eq caller) begun
+
+abbrev pub has_call : List JobCall → ℕ → Bool
+has_call calls caller = list_any (λ (made : JobCall). nat_eq made.caller caller) calls
+
+abbrev pub with_caller : List JobCall → List ℕ → Option ℕ → List ℕ
+with_caller calls begun None = begun
+with_caller calls begun (Some caller) = cond (is_begun begun caller || not (has_call calls caller)) begun (begun ++ caller ∷ [])
+
+abbrev pub begun_from : List JobCall → List ℕ → List ℕ → List ℕ → List ℕ
+begun_from calls letters begun [] = begun
+begun_from calls letters begun (character ∷ order) = begun_from calls letters (with_caller calls begun (caller_of letters 0 character)) order
+
+abbrev pub is_seal : Step → Bool
+is_seal (step.Sealed n) = true
+is_seal _ = false
+
+-- the trace without its checkpoints begins with these callers' entering, each with its first call
+abbrev pub BeginsWith : List ℕ → List Step → Type 0
+BeginsWith [] trail = Unit {0}
+BeginsWith (caller ∷ callers) (step.Entered ticket ∷ trail) = (ticket.caller ≡ caller) × (ticket.ordinal ≡ 1) × BeginsWith callers trail
+BeginsWith (caller ∷ callers) _ = ⊥
+
+abbrev pub EntersFirst : List JobCall → List ℕ → List ℕ → List Step → Type 0
+EntersFirst calls letters order trail = BeginsWith (begun_from calls letters [] (calm_prefix letters order)) (filter (λ s. not (is_seal s)) trail)

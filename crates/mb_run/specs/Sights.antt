@@ -1,0 +1,139 @@
+-- What the driver sees of a core.
+use Rattle.std.specs.Prelude.{ℕ, ◌+◌, ◌-◌, ◌<◌, ◌≤◌, ◌≡◌, List, length, Bool, true, false, Option, Some, None, IfSome}
+use Rattle.std.specs.List.{AllByRecursion}
+use Rattle.mb_kinds.specs.declared.calls.Call.{Call}
+use Rattle.mb_kinds.specs.declared.entries.Entry.{Entry}
+use Rattle.mb_kinds.specs.declared.entries.Flight.{Flight}
+use Rattle.mb_kinds.specs.declared.faults.FaultRecord.{FaultRecord}
+use Rattle.mb_kinds.specs.declared.faults.Ticket.{Ticket}
+use Rattle.mb_core_spec.specs.Copies.{PagesState}
+use Rattle.mb_core_spec.specs.declared.config.Config.{Config}
+use Rattle.mb_core_spec.specs.declared.stages.Stage.{Stage}
+use Rattle.mb_core_spec.specs.declared.stages.Stage.TheVariants as stage
+use Rattle.mb_core_spec.specs.declared.steps.Step.{Step}
+
+-- of one caller: how many calls it began, and its call in flight
+pub record Seat : Type 0 where
+  pub begun : ℕ
+  pub flight : Option Flight
+
+-- what a core was begun with; so many callers are declared
+pub record Limits : Type 0 where
+  pub callers : ℕ
+  pub start : ℕ
+  pub threshold : ℕ
+  pub limit : ℕ
+  pub most : ℕ
+
+abbrev pub limits_of : Config → Limits
+limits_of config = record { callers = length config.callers; start = config.start; threshold = config.threshold; limit = config.limit; most = config.most }
+
+-- history, fault records and event trace; of each caller its seat, what its call in flight keeps, how often its ticket
+-- was answered that a copy is stale (up to four times), and whether all that it keeps has the present stamps
+pub record Sight : Type 0 where
+  pub history : List Entry
+  pub records : List FaultRecord
+  pub trail : List Step
+  pub seats : ℕ → Seat
+  pub copies : ℕ → PagesState
+  pub stales : ℕ → ℕ
+  pub fresh : ℕ → Bool
+  -- the calls that all callers began, and those in flight without an entry
+  pub begun : ℕ
+  pub open_calls : ℕ
+  -- who has the right to commit alone
+  pub floor : Option ℕ
+  pub stage : Stage
+  pub incarnation : ℕ
+  -- how many steps the recovery has left, where no fault comes
+  pub left : ℕ
+  -- operations since the last checkpoint, and at how many entries that was
+  pub ops : ℕ
+  pub sealed_at : ℕ
+  -- dirty pages, and checkpointed pages that wait to be written back
+  pub current : ℕ
+  pub sealed : ℕ
+  pub config : Limits
+
+abbrev pub one_if : Bool → ℕ
+one_if true = 1
+one_if false = 0
+
+abbrev pub is_running : Stage → Bool
+is_running stage.Running = true
+is_running _ = false
+
+-- a recovery is in progress
+abbrev pub recovers : Stage → Bool
+recovers stage.Running = false
+recovers stage.Failed = false
+recovers _ = true
+
+-- the remount of a recovery is still to come
+abbrev pub remounts : Stage → Bool
+remounts stage.Struck = true
+remounts stage.Again = true
+remounts stage.Dropped = true
+remounts _ = false
+
+-- how many steps a recovery has left, with so many callers inside and so many operations logged
+abbrev pub steps_left : ℕ → ℕ → Stage → ℕ
+steps_left inside ops stage.Struck = inside + ops + 4
+steps_left inside ops stage.Again = ops + 4
+steps_left inside ops stage.Dropped = ops + 3
+steps_left inside ops stage.Remounted = ops + 2
+steps_left inside ops (stage.Restored done) = ops + 1 - done
+steps_left inside ops _ = 0
+
+-- the flight of a call that enters: the one that it has, or a new one
+abbrev pub flight_of : Sight → ℕ → Call → Option Flight → Flight
+flight_of sight caller call (Some flight) = flight
+flight_of sight caller call None = record {
+  call = call;
+  ordinal = (sight.seats caller).begun + 1;
+  moment = sight.config.start + sight.begun + 1;
+  ticket = None;
+  answered = false;
+}
+
+abbrev pub is_new : Option Flight → Bool
+is_new None = true
+is_new (Some flight) = false
+
+-- the flight's ticket, if it has one, is of an earlier incarnation
+abbrev pub IsOld : ℕ → Option Flight → Type 0
+IsOld incarnation None = Unit {0}
+IsOld incarnation (Some flight) = IfSome flight.ticket (λ (t : Ticket). t.incarnation < incarnation)
+
+-- the call in flight has that ticket; it has its entry, or not
+pub record HasTicket (done : Bool) (seat : Seat) (ticket : Ticket) : Type 0 where
+  pub flight : Flight
+  pub here : seat.flight ≡ Some flight
+  pub mine : flight.ticket ≡ Some ticket
+  pub ordinal : ticket.ordinal ≡ flight.ordinal
+  pub moment : ticket.moment ≡ flight.moment
+  pub answered : flight.answered ≡ done
+
+-- a call is in flight that has no entry
+abbrev pub IsWaiting : Seat → Type 0
+IsWaiting seat = (flight : Flight) × (seat.flight ≡ Some flight) × (flight.answered ≡ false)
+
+-- what of a core's order the driver uses
+pub record IsOrderly (sight : Sight) : Type 0 where
+  -- the entries have moments that were given out, no two alike
+  pub above : AllByRecursion (λ (entry : Entry). sight.config.start < entry.moment) sight.history
+  pub below : AllByRecursion (λ (entry : Entry). entry.moment ≤ sight.config.start + sight.begun) sight.history
+  -- how many fault records there may be
+  pub records : length sight.records ≤ sight.config.limit + 1
+  pub few : is_running sight.stage ≡ true → length sight.records ≤ sight.config.limit
+  pub struck : recovers sight.stage ≡ true → 1 ≤ length sight.records
+  pub limit : sight.config.limit ≤ 255
+  -- a recovery has fewer steps than 2 ^ 33
+  pub left : sight.left < 8589934592
+  -- who has the right to commit alone is a declared caller with a call in flight, and nothing that it gathered is stale
+  pub floor : (holder : ℕ) → sight.floor ≡ Some holder → (flight : Flight) × ((sight.seats holder).flight ≡ Some flight) × (holder < sight.config.callers)
+  pub fresh : (holder : ℕ) → sight.floor ≡ Some holder → sight.stage ≡ stage.Running → sight.fresh holder ≡ true
+  -- without calls in flight none is open
+  pub open_calls : ((caller : ℕ) → caller < sight.config.callers → (sight.seats caller).flight ≡ None) → sight.open_calls ≡ 0
+  -- a failed volume has no dirty page
+  pub dropped : sight.stage ≡ stage.Failed → sight.current ≡ 0

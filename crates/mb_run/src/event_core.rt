@@ -1,0 +1,131 @@
+ghost use Rattle.std.specs.Prelude.{◌≡◌, ◌<◌, ◌≤◌, ℕ, Bool, Some, false, true, IfSome, IsOk, OnErr, OnOk};
+ghost use Rattle.mb_core_spec.specs.declared.stages.Stage.TheVariants as stage;
+ghost use Rattle.mb_core_state.specs.declared.answers.Finished.TheVariants as finished;
+ghost use Rattle.mb_edge.specs.declared.crossings.Crossings.{Crossings};
+ghost use Rattle.mb_run.specs.Events.{Enters, FaultsWith, Finishes, FlushesWith, Gathers, IsAsked, IsReadyAt, LeavesWith, Quits, sealed};
+ghost use Rattle.mb_run.specs.Pages.{HasTablesFor, Performs, has};
+ghost use Rattle.mb_run.specs.Recovering.{GoOn, Steps};
+ghost use Rattle.mb_run.specs.Served.{MayEnter};
+ghost use Rattle.mb_run.specs.Sights.{HasTicket, IsOrderly, IsWaiting, Sight, limits_of};
+
+use crate::answers::{Enter, Stepped};
+use mb_cache::Flushed;
+use mb_callers::Pages;
+use mb_calls::{Performed, Ready};
+use mb_core_spec::{Config, Stage};
+use mb_core_state::{Fault, Finished, Gathered, Left};
+use mb_edge::{Crossings, Hook, NoMemory};
+use mb_iface::Need;
+use mb_kinds::{Call, Kind, Ticket};
+use std::alloc::Global;
+
+/// A core as its driver calls it: each call is one event. `sight` is what a driver sees of it, and `may_seal` whether a
+/// checkpoint can be taken without memory. Every event keeps a sight in order (`IsOrderly`).
+pub trait EventCore {
+    ghost sight: { Self → Sight };
+
+    ghost may_seal: { Self → Bool };
+
+    /// Where the volume stands.
+    fn stage(&self) -> Stage
+        ensures { result ≡ (sight self.now).stage };
+
+    /// What the core was begun with.
+    fn config(&self) -> &Config
+        ensures { limits_of result.now ≡ (sight self.now).config };
+
+    /// How many operations were logged since the last checkpoint.
+    fn logged(&self) -> u32
+        ensures { result ≡ (sight self.now).ops };
+
+    /// How many calls a declared caller began.
+    fn begun(&self, caller: u8) -> u32
+        requires { caller < (sight self.now).config.callers }
+        ensures { result ≡ ((sight self.now).seats caller).begun };
+
+    /// Performs the call of a ticket over its pages, which have the tables, with the file system's code; the core stays
+    /// as it is, and the ticket may be of an earlier incarnation.
+    fn perform(&self, alloc: Global, pages: &Pages, ticket: &Ticket, call: &Call) -> Performed
+        requires there { has pages.now 0 ≡ true }
+        requires tables { HasTablesFor (sight self.now).config.callers pages.now }
+        requires declared { ticket.now.caller < (sight self.now).config.callers }
+        ensures performs { Performs pages.now ticket.now.caller call.now ticket.now.moment result }
+        ensures asked { IsAsked pages.now result };
+
+    /// A caller's call enters: the one in flight, or a new one where none is.
+    fn enter(&mut self, alloc: Global, caller: u8, call: &Call) -> Enter
+        requires may { MayEnter (sight self.old) caller call.now }
+        requires right { IsOrderly (sight self.old) }
+        ensures enters { Enters (sight self.old) (sight self.new) caller call.now result }
+        ensures right { IsOrderly (sight self.new) };
+
+    /// A call inside, without its entry, gathers blocks, or at block 0 the tables.
+    fn gather(&mut self, alloc: Global, ticket: &Ticket, need: Need, pages: &mut Pages) -> Gathered
+        requires ticket { HasTicket false ((sight self.old).seats ticket.now.caller) ticket.now }
+        requires first { need.first < 262144 }
+        requires count { need.count ≤ 32 }
+        requires right { IsOrderly (sight self.old) }
+        ensures gathers { Gathers (sight self.old) (sight self.new) ticket.now need pages.old pages.new result }
+        ensures right { IsOrderly (sight self.new) };
+
+    /// A call inside, without its entry, finishes with what was performed over its pages. After `Logged` a checkpoint
+    /// is not refused.
+    fn finish(&mut self, alloc: Global, ticket: &Ticket, pages: &Pages, ready: Ready) -> Finished
+        requires ticket { HasTicket false ((sight self.old).seats ticket.now.caller) ticket.now }
+        requires ready { IsReadyAt (sight self.old) ticket.now pages.now ready }
+        requires right { IsOrderly (sight self.old) }
+        ensures finishes { Finishes (sight self.old) (sight self.new) ticket.now pages.now result }
+        ensures may_seal { result ≡ finished.Logged → may_seal self.new ≡ true }
+        ensures right { IsOrderly (sight self.new) };
+
+    /// A call that has its entry leaves.
+    fn leave(&mut self, ticket: &Ticket) -> Left
+        requires ticket { HasTicket true ((sight self.old).seats ticket.now.caller) ticket.now }
+        requires right { IsOrderly (sight self.old) }
+        ensures leaves { LeavesWith (sight self.old) (sight self.new) ticket.now result }
+        ensures right { IsOrderly (sight self.new) };
+
+    /// The call is struck at the crossing at which the fault injector answered a fault.
+    fn fault<H: Hook>(&mut self, ticket: &Ticket, kind: Kind, nth: u32, hook: &H) -> Fault
+        requires struck { H.struck hook.now ≡ Some (record { caller = ticket.now.caller; ordinal = ticket.now.ordinal; kind = kind; nth = nth }) }
+        requires right { IsOrderly (sight self.old) }
+        ensures faults { FaultsWith (sight self.old) (sight self.new) ticket.now kind nth result }
+        ensures right { IsOrderly (sight self.new) };
+
+    /// One step of a recovery, run by a call in flight without an entry, whose crossings `by` has, or by nobody; the
+    /// fault injector is asked for a call alone.
+    fn recover_step<H: Hook>(
+        &mut self,
+        alloc: Global,
+        by: &mut Option<Crossings>,
+        hook: &mut H,
+    ) -> Stepped
+        requires by { IfSome by.old (λ (b : Crossings). IsWaiting ((sight self.old).seats b.caller)) }
+        requires right { IsOrderly (sight self.old) }
+        ensures on { GoOn by.old by.new }
+        ensures test { H.test hook.new ≡ H.test hook.old }
+        ensures steps { Steps (H.test hook.old) by.old by.new (sight self.old) (sight self.new) result }
+        ensures right { IsOrderly (sight self.new) };
+
+    /// Ends a call in flight that has no entry, and gives it none.
+    fn quit(&mut self, caller: u8)
+        requires waits { IsWaiting ((sight self.old).seats caller) }
+        requires right { IsOrderly (sight self.old) }
+        ensures quits { Quits caller (sight self.old) (sight self.new) }
+        ensures right { IsOrderly (sight self.new) };
+
+    /// Takes a checkpoint of a running volume. The only error is want of memory, and nothing has changed then.
+    fn seal(&mut self) -> Result<(), NoMemory>
+        requires runs { (sight self.old).stage ≡ stage.Running }
+        requires right { IsOrderly (sight self.old) }
+        ensures ok { OnOk result (sight self.new ≡ sealed (sight self.old) (sight self.new)) }
+        ensures err { OnErr result (sight self.new ≡ sight self.old) }
+        ensures sure { may_seal self.old ≡ true → IsOk result }
+        ensures right { IsOrderly (sight self.new) };
+
+    /// Writes one checkpointed page back.
+    fn flush_one(&mut self) -> Flushed
+        requires right { IsOrderly (sight self.old) }
+        ensures flushes { FlushesWith (sight self.old) (sight self.new) result }
+        ensures right { IsOrderly (sight self.new) };
+}

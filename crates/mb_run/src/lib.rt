@@ -1,0 +1,16 @@
+//! The driver of a job: it makes the calls of up to eight callers, step by step, over a core.
+#![tactic(auto)]
+
+mod answers;
+mod event_core;
+mod progress;
+mod runner;
+mod runs;
+mod steps;
+
+pub use answers::{Enter, Stepped};
+pub use event_core::EventCore;
+pub use progress::{Turn, Went};
+pub use runner::{At, Runner};
+pub use runs::{find_call, recover, run_call, run_holder, run_in_order, turn};
+pub use steps::step;

@@ -1,0 +1,31 @@
+use mb_kinds::Ticket;
+
+/// What one step of a caller came to.
+#[derive(Clone, Copy, Debug, PartialEq, Eq, Drop)]
+pub enum Went {
+    /// The call was answered.
+    Ended,
+    /// The call goes on.
+    On,
+    /// The call was struck, or its ticket was of an earlier incarnation: it enters next.
+    Back,
+    /// A recovery is in progress; the call waits for it.
+    Shut,
+    /// The call with this ticket has the right to commit alone.
+    Busy(Ticket),
+    /// There was no memory. The call has no entry.
+    NoMemory,
+}
+
+/// What a step of a caller came to, with the recovery for which it waited.
+#[derive(Clone, Copy, Debug, PartialEq, Eq, Drop)]
+pub enum Turn {
+    /// The call was answered.
+    Ended,
+    /// The call goes on.
+    Again,
+    /// This caller's call has the right to commit alone.
+    Busy(u8),
+    /// There was no memory. The call has no entry.
+    NoMemory,
+}

@@ -1,0 +1,297 @@
+ghost use Rattle.std.specs.Prelude.{◌≡◌, ◌<◌, Some, true, length, option_map, slice_get};
+ghost use Rattle.std.specs.List.{AllByRecursion};
+ghost use Rattle.mb_edge.specs.declared.crossings.Crossings.{Crossings};
+ghost use Rattle.mb_run.specs.Recovering.{GoOn};
+ghost use Rattle.mb_run.specs.Served.{IsAfter, IsMine, IsRunInOrder, Keeps, MayGiveUp, MayStep, Ran, Recovers, Rolled, Turns, Underway, calls_of};
+ghost use Rattle.mb_run.specs.Sights.{IsOrderly, IsWaiting, recovers};
+ghost use Rattle.mb_run.specs.declared.runner.At.TheVariants as at;
+ghost use Rattle.mb_jobs.specs.declared.jobs.JobCall.{JobCall};
+
+use crate::answers::Stepped;
+use crate::event_core::EventCore;
+use crate::progress::{Turn, Went};
+use crate::runner::Runner;
+use crate::steps::step;
+use mb_edge::{Crossings, Hook};
+use mb_jobs::JobCall;
+use mb_kinds::Call;
+use std::alloc::Global;
+
+/// The crossings that a step of a recovery passed.
+fn keep(runner: &mut Runner, by: &Option<Crossings>)
+    requires { GoOn (Some runner.old.crossings) by.now }
+    ensures { Keeps runner.old by.now runner.new }
+{
+    match by {
+        Some(crossings) => runner.crossings = *crossings,
+        None => unreachable!(),
+    }
+}
+
+/// One step of a recovery, run by a call that waits.
+fn roll<C: EventCore, H: Hook>(
+    alloc: Global,
+    core: &mut C,
+    hook: &mut H,
+    runner: &mut Runner,
+    calls: &[JobCall],
+    call: &Call,
+) -> Went
+    requires may { MayStep calls.now (H.test hook.old) (C.sight core.old) runner.old call.now }
+    requires outside { runner.old.at ≡ at.Outside }
+    requires waits { IsWaiting ((C.sight core.old).seats runner.old.crossings.caller) }
+    requires recovered { recovers (C.sight core.old).stage ≡ true }
+    ensures rolled { Rolled calls.now (H.test hook.old) (C.sight core.old) (C.sight core.new) runner.old runner.new result }
+    ensures test { H.test hook.new ≡ H.test hook.old }
+    ensures right { IsOrderly (C.sight core.new) }
+{
+    let mut by = Some(runner.crossings);
+    match core.recover_step(alloc, &mut by, hook) {
+        Stepped::Device => {
+            runner.advance();
+            return Went::Ended;
+        }
+        Stepped::NoMemory => return Went::NoMemory,
+        Stepped::Idle => unreachable!(),
+        Stepped::Failed { .. } => {
+            keep(runner, &by);
+            return Went::Back;
+        }
+        Stepped::Resumed => {
+            keep(runner, &by);
+            return Went::Back;
+        }
+        Stepped::Unwound(_) => {
+            keep(runner, &by);
+            return Went::On;
+        }
+        Stepped::Dropped => {
+            keep(runner, &by);
+            return Went::On;
+        }
+        Stepped::Remounted => {
+            keep(runner, &by);
+            return Went::On;
+        }
+        Stepped::Reopened => {
+            keep(runner, &by);
+            return Went::On;
+        }
+        Stepped::Replayed(_) => {
+            keep(runner, &by);
+            return Went::On;
+        }
+        Stepped::Again { .. } => {
+            keep(runner, &by);
+            return Went::On;
+        }
+    }
+}
+
+/// Ends a call that met want of memory, where it was begun: it gets no entry.
+fn give_up<C: EventCore>(core: &mut C, runner: &Runner)
+    requires { MayGiveUp (C.sight core.old) runner.now }
+    ensures right { IsOrderly (C.sight core.new) }
+{
+    let caller = runner.crossings.caller;
+    if core.begun(caller) > runner.done {
+        core.quit(caller);
+    }
+}
+
+/// A recovery, run by a call that waits.
+pub fn recover<C: EventCore, H: Hook>(
+    alloc: Global,
+    core: &mut C,
+    hook: &mut H,
+    runner: &mut Runner,
+    calls: &[JobCall],
+    call: &Call,
+) -> Went
+    requires may { MayStep calls.now (H.test hook.old) (C.sight core.old) runner.old call.now }
+    requires outside { runner.old.at ≡ at.Outside }
+    requires waits { IsWaiting ((C.sight core.old).seats runner.old.crossings.caller) }
+    requires recovered { recovers (C.sight core.old).stage ≡ true }
+    ensures recovers { Recovers calls.now (H.test hook.old) (C.sight core.old) (C.sight core.new) runner.old runner.new result }
+    ensures test { H.test hook.new ≡ H.test hook.old }
+    ensures right { IsOrderly (C.sight core.new) }
+{
+    'steps: loop {
+        match roll(alloc, core, hook, runner, calls, call) {
+            Went::Ended => return Went::Ended,
+            Went::Back => return Went::Back,
+            Went::On => {}
+            Went::NoMemory => return Went::NoMemory,
+            Went::Shut => unreachable!(),
+            Went::Busy(_) => unreachable!(),
+        }
+    }
+}
+
+/// Runs a caller's call to its end, where nobody else holds the floor. False is want of memory.
+pub fn run_holder<C: EventCore, H: Hook>(
+    alloc: Global,
+    core: &mut C,
+    hook: &mut H,
+    runner: &mut Runner,
+    calls: &[JobCall],
+    call: &Call,
+) -> bool
+    requires may { MayStep calls.now (H.test hook.old) (C.sight core.old) runner.old call.now }
+    requires mine { IsMine runner.old.crossings.caller (C.sight core.old).floor }
+    ensures ran { Ran calls.now (H.test hook.old) (C.sight core.old) (C.sight core.new) runner.old runner.new result }
+    ensures test { H.test hook.new ≡ H.test hook.old }
+    ensures right { IsOrderly (C.sight core.new) }
+{
+    'turns: loop {
+        match step(alloc, core, hook, runner, calls, call) {
+            Went::Ended => return true,
+            Went::On => {}
+            Went::Back => {}
+            Went::NoMemory => {
+                give_up(core, runner);
+                return false;
+            }
+            Went::Busy(_) => unreachable!(),
+            Went::Shut => match recover(alloc, core, hook, runner, calls, call) {
+                Went::Ended => return true,
+                Went::NoMemory => {
+                    give_up(core, runner);
+                    return false;
+                }
+                Went::Back => {}
+                Went::On => unreachable!(),
+                Went::Shut => unreachable!(),
+                Went::Busy(_) => unreachable!(),
+            },
+        }
+    }
+}
+
+/// The call of a caller's list at a place, from 0.
+pub fn find_call<'a>(calls: &'a [JobCall], caller: u8, place: u32) -> Option<&'a Call>
+    ensures { option_map (λ call. call.now) result ≡ slice_get (calls_of calls.now caller) place }
+{
+    let mut passed: u64 = 0;
+    for made in calls {
+        if made.caller == caller {
+            if passed == place as u64 {
+                return Some(&made.call);
+            }
+            passed += 1;
+        }
+    }
+    None
+}
+
+/// One turn of a call: a step, and the recovery where it has to wait for one.
+pub fn turn<C: EventCore, H: Hook>(
+    alloc: Global,
+    core: &mut C,
+    hook: &mut H,
+    runner: &mut Runner,
+    calls: &[JobCall],
+    call: &Call,
+) -> Turn
+    requires { MayStep calls.now (H.test hook.old) (C.sight core.old) runner.old call.now }
+    ensures turns { Turns calls.now (H.test hook.old) (C.sight core.old) (C.sight core.new) runner.old runner.new result }
+    ensures test { H.test hook.new ≡ H.test hook.old }
+    ensures right { IsOrderly (C.sight core.new) }
+{
+    match step(alloc, core, hook, runner, calls, call) {
+        Went::Ended => return Turn::Ended,
+        Went::On => return Turn::Again,
+        Went::Back => return Turn::Again,
+        Went::NoMemory => return Turn::NoMemory,
+        Went::Busy(holder) => return Turn::Busy(holder.caller),
+        Went::Shut => match recover(alloc, core, hook, runner, calls, call) {
+            Went::Ended => return Turn::Ended,
+            Went::NoMemory => return Turn::NoMemory,
+            Went::Back => return Turn::Again,
+            Went::On => unreachable!(),
+            Went::Shut => unreachable!(),
+            Went::Busy(_) => unreachable!(),
+        },
+    }
+}
+
+/// Runs a caller's next call to its end; where another call holds the floor, that one's first. False is want of memory.
+pub fn run_call<C: EventCore, H: Hook>(
+    alloc: Global,
+    core: &mut C,
+    hook: &mut H,
+    runners: &mut [Runner],
+    calls: &[JobCall],
+    caller: u8,
+) -> bool
+    requires underway { Underway calls.now (H.test hook.old) (C.sight core.old) runners.old }
+    requires within { caller < length runners.old }
+    ensures underway { result ≡ true → Underway calls.now (H.test hook.old) (C.sight core.new) runners.new }
+    ensures length { length runners.new ≡ length runners.old }
+    ensures test { H.test hook.new ≡ H.test hook.old }
+{
+    'turns: loop {
+        let place = runners[caller as usize].done;
+        let Some(call) = find_call(calls, caller, place) else {
+            return true;
+        };
+        match turn(
+            alloc,
+            core,
+            hook,
+            &mut runners[caller as usize],
+            calls,
+            call,
+        ) {
+            Turn::Ended => return true,
+            Turn::Again => {}
+            Turn::NoMemory => {
+                give_up(core, &runners[caller as usize]);
+                return false;
+            }
+            Turn::Busy(holder) => {
+                let holds = runners[holder as usize].done;
+                let Some(first) = find_call(calls, holder, holds) else {
+                    unreachable!();
+                };
+                if !run_holder(
+                    alloc,
+                    core,
+                    hook,
+                    &mut runners[holder as usize],
+                    calls,
+                    first,
+                ) {
+                    return false;
+                }
+            }
+        }
+    }
+}
+
+/// Runs the calls of a job in the order of their indices, each to its end. False is want of memory.
+pub fn run_in_order<C: EventCore, H: Hook>(
+    alloc: Global,
+    core: &mut C,
+    hook: &mut H,
+    runners: &mut [Runner],
+    calls: &[JobCall],
+) -> bool
+    requires begins { IsAfter calls.now (H.test hook.old) (C.sight core.old) runners.old 0 }
+    requires callers { AllByRecursion (λ (made : JobCall). made.caller < length runners.old) calls.now }
+    ensures { result ≡ true → IsRunInOrder calls.now (H.test hook.old) (C.sight core.new) }
+{
+    for made in calls {
+        if !run_holder(
+            alloc,
+            core,
+            hook,
+            &mut runners[made.caller as usize],
+            calls,
+            &made.call,
+        ) {
+            return false;
+        }
+    }
+    true
+}

@@ -1,0 +1,307 @@
+ghost use Rattle.std.specs.Prelude.{◌≡◌, ◌≢◌, ◌<◌, ◌≤◌, Some, IfSome, true, false};
+ghost use Rattle.mb_calls.specs.declared.performing.Performed.TheVariants as performed;
+ghost use Rattle.mb_core_spec.specs.declared.stages.Stage.TheVariants as stage;
+ghost use Rattle.mb_run.specs.Pages.{Performs, has};
+ghost use Rattle.mb_run.specs.Served.{Asks, Did, GoesIn, MayStep, SealsIf, is_due};
+ghost use Rattle.mb_run.specs.Sights.{HasTicket, IsOrderly};
+ghost use Rattle.mb_run.specs.declared.runner.At.TheVariants as at;
+
+use crate::answers::Enter;
+use crate::event_core::EventCore;
+use crate::progress::Went;
+use crate::runner::{At, Runner};
+use mb_callers::Pages;
+use mb_calls::{Performed, Ready};
+use mb_core_state::{Finished, Gathered, Left};
+use mb_edge::{Hook, Word};
+use mb_iface::Need;
+use mb_jobs::JobCall;
+use mb_kinds::{Call, Kind, Ticket};
+use std::alloc::Global;
+
+/// Asks the fault injector at the next crossing of a kind, and strikes the call where it says so.
+fn is_struck<C: EventCore, H: Hook>(
+    core: &mut C,
+    hook: &mut H,
+    runner: &mut Runner,
+    ticket: &Ticket,
+    kind: Kind,
+) -> bool
+    requires mine { (ticket.now.caller ≡ runner.old.crossings.caller) × (ticket.now.ordinal ≡ runner.old.crossings.ordinal) }
+    requires right { IsOrderly (C.sight core.old) }
+    ensures asks { Asks (H.test hook.old) (C.sight core.old) (C.sight core.new) runner.old runner.new ticket.now kind result }
+    ensures test { H.test hook.new ≡ H.test hook.old }
+    ensures right { IsOrderly (C.sight core.new) }
+{
+    let at = runner.crossings.next(kind);
+    match hook.cross(&at) {
+        Word::Go => false,
+        Word::Fault => {
+            let _ = core.fault(ticket, kind, at.nth, hook);
+            runner.back();
+            true
+        }
+    }
+}
+
+/// Asks the fault injector of a call that entered just now.
+fn go_in<C: EventCore, H: Hook>(
+    core: &mut C,
+    hook: &mut H,
+    runner: &mut Runner,
+    calls: &[JobCall],
+    call: &Call,
+    ticket: &Ticket,
+) -> Went
+    requires may { MayStep calls.now (H.test hook.old) (C.sight core.old) runner.old call.now }
+    requires inside { runner.old.at ≡ at.Inside ticket.now }
+    ensures did { GoesIn calls.now (H.test hook.old) (C.sight core.old) (C.sight core.new) runner.old runner.new result }
+    ensures test { H.test hook.new ≡ H.test hook.old }
+    ensures right { IsOrderly (C.sight core.new) }
+{
+    if is_struck(core, hook, runner, ticket, Kind::Enter) {
+        return Went::Back;
+    }
+    Went::On
+}
+
+fn enter<C: EventCore, H: Hook>(
+    alloc: Global,
+    core: &mut C,
+    hook: &mut H,
+    runner: &mut Runner,
+    calls: &[JobCall],
+    call: &Call,
+) -> Went
+    requires may { MayStep calls.now (H.test hook.old) (C.sight core.old) runner.old call.now }
+    requires outside { runner.old.at ≡ at.Outside }
+    ensures did { Did calls.now (H.test hook.old) (C.sight core.old) (C.sight core.new) runner.old runner.new result }
+    ensures test { H.test hook.new ≡ H.test hook.old }
+    ensures right { IsOrderly (C.sight core.new) }
+{
+    match core.enter(alloc, runner.crossings.caller, call) {
+        Enter::Done(_) => {
+            runner.advance();
+            return Went::Ended;
+        }
+        Enter::Shut => return Went::Shut,
+        Enter::NoMemory => return Went::NoMemory,
+        Enter::Inside(ticket) => {
+            runner.at = At::Inside(ticket);
+            runner.asked = false;
+            runner.pages.clear();
+            return go_in(core, hook, runner, calls, call, &ticket);
+        }
+    }
+}
+
+fn gather<C: EventCore, H: Hook>(
+    alloc: Global,
+    core: &mut C,
+    hook: &mut H,
+    runner: &mut Runner,
+    calls: &[JobCall],
+    call: &Call,
+    ticket: &Ticket,
+    need: Need,
+) -> Went
+    requires may { MayStep calls.now (H.test hook.old) (C.sight core.old) runner.old call.now }
+    requires inside { runner.old.at ≡ at.Inside ticket.now }
+    requires lacks { has runner.old.pages need.first ≡ false }
+    requires first { need.first < 262144 }
+    requires count { need.count ≤ 32 }
+    ensures did { Did calls.now (H.test hook.old) (C.sight core.old) (C.sight core.new) runner.old runner.new result }
+    ensures test { H.test hook.new ≡ H.test hook.old }
+    ensures right { IsOrderly (C.sight core.new) }
+{
+    if is_struck(core, hook, runner, ticket, Kind::Gather) {
+        return Went::Back;
+    }
+    match core.gather(alloc, ticket, need, &mut runner.pages) {
+        Gathered::Skip { .. } => {
+            runner.back();
+            Went::Back
+        }
+        Gathered::Device => {
+            runner.advance();
+            Went::Ended
+        }
+        Gathered::NoMemory => Went::NoMemory,
+        Gathered::Done => Went::On,
+    }
+}
+
+/// Takes a checkpoint where one is due after a call was logged.
+fn seal_if_due<C: EventCore>(core: &mut C, call: &Call)
+    requires runs { (C.sight core.old).stage ≡ stage.Running }
+    requires may_seal { C.may_seal core.old ≡ true }
+    requires right { IsOrderly (C.sight core.old) }
+    ensures seals { SealsIf (is_due (C.sight core.old) call.now) (C.sight core.old) (C.sight core.new) }
+    ensures right { IsOrderly (C.sight core.new) }
+{
+    let threshold = core.config().threshold;
+    if core.logged() >= threshold || matches!(call, Call::Sync) {
+        match core.seal() {
+            Ok(()) => {}
+            Err(_) => unreachable!(),
+        }
+    }
+}
+
+fn finish_now<C: EventCore, H: Hook>(
+    alloc: Global,
+    core: &mut C,
+    hook: &H,
+    runner: &mut Runner,
+    calls: &[JobCall],
+    call: &Call,
+    ticket: &Ticket,
+    ready: Ready,
+) -> Went
+    requires may { MayStep calls.now (H.test hook.now) (C.sight core.old) runner.old call.now }
+    requires inside { runner.old.at ≡ at.Inside ticket.now }
+    requires ready { Performs runner.old.pages ticket.now.caller call.now ticket.now.moment (performed.Ready ready) }
+    ensures did { Did calls.now (H.test hook.now) (C.sight core.old) (C.sight core.new) runner.old runner.new result }
+    ensures right { IsOrderly (C.sight core.new) }
+{
+    let finished = core.finish(alloc, ticket, &runner.pages, ready);
+    match finished {
+        Finished::Skip { .. } => {
+            runner.back();
+            return Went::Back;
+        }
+        Finished::Busy { holder } => {
+            runner.asked = true;
+            return Went::Busy(holder);
+        }
+        Finished::Stale { .. } => {
+            runner.asked = false;
+            runner.pages.clear();
+            return Went::On;
+        }
+        Finished::NoMemory => return Went::NoMemory,
+        Finished::Logged => {
+            runner.at = At::Logged(*ticket);
+            runner.answered = true;
+            seal_if_due(core, call);
+            return Went::On;
+        }
+    }
+}
+
+fn finish<C: EventCore, H: Hook>(
+    alloc: Global,
+    core: &mut C,
+    hook: &mut H,
+    runner: &mut Runner,
+    calls: &[JobCall],
+    call: &Call,
+    ticket: &Ticket,
+    ready: Ready,
+) -> Went
+    requires may { MayStep calls.now (H.test hook.old) (C.sight core.old) runner.old call.now }
+    requires inside { runner.old.at ≡ at.Inside ticket.now }
+    requires ready { Performs runner.old.pages ticket.now.caller call.now ticket.now.moment (performed.Ready ready) }
+    ensures did { Did calls.now (H.test hook.old) (C.sight core.old) (C.sight core.new) runner.old runner.new result }
+    ensures test { H.test hook.new ≡ H.test hook.old }
+    ensures right { IsOrderly (C.sight core.new) }
+{
+    if runner.asked {
+        return finish_now(alloc, core, hook, runner, calls, call, ticket, ready);
+    }
+    if is_struck(core, hook, runner, ticket, Kind::Finish) {
+        return Went::Back;
+    }
+    finish_now(alloc, core, hook, runner, calls, call, ticket, ready)
+}
+
+fn leave<C: EventCore, H: Hook>(
+    core: &mut C,
+    hook: &mut H,
+    runner: &mut Runner,
+    calls: &[JobCall],
+    call: &Call,
+    ticket: &Ticket,
+) -> Went
+    requires may { MayStep calls.now (H.test hook.old) (C.sight core.old) runner.old call.now }
+    requires logged { runner.old.at ≡ at.Logged ticket.now }
+    ensures did { Did calls.now (H.test hook.old) (C.sight core.old) (C.sight core.new) runner.old runner.new result }
+    ensures test { H.test hook.new ≡ H.test hook.old }
+    ensures right { IsOrderly (C.sight core.new) }
+{
+    if is_struck(core, hook, runner, ticket, Kind::Leave) {
+        return Went::Back;
+    }
+    match core.leave(ticket) {
+        Left::Skip { .. } => {
+            runner.back();
+            return Went::Back;
+        }
+        Left::Left(_) => {
+            runner.advance();
+            return Went::Ended;
+        }
+    }
+}
+
+/// Whether the tables were gathered.
+fn has_tables(pages: &Pages) -> bool
+    ensures { result ≡ has pages.now 0 }
+{
+    pages.opens().is_some()
+}
+
+fn go_on<C: EventCore, H: Hook>(
+    alloc: Global,
+    core: &mut C,
+    hook: &mut H,
+    runner: &mut Runner,
+    calls: &[JobCall],
+    call: &Call,
+    ticket: &Ticket,
+) -> Went
+    requires may { MayStep calls.now (H.test hook.old) (C.sight core.old) runner.old call.now }
+    requires inside { runner.old.at ≡ at.Inside ticket.now }
+    ensures did { Did calls.now (H.test hook.old) (C.sight core.old) (C.sight core.new) runner.old runner.new result }
+    ensures test { H.test hook.new ≡ H.test hook.old }
+    ensures right { IsOrderly (C.sight core.new) }
+{
+    if !has_tables(&runner.pages) {
+        return gather(
+            alloc,
+            core,
+            hook,
+            runner,
+            calls,
+            call,
+            ticket,
+            Need { first: 0, count: 1 },
+        );
+    }
+    match core.perform(alloc, &runner.pages, ticket, call) {
+        Performed::Need(need) => gather(alloc, core, hook, runner, calls, call, ticket, need),
+        Performed::NoMemory => Went::NoMemory,
+        Performed::Ready(ready) => finish(alloc, core, hook, runner, calls, call, ticket, ready),
+    }
+}
+
+/// One step of a caller, whose next call is that one: it enters, gathers, finishes or leaves.
+pub fn step<C: EventCore, H: Hook>(
+    alloc: Global,
+    core: &mut C,
+    hook: &mut H,
+    runner: &mut Runner,
+    calls: &[JobCall],
+    call: &Call,
+) -> Went
+    requires { MayStep calls.now (H.test hook.old) (C.sight core.old) runner.old call.now }
+    ensures did { Did calls.now (H.test hook.old) (C.sight core.old) (C.sight core.new) runner.old runner.new result }
+    ensures test { H.test hook.new ≡ H.test hook.old }
+    ensures right { IsOrderly (C.sight core.new) }
+{
+    match runner.at {
+        At::Outside => enter(alloc, core, hook, runner, calls, call),
+        At::Inside(ticket) => go_on(alloc, core, hook, runner, calls, call, &ticket),
+        At::Logged(ticket) => leave(core, hook, runner, calls, call, &ticket),
+    }
+}
