@@ -1,3 +1,4 @@
 pub mod Leading
 pub mod Naming
 pub mod SlotWalks
+pub mod Tallying

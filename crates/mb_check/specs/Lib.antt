@@ -1,2 +1,4 @@
+pub mod Directories
 pub mod NameSets
 pub mod SlotTests
+pub mod Tallies

@@ -9,7 +9,9 @@
 mod directories;
 mod names;
 mod slots;
+mod tallies;
 
 pub use directories::{block_slots, slot};
 pub use names::NameSet;
 pub use slots::{has_dots, is_named_once, leads_there};
+pub use tallies::{Late, SlotCounts, Tally};
