@@ -1,4 +1,6 @@
 pub mod Leading
 pub mod Naming
+pub mod PartReads
 pub mod SlotWalks
 pub mod Tallying
+pub mod WholeDirectories

@@ -18,7 +18,7 @@ use Rattle.mb_check.specs.declared.tallies.Late.TheVariants.{Never, Once, Often}
 use Rattle.mb_check.specs.declared.tallies.Tally.{Tally}
 use Rattle.mb_check.specs.Tallies.{one_if, slots_to, slots_so_far, HoldsLate, before, itself, IsLate, KeepsTally, KeepsTallies, IsPassed, below, within, KeepsParents, late_more, tally_more}
 
-late_same : (late : Late) (c d : ℕ) (H J : ℕ → Type 0) → c ≡ d → ((h : ℕ) → H h → J h) → IsLate late c H → IsLate late d J
+pub late_same : (late : Late) (c d : ℕ) (H J : ℕ → Type 0) → c ≡ d → ((h : ℕ) → H h → J h) → IsLate late c H → IsLate late d J
 late_same Never c d H J e on h = sym e ∙ h
 late_same (Once dir) c d H J e on h = (sym e ∙ h.0, on dir h.1)
 late_same Often c d H J e on h = subst (λ n. 2 ≤ n) e h
