@@ -1,4 +1,5 @@
 pub mod Leading
+pub mod Marking
 pub mod Naming
 pub mod PartReads
 pub mod SlotWalks

@@ -9,7 +9,8 @@ use mb_edge::{Disk, Failed};
 
 /// What is kept of an inode; of a number past the last one, what is kept of a free inode.
 pub fn kept_of(table: &InodeTable, ino: u16) -> InodeKept
-    ensures { (blocks : ℕ → List ℕ) (last : ℕ) → KeepsInodes blocks table.now last → 1 ≤ ino → ino ≤ last → KeepsInode blocks table.now.parts.addresses.items ino result }
+    ensures keeps { (blocks : ℕ → List ℕ) (last : ℕ) → KeepsInodes blocks table.now last → 1 ≤ ino → ino ≤ last → KeepsInode blocks table.now.parts.addresses.items ino result }
+    ensures none { (blocks : ℕ → List ℕ) (last : ℕ) → KeepsInodes blocks table.now last → ino ≡ 0 → result.mode ≡ 0 }
 {
     match table.inodes.as_slice().get(usize::from(ino)) {
         Some(kept) => *kept,

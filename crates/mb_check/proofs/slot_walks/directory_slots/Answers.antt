@@ -16,12 +16,12 @@ use Rattle.mb_check.proofs.slot_walks.directory_slots.Goals as goal
 
 pub returns-then-not-is_directory-clause-walk : goal.returns-then-not-is_directory-clause-walk
 returns-then-not-is_directory-clause-walk g c = if_told (g.D.Disk.told c.args.disk.now) _ (λ image told met keeps from low.
-    let inode = c.kept_of-kept.ensures image.at (last_inode image.at) keeps.inodes from low in
+    let inode = c.kept_of-kept.ensures.keeps image.at (last_inode image.at) keeps.inodes from low in
     other_walks image.at c.args.dir met (ap is_directory (sym inode.mode) ∙ sym c.is_directory.ensures ∙ c.if-not-is_directory.true))
 
 pub returns-then-not-is_directory-clause-counts : goal.returns-then-not-is_directory-clause-counts
 returns-then-not-is_directory-clause-counts g c = if_told (g.D.Disk.told c.args.disk.now) _ (λ image told keeps from low counts.
-    let inode = c.kept_of-kept.ensures image.at (last_inode image.at) keeps.inodes from low in
+    let inode = c.kept_of-kept.ensures.keeps image.at (last_inode image.at) keeps.inodes from low in
     other_next image.at c.args.dir c.args.counts.now (ap is_directory (sym inode.mode) ∙ sym c.is_directory.ensures ∙ c.if-not-is_directory.true) counts)
 
 pub loop-part-init : goal.loop-part-init
@@ -38,7 +38,7 @@ loop-part-init g c = record {
 pub returns-in_err-part_slots-clause-walk : goal.returns-in_err-part_slots-clause-walk
 returns-in_err-part_slots-clause-walk g c = if_told (g.D.Disk.told c.args.disk.now) _ (λ image told met keeps from low.
     let here = c.loop-part.invariant.told ∙ told in
-    let inode = c.kept_of-kept.ensures image.at (last_inode image.at) keeps.inodes from low in
+    let inode = c.kept_of-kept.ensures.keeps image.at (last_inode image.at) keeps.inodes from low in
     let directory = keeps_directory image.at c.args.table.now c.args.dir c.kept_of-kept.result keeps inode (sym c.is_directory.ensures ∙ c.if-not-is_directory.false) in
     let end = c.parts_of-part-end.ensures in
     let inside = c.loop-part-test.true in
@@ -56,7 +56,7 @@ loop-part-preserved g c = record {
   later = (let a = c.loop-part.invariant.later in let b = c.part_slots.ensures.cause.later in omega (arith, a, b));
   walk = if_told (g.D.Disk.told c.args.disk.now) _ (λ image told met keeps from low.
       let here = c.loop-part.invariant.told ∙ told in
-      let inode = c.kept_of-kept.ensures image.at (last_inode image.at) keeps.inodes from low in
+      let inode = c.kept_of-kept.ensures.keeps image.at (last_inode image.at) keeps.inodes from low in
       let directory = keeps_directory image.at c.args.table.now c.args.dir c.kept_of-kept.result keeps inode (sym c.is_directory.ensures ∙ c.if-not-is_directory.false) in
       let end = c.parts_of-part-end.ensures in
       let inside = c.loop-part-test.true in
@@ -68,7 +68,7 @@ loop-part-preserved g c = record {
       (told_of (g.D.Disk.told c.loop-part.disk) image _ here c.in_ok-part_slots.ensures.walk met keeps.inodes directory names));
   names = if_told (g.D.Disk.told c.args.disk.now) _ (λ image told keeps from low.
       let here = c.loop-part.invariant.told ∙ told in
-      let inode = c.kept_of-kept.ensures image.at (last_inode image.at) keeps.inodes from low in
+      let inode = c.kept_of-kept.ensures.keeps image.at (last_inode image.at) keeps.inodes from low in
       let directory = keeps_directory image.at c.args.table.now c.args.dir c.kept_of-kept.result keeps inode (sym c.is_directory.ensures ∙ c.if-not-is_directory.false) in
       let end = c.parts_of-part-end.ensures in
       let inside = c.loop-part-test.true in
@@ -79,7 +79,7 @@ loop-part-preserved g c = record {
       (told_of (g.D.Disk.told c.loop-part.disk) image _ here c.in_ok-part_slots.ensures.names directory names));
   counts = if_told (g.D.Disk.told c.args.disk.now) _ (λ image told keeps from low counts.
       let here = c.loop-part.invariant.told ∙ told in
-      let inode = c.kept_of-kept.ensures image.at (last_inode image.at) keeps.inodes from low in
+      let inode = c.kept_of-kept.ensures.keeps image.at (last_inode image.at) keeps.inodes from low in
       let directory = keeps_directory image.at c.args.table.now c.args.dir c.kept_of-kept.result keeps inode (sym c.is_directory.ensures ∙ c.if-not-is_directory.false) in
       let end = c.parts_of-part-end.ensures in
       let inside = c.loop-part-test.true in
@@ -92,7 +92,7 @@ loop-part-preserved g c = record {
 
 pub returns-clause-walk : goal.returns-clause-walk
 returns-clause-walk g c = if_told (g.D.Disk.told c.args.disk.now) _ (λ image told met keeps from low.
-    let inode = c.kept_of-kept.ensures image.at (last_inode image.at) keeps.inodes from low in
+    let inode = c.kept_of-kept.ensures.keeps image.at (last_inode image.at) keeps.inodes from low in
     let directory = keeps_directory image.at c.args.table.now c.args.dir c.kept_of-kept.result keeps inode (sym c.is_directory.ensures ∙ c.if-not-is_directory.false) in
     let end = c.parts_of-part-end.ensures in
     let past : (c.kept_of-kept.result.size + 511) / 512 ≤ c.loop-part.part = (let t = c.loop-part-test.false in omega (arith, end, t)) in
@@ -100,7 +100,7 @@ returns-clause-walk g c = if_told (g.D.Disk.told c.args.disk.now) _ (λ image to
 
 pub returns-clause-counts : goal.returns-clause-counts
 returns-clause-counts g c = if_told (g.D.Disk.told c.args.disk.now) _ (λ image told keeps from low counts.
-    let inode = c.kept_of-kept.ensures image.at (last_inode image.at) keeps.inodes from low in
+    let inode = c.kept_of-kept.ensures.keeps image.at (last_inode image.at) keeps.inodes from low in
     let directory = keeps_directory image.at c.args.table.now c.args.dir c.kept_of-kept.result keeps inode (sym c.is_directory.ensures ∙ c.if-not-is_directory.false) in
     let end = c.parts_of-part-end.ensures in
     let past : (c.kept_of-kept.result.size + 511) / 512 ≤ c.loop-part.part = (let t = c.loop-part-test.false in omega (arith, end, t)) in
