@@ -148,7 +148,7 @@ module _ (blocks : ℕ → List ℕ) (dir : ℕ) where
   or_right true b h = refl
   or_right false b h = h
 
-  next_step : (steps ino : ℕ) → is_reached blocks (suc steps) ino ≡ (is_reached blocks steps ino || any_from (λ d. is_reached blocks steps d && not (nat_eq (late_from blocks ino d) 0)) 0 (last_inode blocks + 1))
+  pub next_step : (steps ino : ℕ) → is_reached blocks (suc steps) ino ≡ (is_reached blocks steps ino || any_from (λ d. is_reached blocks steps d && not (nat_eq (late_from blocks ino d) 0)) 0 (last_inode blocks + 1))
   unfolding is_reached
   next_step steps ino = refl
 
