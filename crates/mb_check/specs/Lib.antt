@@ -1,2 +1,5 @@
+pub mod Directories
 pub mod NameSets
+pub mod Reaching
 pub mod SlotTests
+pub mod Tallies

@@ -8,8 +8,16 @@
 
 mod directories;
 mod names;
+mod parts;
+mod reaching;
+mod slot_walks;
 mod slots;
+mod tallies;
 
 pub use directories::{block_slots, slot};
 pub use names::NameSet;
+pub use parts::{kept_of, parts_of, read_part, slots_of_part};
+pub use reaching::{Reach, reached};
+pub use slot_walks::each_directory;
 pub use slots::{has_dots, is_named_once, leads_there};
+pub use tallies::{Late, SlotCounts, Tally};
