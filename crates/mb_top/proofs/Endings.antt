@@ -1,15 +1,17 @@
 -- Which ends a run can have.
-use Rattle.std.proofs.Common.{List, ℕ, ◌≡◌, ◌≢◌, ◌<◌, ◌≤◌, ◌⊎◌, inl, inr, true, false, take, arith, sym, subst, ◌∙◌, Option, Some, Ok, refl, IfSome}
-use Rattle.mb_job.specs.Job.{job_in}
-use Rattle.mb_job.specs.declared.jobs.Job.{Job}
+use Rattle.std.proofs.Common.{List, ℕ, ◌≡◌, ◌≢◌, ◌<◌, ◌≤◌, ◌⊎◌, inl, inr, true, false, take, arith, sym, subst, ◌∙◌, Option, Some, Result, Ok, refl, IfSome}
+use Rattle.mb_jobs.specs.Job.{job_in}
+use Rattle.mb_jobs.specs.declared.jobs.Job.{Job}
+use Rattle.mb_jobs.specs.declared.jobs.JobFault.{JobFault}
 use Rattle.mb_kinds.specs.Image.{Image}
+use Rattle.mb_top.specs.Built.{is_built}
 use Rattle.mb_top.specs.Commands.{is_run}
 use Rattle.mb_top.specs.Completes.{Completes}
-use Rattle.mb_top.specs.Outcomes.{IsOutcome, status_of}
+use Rattle.mb_top.specs.Outcomes.{IsNotBuilt, IsOutcome, SaysWhy, status_of}
 use Rattle.mb_top.specs.Simple.{IsSimple}
 use Rattle.mb_top.specs.declared.finish.Held.{Held}
 use Rattle.mb_top.specs.declared.outcomes.Outcome.{Outcome}
-use Rattle.mb_top.specs.declared.outcomes.Outcome.TheVariants.{WordsRefused, InputFault, TooLong, NotToml, JobNotBuilt, DiskFault, NoBlocks, BadSizes, ImageNotBuilt, OutOfMemory, Unsettled, Ran}
+use Rattle.mb_top.specs.declared.outcomes.Outcome.TheVariants.{WordsRefused, InputFault, JobRefused, JobNotBuilt, DiskFault, NoBlocks, BadSizes, ImageNotBuilt, OutOfMemory, Unsettled, Ran}
 use Rattle.mb_tree.specs.Volume.{HasSizes}
 
 -- a status that is left for a good job on a simple image
@@ -20,22 +22,21 @@ told_is : {told : Option Image} {image : Image} (Fact : Image → Type 0) → to
 told_is Fact is fact = subst (λ (t : Option Image). IfSome t Fact) is fact
 
 left_over : {D : Type 0} (told : D → Option Image) (faults : D → ℕ) (words : List (List ℕ)) (bytes : List ℕ) (disk : D) (image : Image) (job : Job) (held : Held D) (outcome : Outcome)
-    → IsOutcome told faults words (Some bytes) disk held outcome → is_run words ≡ true → job_in (take 4194305 bytes) ≡ Ok job → told disk ≡ Some image → IsSimple image → IsLeftOver (status_of outcome)
-left_over told faults words bytes disk image job held WordsRefused is command good tells simple = absurd (let wrong : true ≡ false = sym command ∙ is.0 in cc)
-left_over told faults words bytes disk image job held InputFault is command good tells simple = inr (inr (inr refl))
-left_over told faults words bytes disk image job held TooLong is command good tells simple = absurd (let wrong = sym good ∙ is.2 in cc)
-left_over told faults words bytes disk image job held NotToml is command good tells simple = absurd (let wrong = sym good ∙ is.2 in cc)
-left_over told faults words bytes disk image job held JobNotBuilt is command good tells simple = absurd (let wrong = sym good ∙ is.2 in cc)
-left_over told faults words bytes disk image job held DiskFault is command good tells simple = inr (inr (inl refl))
-left_over told faults words bytes disk image job held NoBlocks is command good tells simple =
+    → IsOutcome told faults words (Some bytes) disk held outcome → is_run words ≡ true → job_in (take 4194305 bytes) ≡ Ok job → is_built job ≡ true → told disk ≡ Some image → IsSimple image → IsLeftOver (status_of outcome)
+left_over told faults words bytes disk image job held WordsRefused is command good built tells simple = absurd (let wrong : true ≡ false = sym command ∙ is.0 in cc)
+left_over told faults words bytes disk image job held InputFault is command good built tells simple = inr (inr (inr refl))
+left_over told faults words bytes disk image job held (JobRefused line) is command good built tells simple = absurd (subst (λ (found : Result Job JobFault). SaysWhy found line) good is.2)
+left_over told faults words bytes disk image job held JobNotBuilt is command good built tells simple = absurd (let wrong : true ≡ false = sym built ∙ subst IsNotBuilt good is.2 in cc)
+left_over told faults words bytes disk image job held DiskFault is command good built tells simple = inr (inr (inl refl))
+left_over told faults words bytes disk image job held NoBlocks is command good built tells simple =
     absurd (let few = told_is (λ image. image.count < 2) tells is.1.over.1 in let many = simple.sizes.blocks in omega arith)
-left_over told faults words bytes disk image job held BadSizes is command good tells simple =
+left_over told faults words bytes disk image job held BadSizes is command good built tells simple =
     absurd ((told_is (λ image. (2 ≤ image.count) × (HasSizes image → ⊥)) tells is.1.over.1).1 simple.sizes)
-left_over told faults words bytes disk image job held ImageNotBuilt is command good tells simple =
+left_over told faults words bytes disk image job held ImageNotBuilt is command good built tells simple =
     absurd ((told_is (λ image. HasSizes image × (IsSimple image → ⊥)) tells is.1.over.1).1 simple)
-left_over told faults words bytes disk image job held OutOfMemory is command good tells simple = inr (inl refl)
-left_over told faults words bytes disk image job held (Unsettled text) is command good tells simple = inr (inr (inl refl))
-left_over told faults words bytes disk image job held (Ran text) is command good tells simple = inl refl
+left_over told faults words bytes disk image job held OutOfMemory is command good built tells simple = inr (inl refl)
+left_over told faults words bytes disk image job held (Unsettled text) is command good built tells simple = inr (inr (inl refl))
+left_over told faults words bytes disk image job held (Ran text) is command good built tells simple = inl refl
 
 settle : (status left : ℕ) → (status ≡ left) ⊎ (status ≡ 7) → IsLeftOver left → status ≢ 5 → status ≢ 7 → status ≢ 8 → (status ≡ 0) ⊎ (status ≡ 6)
 settle status left ended is no_disk no_output no_input =
@@ -54,5 +55,5 @@ settle status left ended is no_disk no_output no_input =
     ]
 
 pub completes : {D : Type 0} (told : D → Option Image) (faults : D → ℕ) → Completes told faults
-completes told faults words bytes disk image job held old new status ended command good tells simple no_disk no_output no_input =
-    settle status (status_of ended.outcome) ended.printed.ended (left_over told faults words bytes disk image job held ended.outcome ended.is command good tells simple) no_disk no_output no_input
+completes told faults words bytes disk image job held old new status ended command good built tells simple no_disk no_output no_input =
+    settle status (status_of ended.outcome) ended.printed.ended (left_over told faults words bytes disk image job held ended.outcome ended.is command good built tells simple) no_disk no_output no_input

@@ -1,4 +1,5 @@
 pub mod Beginnings
+pub mod Built
 pub mod Commands
 pub mod Completes
 pub mod Contents

@@ -1,32 +1,33 @@
 -- How the program ends: the order of the causes, and for each of them its status and its text.
-use Rattle.std.specs.Prelude.{List, ◌++◌, ℕ, ◌+◌, ◌-◌, ◌^◌, ◌≡◌, ◌≢◌, ◌<◌, ◌≤◌, ◌⊎◌, codes, true, false, length, take, count_by, Option, Ok, Err, IfSome}
+use Rattle.std.specs.Prelude.{List, ◌++◌, ℕ, ◌+◌, ◌-◌, ◌^◌, ◌≡◌, ◌≢◌, ◌<◌, ◌≤◌, ◌⊎◌, codes, true, false, length, take, count_by, Option, Result, Ok, Err, IfSome}
 use Rattle.std.specs.Io.KnownBytes.{Appends}
 use Rattle.mb_edge.specs.Transfers.{TakesFront}
-use Rattle.mb_job.specs.Job.{job_in}
-use Rattle.mb_job.specs.Transcript.{transcript_text, end_text}
-use Rattle.mb_job.specs.declared.jobs.Job.{Job}
-use Rattle.mb_job.specs.declared.jobs.JobFault.TheVariants as fault
+use Rattle.mb_jobs.specs.Job.{job_in}
+use Rattle.mb_jobs.specs.declared.jobs.Job.{Job}
+use Rattle.mb_jobs.specs.declared.jobs.JobFault.{JobFault}
 use Rattle.mb_kinds.specs.Image.{Image}
 use Rattle.mb_kinds.specs.declared.entries.Entry.{Entry}
 use Rattle.mb_core.specs.declared.OpenFault.{OpenFault}
 use Rattle.mb_core.specs.declared.OpenFault.TheVariants as opens
 use Rattle.mb_core.specs.Devices.{is_device}
 use Rattle.mb_core.specs.State.{CoreState}
+use Rattle.mb_print.specs.Causes.{refused_text}
+use Rattle.mb_print.specs.Transcript.{transcript_text, end_text}
 use Rattle.mb_tree.specs.Volume.{HasSizes}
+use Rattle.mb_top.specs.Built.{is_built}
 use Rattle.mb_top.specs.Commands.{is_run}
 use Rattle.mb_top.specs.Headline.{IsRun, LeavesImage}
 use Rattle.mb_top.specs.Held.{IsDriven, IsGivenBack}
 use Rattle.mb_top.specs.Simple.{IsSimple}
 use Rattle.mb_top.specs.declared.finish.Held.{Held}
 use Rattle.mb_top.specs.declared.outcomes.Outcome.{Outcome}
-use Rattle.mb_top.specs.declared.outcomes.Outcome.TheVariants.{WordsRefused, InputFault, TooLong, NotToml, JobNotBuilt, DiskFault, NoBlocks, BadSizes, ImageNotBuilt, OutOfMemory, Unsettled, Ran}
+use Rattle.mb_top.specs.declared.outcomes.Outcome.TheVariants.{WordsRefused, InputFault, JobRefused, JobNotBuilt, DiskFault, NoBlocks, BadSizes, ImageNotBuilt, OutOfMemory, Unsettled, Ran}
 
 -- the program's status
 abbrev pub status_of : Outcome → ℕ
 status_of WordsRefused = 1
 status_of InputFault = 8
-status_of TooLong = 2
-status_of NotToml = 2
+status_of (JobRefused line) = 2
 status_of JobNotBuilt = 9
 status_of DiskFault = 5
 status_of NoBlocks = 3
@@ -40,8 +41,7 @@ status_of (Ran text) = 0
 abbrev pub text_of : Outcome → List ℕ
 text_of WordsRefused = codes "words refused\n"
 text_of InputFault = codes "input fault\n"
-text_of TooLong = codes "job refused: too long\n"
-text_of NotToml = codes "job refused: not toml\n"
+text_of (JobRefused line) = line
 text_of JobNotBuilt = codes "not built\n"
 text_of DiskFault = codes "disk fault\n"
 text_of NoBlocks = codes "volume refused: block 1 rule 1\n"
@@ -120,19 +120,35 @@ IsRefusedAs fault outcome = ⊥
 abbrev pub OfBytes : Option (List ℕ) → (List ℕ → Type 0) → Type 0
 OfBytes left Fact = IfSome left (λ bytes. Fact (take 4194305 bytes))
 
--- why there is no job
+-- a line says why a job is refused
+abbrev pub SaysWhy : Result Job JobFault → List ℕ → Type 0
+SaysWhy (Ok job) line = ⊥
+SaysWhy (Err fault) line = line ≡ refused_text fault
+
+-- a job is of a form that is not run yet
+abbrev pub IsNotBuilt : Result Job JobFault → Type 0
+IsNotBuilt (Ok job) = is_built job ≡ false
+IsNotBuilt (Err fault) = ⊥
+
+-- what a refusal says where a job is given so
+abbrev pub IsRefusal : Result Job JobFault → Outcome → Type 0
+IsRefusal found (JobRefused line) = SaysWhy found line
+IsRefusal found OutOfMemory = Unit {0}
+IsRefusal found _ = ⊥
+
+-- why no job is run
 abbrev pub IsJobRefused : Option (List ℕ) → Outcome → Type 0
 IsJobRefused left InputFault = Unit {0}
 IsJobRefused left OutOfMemory = Unit {0}
-IsJobRefused left TooLong = OfBytes left (λ bytes. job_in bytes ≡ Err fault.TooLong)
-IsJobRefused left NotToml = OfBytes left (λ bytes. job_in bytes ≡ Err fault.NotToml)
-IsJobRefused left JobNotBuilt = OfBytes left (λ bytes. job_in bytes ≡ Err fault.NotBuilt)
+IsJobRefused left (JobRefused line) = OfBytes left (λ bytes. SaysWhy (job_in bytes) line)
+IsJobRefused left JobNotBuilt = OfBytes left (λ bytes. IsNotBuilt (job_in bytes))
 IsJobRefused left _ = ⊥
 
--- a job that is read, and what came of it
+-- a job of the form that is run, and what came of it
 pub record IsJobRun {D : Type 0} (told : D → Option Image) (faults : D → ℕ) (bytes : List ℕ) (disk : D) (held : Held D) (outcome : Outcome) : Type 0 where
   pub job : Job
   pub read : job_in bytes ≡ Ok job
+  pub built : is_built job ≡ true
   pub over : ComesOfJob told faults job disk held outcome
 
 -- the causes, in their order: the words, the input, the job, and then what comes of it
@@ -140,9 +156,8 @@ abbrev pub IsOutcome : {D : Type 0} → (D → Option Image) → (D → ℕ) →
 IsOutcome told faults words left disk held WordsRefused = (is_run words ≡ false) × IsGivenBack told disk held
 IsOutcome told faults words left disk held InputFault = (is_run words ≡ true) × IsGivenBack told disk held
 IsOutcome told faults words left disk held OutOfMemory = is_run words ≡ true
-IsOutcome told faults words left disk held TooLong = (is_run words ≡ true) × IsGivenBack told disk held × OfBytes left (λ bytes. job_in bytes ≡ Err fault.TooLong)
-IsOutcome told faults words left disk held NotToml = (is_run words ≡ true) × IsGivenBack told disk held × OfBytes left (λ bytes. job_in bytes ≡ Err fault.NotToml)
-IsOutcome told faults words left disk held JobNotBuilt = (is_run words ≡ true) × IsGivenBack told disk held × OfBytes left (λ bytes. job_in bytes ≡ Err fault.NotBuilt)
+IsOutcome told faults words left disk held (JobRefused line) = (is_run words ≡ true) × IsGivenBack told disk held × OfBytes left (λ bytes. SaysWhy (job_in bytes) line)
+IsOutcome told faults words left disk held JobNotBuilt = (is_run words ≡ true) × IsGivenBack told disk held × OfBytes left (λ bytes. IsNotBuilt (job_in bytes))
 IsOutcome told faults words left disk held outcome = (is_run words ≡ true) × OfBytes left (λ bytes. IsJobRun told faults bytes disk held outcome)
 
 -- the program printed its text and ended with its status, or the output failed after a front of the text

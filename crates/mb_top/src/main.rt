@@ -6,6 +6,7 @@
 
 mod adapters;
 mod blocks;
+mod built;
 mod deciding;
 #[cfg(test)]
 mod example_tests;
@@ -13,6 +14,8 @@ mod example_tests;
 mod fault_tests;
 mod files;
 mod finish;
+#[cfg(test)]
+mod job_tests;
 mod laws;
 mod membrane;
 mod opening;

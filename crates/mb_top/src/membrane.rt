@@ -15,7 +15,7 @@ use std::alloc::Global;
 ///
 /// The statuses: 0 done; 1 the words are no command; 2 the job is refused; 3 the volume is refused; 5 the
 /// disk failed at the opening or in the end of the run; 6 want of memory; 7 the output failed; 8 the input failed; 9 a job or an
-/// image of a form that is not read yet. `specs/Outcomes.antt` says when each comes.
+/// image of a form that is not run yet. `specs/Outcomes.antt` says when each comes.
 pub fn membrane<S: Source, D: Disk, K: Sink>(
     alloc: Global,
     words: &Words,
@@ -53,7 +53,7 @@ fn status_of(outcome: &Outcome) -> u8
     match outcome {
         Outcome::Ran(_) => 0,
         Outcome::WordsRefused => 1,
-        Outcome::TooLong | Outcome::NotToml => 2,
+        Outcome::JobRefused(_) => 2,
         Outcome::NoBlocks | Outcome::BadSizes => 3,
         Outcome::DiskFault | Outcome::Unsettled(_) => 5,
         Outcome::OutOfMemory => 6,
@@ -68,13 +68,13 @@ fn text_of(outcome: &Outcome) -> &[u8]
     match outcome {
         Outcome::WordsRefused => b"words refused\n",
         Outcome::InputFault => b"input fault\n",
-        Outcome::TooLong => b"job refused: too long\n",
-        Outcome::NotToml => b"job refused: not toml\n",
         Outcome::DiskFault => b"disk fault\n",
         Outcome::NoBlocks => b"volume refused: block 1 rule 1\n",
         Outcome::BadSizes => b"volume refused: block 1 rule 2\n",
         Outcome::OutOfMemory => b"no memory\n",
         Outcome::JobNotBuilt | Outcome::ImageNotBuilt => b"not built\n",
-        Outcome::Unsettled(text) | Outcome::Ran(text) => text.as_slice(),
+        Outcome::JobRefused(text) | Outcome::Unsettled(text) | Outcome::Ran(text) => {
+            text.as_slice()
+        }
     }
 }

@@ -1,4 +1,4 @@
-use mb_job::Text;
+use mb_jobs::Text;
 
 /// How the program ended, before it printed. `specs/Outcomes.antt` says when each comes, with its status
 /// and its text.
@@ -8,11 +8,9 @@ pub enum Outcome {
     WordsRefused,
     /// The job could not be read.
     InputFault,
-    /// The job's text is too long.
-    TooLong,
-    /// The job's text is no TOML document.
-    NotToml,
-    /// The job is of a form that is not read yet.
+    /// The job's text is none; the text is the line with the first cause.
+    JobRefused(Text),
+    /// The job is of a form that is not run yet.
     JobNotBuilt,
     /// The disk failed while the image was opened.
     DiskFault,
