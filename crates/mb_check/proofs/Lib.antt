@@ -1,6 +1,7 @@
 pub mod Leading
 pub mod Marking
 pub mod Naming
+pub mod Parenting
 pub mod PartReads
 pub mod Reaches
 pub mod SlotWalks

@@ -7,6 +7,7 @@
 #![tactic(auto)]
 
 mod directories;
+mod links;
 mod names;
 mod parts;
 mod reaching;
@@ -15,6 +16,7 @@ mod slots;
 mod tallies;
 
 pub use directories::{block_slots, slot};
+pub use links::parents;
 pub use names::NameSet;
 pub use parts::{kept_of, parts_of, read_part, slots_of_part};
 pub use reaching::{Reach, reached};

@@ -161,7 +161,7 @@ module _ (blocks : ℕ → List ℕ) (ino : ℕ) where
     body = (body_fits keeps).has;
   })
 
-get_tree : (image : Image) (ino : ℕ) → ino ≤ last_inode image.at → fin.get (tree_of image).nodes ino ≡ node_at image.at ino
+pub get_tree : (image : Image) (ino : ℕ) → ino ≤ last_inode image.at → fin.get (tree_of image).nodes ino ≡ node_at image.at ino
 unfolding nodes_in
 get_tree image ino low =
     ap (λ m. fin.get m ino) (tree_nodes image) ∙ get_cells (map (node_at image.at) (range_with_len 0 (last_inode image.at + 1))) ino
