@@ -41,7 +41,7 @@ never_some flight same = cc
 some_made : (made : JobCall) → None ≡ Some made → ⊥
 some_made made same = cc
 
-some_call : (call : Call) → None ≡ Some call → ⊥
+pub some_call : (call : Call) → None ≡ Some call → ⊥
 some_call call same = cc
 
 some_same : (one other : Runner) → Some one ≡ Some other → one ≡ other

@@ -7,12 +7,13 @@ use Rattle.mb_kinds.specs.declared.calls.Call.{Call}
 use Rattle.mb_kinds.specs.declared.entries.Flight.{Flight}
 use Rattle.mb_run.specs.Served.{IsAtBy, IsMarked, IsServed, MayGiveUp, MayStep, Nears, Turns, Underway, calls_of}
 use Rattle.mb_run.specs.declared.progress.Turn.TheVariants as turn
+use Rattle.mb_run.proofs.Going.{IsTurning}
 use Rattle.mb_run.proofs.Everybody.{got, put_underway}
 use Rattle.mb_run.specs.Sights.{IsOrderly, IsWaiting, Sight}
 use Rattle.mb_run.specs.declared.runner.Runner.{Runner}
 use Rattle.std.proofs.Common.{Bool}
 
-waits_by : (list made : List Call) (done begun : ℕ) (answered : Bool) (flight : Option Flight) → done < begun → answered ≡ false → IsAtBy list made done begun flight → IsMarked answered flight
+pub waits_by : (list made : List Call) (done begun : ℕ) (answered : Bool) (flight : Option Flight) → done < begun → answered ≡ false → IsAtBy list made done begun flight → IsMarked answered flight
     → (found : Flight) × (flight ≡ Some found) × (found.answered ≡ false)
 waits_by list made done begun answered None more lacks at marked = absurd (omega (arith, more, at.0))
 waits_by list made done begun answered (Some flight) more lacks at marked = (flight, refl, marked ∙ lacks)
@@ -46,3 +47,13 @@ turn_gives_up calls test old new runners caller d now e underway low turns right
       lacks = ap (λ (r : Runner). r.answered) (get_or-set_same runners caller now e low) ∙ turns.goes.1;
       right = right;
     }
+
+-- the same where it was not told what comes next
+pub turning_gives_up : (calls : List JobCall) (test : Option (Crossing → Bool)) (old new : Sight) (before now : Runner) (call : Call) → IsTurning calls test old new before now call → now.answered ≡ false → MayGiveUp new now
+turning_gives_up calls test old new before now call turning lacks = record {
+  list = calls_of calls now.crossings.caller;
+  served = turning.may.served;
+  within = turning.may.within;
+  lacks = lacks;
+  right = turning.may.right;
+}

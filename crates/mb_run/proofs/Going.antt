@@ -65,7 +65,7 @@ rolling_on calls test old mid new before m now call so_far rolled right = record
   may = nears_may calls test mid new m now call so_far.may rolled.nears rolled.goes.0 right;
   nears = nears_then calls test old mid new before m now so_far.nears rolled.nears;
   done = rolled.goes.0 ∙ so_far.done;
-  outside = rolled.goes.1;
+  outside = rolled.goes.1 ∙ so_far.outside;
   waits = subst (λ n. IsWaiting (new.seats n)) (sym rolled.nears.same) rolled.goes.2;
   recovered = rolled.goes.3;
   less = (let here : work new now.crossings.caller now ≡ work new m.crossings.caller now = ap (λ n. work new n now) rolled.nears.same in omega (arith, so_far.less, rolled.goes.5, here));

@@ -14,4 +14,8 @@ pub mod Everybody
 pub mod GivingUp
 pub mod Lines
 pub mod Openings
+pub mod Moving
+pub mod RunningOut
+pub mod Quiet
+pub mod Waiting
 pub mod InOrder

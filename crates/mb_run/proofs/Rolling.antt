@@ -11,8 +11,10 @@ use Rattle.mb_kinds.specs.declared.faults.FaultRecord.{FaultRecord}
 use Rattle.mb_kinds.specs.declared.faults.Ticket.{Ticket}
 use Rattle.mb_kinds.specs.declared.replies.Reply.TheVariants as reply
 use Rattle.mb_run.specs.Recovering.{EndsByDevice, GoOn, GoesOn, Rolls, Steps, Strikes, Waits}
-use Rattle.mb_run.specs.Served.{Acts, AreCounts, AreSound, Did, IsAtBy, IsCounted, IsServed, IsStanding, Keeps, MayStep, Nears, Rolled, advanced, with_crossings, busy, calls_in, calls_of, rank}
+use Rattle.mb_run.specs.Served.{Acts, AreCounts, AreSound, Did, IsAtBy, IsCounted, IsResting, IsServed, IsStanding, Keeps, MayStep, Nears, Rolled, advanced, with_crossings, busy, calls_in, calls_of, rank}
 use Rattle.mb_run.specs.Sights.{IsOld, IsOrderly, IsWaiting, Limits, Sight, one_if, recovers}
+use Rattle.mb_core_spec.specs.Copies.{PagesState}
+use Rattle.mb_run.specs.declared.runner.At.{At}
 use Rattle.mb_run.specs.declared.runner.At.TheVariants as at
 use Rattle.mb_jobs.specs.declared.jobs.JobCall.{JobCall}
 use Rattle.mb_core_spec.specs.declared.stages.Stage.TheVariants as stage
@@ -28,9 +30,9 @@ use Rattle.mb_run.proofs.Openings.{line_open}
 use Rattle.mb_run.proofs.Balance.{balanced_same, marked_here}
 use Rattle.mb_run.proofs.Lines.{line_same}
 use Rattle.mb_run.proofs.Lists.{all_map, all_both}
-use Rattle.mb_run.proofs.Struck.{one_most}
+use Rattle.mb_run.proofs.Struck.{one_most, rank_old}
 
-not_running : (s : Sight) → recovers s.stage ≡ true → s.stage ≡ stage.Running → ⊥
+pub not_running : (s : Sight) → recovers s.stage ≡ true → s.stage ≡ stage.Running → ⊥
 not_running s recovered runs = let stopped : recovers s.stage ≡ false = ap recovers runs in let both : true ≡ false = sym recovered ∙ stopped in cc
 
 acts_waits : (caller : ℕ) (old new : Sight) (more : List FaultRecord) → Waits old new → recovers old.stage ≡ true → new.records ≡ old.records ++ more → AllByRecursion (λ (fault : FaultRecord). fault.caller ≡ caller) more → Acts caller old new
@@ -49,16 +51,33 @@ acts_waits caller old new more waits recovered records mine = record {
   floor = elim waits.floor [ inl none ↦ inl none | inr same ↦ inr (inr same) ];
 }
 
-module _ (calls : List JobCall) (test : Option (Crossing → Bool)) (old : Sight) (runner : Runner) (call : Call) (may : MayStep calls test old runner call) (outside : runner.at ≡ at.Outside) where
-  was_old : IsOld old.incarnation (old.seats runner.crossings.caller).flight
-  was_old = subst (IsStanding old runner.crossings.caller runner.pages) outside may.served.stands
+-- a call that is outside, or has an older ticket, stands as before
+stands_waits : (old new : Sight) (caller : ℕ) (pages : PagesState) (a : At) → Waits old new → IsResting old.incarnation a → IsStanding old caller pages a → IsStanding new caller pages a
+stands_waits old new caller pages at.Outside waits rests was = rw (waits.incarnation, waits.seats caller) was
+stands_waits old new caller pages (at.Inside ticket) waits rests was = (
+  rw (waits.seats caller) was.0,
+  record {
+    mine = was.1.mine;
+    past = omega (arith, was.1.past, waits.incarnation);
+    runs = λ present. absurd (rests (present ∙ waits.incarnation));
+    same = λ present. absurd (rests (present ∙ waits.incarnation));
+    tables = rw waits.config was.1.tables;
+  },
+)
+stands_waits old new caller pages (at.Logged ticket) waits rests was = (rw (waits.seats caller) was.0, was.1, omega (arith, was.2, waits.incarnation))
 
+rank_rests : (incarnation one other : ℕ) (pages : PagesState) (a : At) → IsResting incarnation a → rank incarnation one pages a ≡ rank incarnation other pages a
+rank_rests incarnation one other pages at.Outside rests = refl
+rank_rests incarnation one other pages (at.Inside ticket) rests = rank_old incarnation one pages (at.Inside ticket) ticket refl rests ∙ sym (rank_old incarnation other pages (at.Inside ticket) ticket refl rests)
+rank_rests incarnation one other pages (at.Logged ticket) rests = refl
+
+module _ (calls : List JobCall) (test : Option (Crossing → Bool)) (old : Sight) (runner : Runner) (call : Call) (may : MayStep calls test old runner call) (rests : IsResting old.incarnation runner.at) where
   waited : (new : Sight) (crossings : Crossings) → GoesOn runner.crossings crossings → Waits old new → AllByRecursion (IsCounted crossings) new.records → IsServed (calls_of calls runner.crossings.caller) new runner.crossings.caller (with_crossings runner crossings)
   waited new crossings on waits all = record {
     caller_is = on.caller;
     ordinal = on.ordinal ∙ may.served.ordinal;
     calls = rw (waits.counts.history, waits.seats runner.crossings.caller) may.served.calls;
-    stands = subst (IsStanding new runner.crossings.caller runner.pages) (sym outside) (rw (waits.incarnation, waits.seats runner.crossings.caller) was_old);
+    stands = stands_waits old new runner.crossings.caller runner.pages runner.at waits rests may.served.stands;
     marked = rw (waits.seats runner.crossings.caller) may.served.marked;
     counted = all;
   }
@@ -91,8 +110,9 @@ module _ (calls : List JobCall) (test : Option (Crossing → Bool)) (old : Sight
     sound = subst (AreSound test) (sym strikes.records) (sound_push test runner.crossings crossings old.records strikes.fault strikes.taken may.served.counted may.sound);
   }
 
-  rank_here : (incarnation stales : ℕ) → rank incarnation stales runner.pages runner.at ≡ 4194304
-  rank_here incarnation stales = ap (rank incarnation stales runner.pages) outside
+  ranks : (new : Sight) → Waits old new → rank new.incarnation (new.stales runner.crossings.caller) runner.pages runner.at ≡ rank old.incarnation (old.stales runner.crossings.caller) runner.pages runner.at
+  ranks new waits = ap (λ n. rank n (new.stales runner.crossings.caller) runner.pages runner.at) waits.incarnation
+      ∙ rank_rests old.incarnation (new.stales runner.crossings.caller) (old.stales runner.crossings.caller) runner.pages runner.at rests
 
   limits : (new : Sight) → Waits old new → new.config.limit ≡ old.config.limit
   limits new waits = ap (λ (l : Limits). l.limit) waits.config
@@ -112,11 +132,11 @@ module _ (calls : List JobCall) (test : Option (Crossing → Bool)) (old : Sight
         nears = rolls_near new crossings on rolls;
         goes = (
           refl,
-          outside,
+          refl,
           rw (rolls.waits.seats runner.crossings.caller) waiting,
           still,
           (omega (arith, same, limits new rolls.waits, rolls.fewer)),
-          omega (arith, same, limits new rolls.waits, now, was, busy_less new rolls.waits, rank_here new.incarnation (new.stales runner.crossings.caller), rank_here old.incarnation (old.stales runner.crossings.caller)),
+          omega (arith, same, limits new rolls.waits, now, was, busy_less new rolls.waits, ranks new rolls.waits),
         );
       }
 
@@ -131,11 +151,11 @@ module _ (calls : List JobCall) (test : Option (Crossing → Bool)) (old : Sight
         nears = strikes_near new crossings on strikes;
         goes = (
           refl,
-          outside,
+          refl,
           rw (strikes.waits.seats runner.crossings.caller) waiting,
           still,
           (omega (arith, more, limits new strikes.waits, right.records, right.left)),
-          omega (arith, more, limits new strikes.waits, right.records, one_most (recovers new.stage), busy_less new strikes.waits, rank_here new.incarnation (new.stales runner.crossings.caller), rank_here old.incarnation (old.stales runner.crossings.caller)),
+          omega (arith, more, limits new strikes.waits, right.records, one_most (recovers new.stage), busy_less new strikes.waits, ranks new strikes.waits),
         );
       }
 
@@ -155,7 +175,7 @@ module _ (calls : List JobCall) (test : Option (Crossing → Bool)) (old : Sight
           served = waited new crossings on waits (rw records (counted_on runner.crossings crossings old.records on may.served.counted));
           sound = rw records may.sound;
         };
-        goes = (refl, outside, (omega (arith, same, limits new waits, now, was, busy_less new waits, rank_here new.incarnation (new.stales runner.crossings.caller), rank_here old.incarnation (old.stales runner.crossings.caller))));
+        goes = (refl, refl, (omega (arith, same, limits new waits, now, was, busy_less new waits, ranks new waits)));
       }
 
   pub rolled_struck : (new : Sight) (crossings : Crossings) → GoesOn runner.crossings crossings → Strikes test runner.crossings crossings old new → IsOrderly new → Rolled calls test old new runner (with_crossings runner crossings) went.Back
@@ -163,7 +183,7 @@ module _ (calls : List JobCall) (test : Option (Crossing → Bool)) (old : Sight
       let more = records_more new crossings strikes in
       record {
         nears = strikes_near new crossings on strikes;
-        goes = (refl, outside, (omega (arith, more, limits new strikes.waits, right.records, one_most (recovers new.stage), busy_less new strikes.waits, rank_here new.incarnation (new.stales runner.crossings.caller), rank_here old.incarnation (old.stales runner.crossings.caller))));
+        goes = (refl, refl, (omega (arith, more, limits new strikes.waits, right.records, one_most (recovers new.stage), busy_less new strikes.waits, ranks new strikes.waits)));
       }
 
   -- the disk failed: the call is answered
@@ -224,34 +244,34 @@ Ends stepped.Device = Unit {0}
 Ends stepped.NoMemory = Unit {0}
 Ends _ = ⊥
 
-module _ (calls : List JobCall) (test : Option (Crossing → Bool)) (old : Sight) (runner : Runner) (call : Call) (may : MayStep calls test old runner call) (outside : runner.at ≡ at.Outside) (waiting : IsWaiting (old.seats runner.crossings.caller)) where
+module _ (calls : List JobCall) (test : Option (Crossing → Bool)) (old : Sight) (runner : Runner) (call : Call) (may : MayStep calls test old runner call) (rests : IsResting old.incarnation runner.at) (waiting : IsWaiting (old.seats runner.crossings.caller)) where
   pub did_roll : (new : Sight) (now : Crossings) (answer : Stepped) → GoesOn runner.crossings now → IsOrderly new → Steps test (Some runner.crossings) (Some now) old new answer → (Ends answer → ⊥)
       → Rolled calls test old new runner (with_crossings runner now) (rolled_went answer)
   did_roll new now stepped.Idle on right steps goes = absurd (goes tt)
-  did_roll new now (stepped.Unwound ticket) on right steps goes = rolled_on calls test old runner call may outside new now on waiting steps.1 steps.0
+  did_roll new now (stepped.Unwound ticket) on right steps goes = rolled_on calls test old runner call may rests new now on waiting steps.1 steps.0
   did_roll new now (stepped.Failed faults) on right steps goes = elim steps.1 [
-    | inl plain ↦ rolled_back calls test old runner call may outside new now on plain.1 plain.0 plain.2 (ap recovers steps.0)
-    | inr strikes ↦ rolled_struck calls test old runner call may outside new now on strikes right
+    | inl plain ↦ rolled_back calls test old runner call may rests new now on plain.1 plain.0 plain.2 (ap recovers steps.0)
+    | inr strikes ↦ rolled_struck calls test old runner call may rests new now on strikes right
   ]
-  did_roll new now stepped.Dropped on right steps goes = rolled_on calls test old runner call may outside new now on waiting steps.1 steps.0
-  did_roll new now stepped.Remounted on right steps goes = rolled_on calls test old runner call may outside new now on waiting steps.2 (ap recovers steps.1)
-  did_roll new now stepped.Reopened on right steps goes = rolled_on calls test old runner call may outside new now on waiting steps.1 steps.0
-  did_roll new now (stepped.Replayed n) on right steps goes = rolled_on calls test old runner call may outside new now on waiting steps.1 steps.0
-  did_roll new now stepped.Resumed on right steps goes = rolled_back calls test old runner call may outside new now on steps.2.waits steps.2.records steps.2.recovered (ap recovers steps.0)
-  did_roll new now (stepped.Again faults) on right steps goes = rolled_again calls test old runner call may outside new now on waiting steps.1 right (ap recovers steps.0)
+  did_roll new now stepped.Dropped on right steps goes = rolled_on calls test old runner call may rests new now on waiting steps.1 steps.0
+  did_roll new now stepped.Remounted on right steps goes = rolled_on calls test old runner call may rests new now on waiting steps.2 (ap recovers steps.1)
+  did_roll new now stepped.Reopened on right steps goes = rolled_on calls test old runner call may rests new now on waiting steps.1 steps.0
+  did_roll new now (stepped.Replayed n) on right steps goes = rolled_on calls test old runner call may rests new now on waiting steps.1 steps.0
+  did_roll new now stepped.Resumed on right steps goes = rolled_back calls test old runner call may rests new now on steps.2.waits steps.2.records steps.2.recovered (ap recovers steps.0)
+  did_roll new now (stepped.Again faults) on right steps goes = rolled_again calls test old runner call may rests new now on waiting steps.1 right (ap recovers steps.0)
   did_roll new now stepped.Device on right steps goes = absurd (goes tt)
   did_roll new now stepped.NoMemory on right steps goes = absurd (goes tt)
 
-module _ (calls : List JobCall) (test : Option (Crossing → Bool)) (old : Sight) (runner : Runner) (call : Call) (may : MayStep calls test old runner call) (outside : runner.at ≡ at.Outside) (waiting : IsWaiting (old.seats runner.crossings.caller)) where
+module _ (calls : List JobCall) (test : Option (Crossing → Bool)) (old : Sight) (runner : Runner) (call : Call) (may : MayStep calls test old runner call) (rests : IsResting old.incarnation runner.at) (waiting : IsWaiting (old.seats runner.crossings.caller)) where
   pub kept_roll : (new : Sight) (by : Option Crossings) (now : Runner) (answer : Stepped) → GoOn (Some runner.crossings) by → IsOrderly new → Steps test (Some runner.crossings) by old new answer → (Ends answer → ⊥) → Keeps runner by now
       → Rolled calls test old new runner now (rolled_went answer)
   kept_roll new None now answer on right steps goes keeps = absurd keeps
   kept_roll new (Some crossings) now answer on right steps goes keeps =
-      subst (λ (r : Runner). Rolled calls test old new runner r (rolled_went answer)) (sym keeps) (did_roll calls test old runner call may outside waiting new crossings answer on right steps goes)
+      subst (λ (r : Runner). Rolled calls test old new runner r (rolled_went answer)) (sym keeps) (did_roll calls test old runner call may rests waiting new crossings answer on right steps goes)
 
   pub device_rolls : (new : Sight) (by : Option Crossings) → GoOn (Some runner.crossings) by → Steps test (Some runner.crossings) by old new stepped.Device → Rolled calls test old new runner (advanced runner) went.Ended
   device_rolls new None on steps = absurd on
-  device_rolls new (Some crossings) on steps = rolled_ended calls test old new runner (advanced runner) (device_ends calls test old runner call may outside new crossings on steps.1 waiting.0 waiting.1 waiting.2)
+  device_rolls new (Some crossings) on steps = rolled_ended calls test old new runner (advanced runner) (device_ends calls test old runner call may rests new crossings on steps.1 waiting.0 waiting.1 waiting.2)
 
   pub rolled_nothing : (new : Sight) → new ≡ old → Rolled calls test old new runner runner went.NoMemory
   rolled_nothing new same = subst (λ (s : Sight). Rolled calls test old s runner runner went.NoMemory) (sym same) (record {

@@ -3,4 +3,5 @@ pub mod Sights
 pub mod Events
 pub mod Recovering
 pub mod Served
+pub mod Orders
 pub mod Runs

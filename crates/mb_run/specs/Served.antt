@@ -220,6 +220,12 @@ pub record GoesIn (calls : List JobCall) (test : Option (Crossing → Bool)) (ol
 
 -- ---- a recovery
 
+-- the call is outside, or its ticket is of another incarnation
+abbrev pub IsResting : ℕ → At → Type 0
+IsResting incarnation at.Outside = Unit {0}
+IsResting incarnation (at.Inside ticket) = ticket.incarnation ≢ incarnation
+IsResting incarnation (at.Logged ticket) = ticket.incarnation ≢ incarnation
+
 abbrev pub with_crossings : Runner → Crossings → Runner
 with_crossings runner crossings = record runner { crossings = crossings }
 
@@ -229,8 +235,8 @@ steps_to_go sight = (sight.config.limit + 1 - length sight.records) * 8589934592
 
 abbrev pub RolledBy : ℕ → Sight → Sight → Runner → Runner → Went → Type 0
 RolledBy caller old new before now went.On =
-    (now.done ≡ before.done) × (now.at ≡ at.Outside) × IsWaiting (new.seats caller) × (recovers new.stage ≡ true) × (steps_to_go new < steps_to_go old) × (work new caller now ≤ work old caller before)
-RolledBy caller old new before now went.Back = (now.done ≡ before.done) × (now.at ≡ at.Outside) × (work new caller now < work old caller before)
+    (now.done ≡ before.done) × (now.at ≡ before.at) × IsWaiting (new.seats caller) × (recovers new.stage ≡ true) × (steps_to_go new < steps_to_go old) × (work new caller now ≤ work old caller before)
+RolledBy caller old new before now went.Back = (now.done ≡ before.done) × (now.at ≡ before.at) × (work new caller now < work old caller before)
 RolledBy caller old new before now went.Ended = (now.done ≡ before.done + 1) × ((new.seats caller).flight ≡ None)
 RolledBy caller old new before now went.NoMemory = (now.done ≡ before.done) × (now.answered ≡ false)
 RolledBy caller old new before now _ = ⊥

@@ -1,5 +1,5 @@
 -- What the driver sees of a core.
-use Rattle.std.specs.Prelude.{ℕ, ◌+◌, ◌-◌, ◌<◌, ◌≤◌, ◌≡◌, List, length, Bool, true, false, Option, Some, None, IfSome}
+use Rattle.std.specs.Prelude.{ℕ, ◌+◌, ◌-◌, ◌<◌, ◌≤◌, ◌≡◌, ◌≢◌, List, [], ◌∷◌, length, map, Bool, true, false, Option, Some, None, IfSome}
 use Rattle.std.specs.List.{AllByRecursion}
 use Rattle.mb_kinds.specs.declared.calls.Call.{Call}
 use Rattle.mb_kinds.specs.declared.entries.Entry.{Entry}
@@ -118,16 +118,23 @@ pub record HasTicket (done : Bool) (seat : Seat) (ticket : Ticket) : Type 0 wher
 abbrev pub IsWaiting : Seat → Type 0
 IsWaiting seat = (flight : Flight) × (seat.flight ≡ Some flight) × (flight.answered ≡ false)
 
+-- no number stands twice
+abbrev pub AreApart : List ℕ → Type 0
+AreApart [] = Unit {0}
+AreApart (one ∷ numbers) = AllByRecursion (λ other. one ≢ other) numbers × AreApart numbers
+
 -- what of a core's order the driver uses
 pub record IsOrderly (sight : Sight) : Type 0 where
   -- the entries have moments that were given out, no two alike
   pub above : AllByRecursion (λ (entry : Entry). sight.config.start < entry.moment) sight.history
   pub below : AllByRecursion (λ (entry : Entry). entry.moment ≤ sight.config.start + sight.begun) sight.history
+  pub apart : AreApart (map (λ (entry : Entry). entry.moment) sight.history)
   -- how many fault records there may be
   pub records : length sight.records ≤ sight.config.limit + 1
   pub few : is_running sight.stage ≡ true → length sight.records ≤ sight.config.limit
   pub struck : recovers sight.stage ≡ true → 1 ≤ length sight.records
   pub limit : sight.config.limit ≤ 255
+  pub callers : sight.config.callers ≤ 8
   -- a recovery has fewer steps than 2 ^ 33
   pub left : sight.left < 8589934592
   -- who has the right to commit alone is a declared caller with a call in flight, and nothing that it gathered is stale

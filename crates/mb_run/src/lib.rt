@@ -3,6 +3,7 @@
 
 mod answers;
 mod event_core;
+mod orders;
 mod progress;
 mod runner;
 mod runs;
@@ -10,7 +11,8 @@ mod steps;
 
 pub use answers::{Enter, Stepped};
 pub use event_core::EventCore;
-pub use progress::{Turn, Went};
+pub use orders::run_order;
+pub use progress::{Next, Turn, Went};
 pub use runner::{At, Runner};
 pub use runs::{find_call, recover, run_call, run_holder, run_in_order, turn};
 pub use steps::step;

@@ -17,6 +17,17 @@ pub enum Went {
     NoMemory,
 }
 
+/// What the next fault point of a caller's call is.
+#[derive(Clone, Copy, Debug, PartialEq, Eq, Drop)]
+pub enum Next {
+    /// That of entering or gathering, or none, where its reply is at hand.
+    Early,
+    /// That of finishing or leaving.
+    Late,
+    /// There was no memory to tell.
+    NoMemory,
+}
+
 /// What a step of a caller came to, with the recovery for which it waited.
 #[derive(Clone, Copy, Debug, PartialEq, Eq, Drop)]
 pub enum Turn {

@@ -1,8 +1,9 @@
 ghost use Rattle.std.specs.Prelude.{◌≡◌, ◌<◌, Some, true, length, option_map, slice_get};
 ghost use Rattle.std.specs.List.{AllByRecursion};
 ghost use Rattle.mb_edge.specs.declared.crossings.Crossings.{Crossings};
+ghost use Rattle.mb_run.specs.Orders.{IsAnswered, IsWhole};
 ghost use Rattle.mb_run.specs.Recovering.{GoOn};
-ghost use Rattle.mb_run.specs.Served.{IsAfter, IsMine, IsRunInOrder, Keeps, MayGiveUp, MayStep, Ran, Recovers, Rolled, Turns, Underway, calls_of};
+ghost use Rattle.mb_run.specs.Served.{IsAfter, IsMine, IsResting, IsRunInOrder, Keeps, MayGiveUp, MayStep, Ran, Recovers, Rolled, Turns, Underway, calls_of};
 ghost use Rattle.mb_run.specs.Sights.{IsOrderly, IsWaiting, recovers};
 ghost use Rattle.mb_run.specs.declared.runner.At.TheVariants as at;
 ghost use Rattle.mb_jobs.specs.declared.jobs.JobCall.{JobCall};
@@ -29,7 +30,7 @@ fn keep(runner: &mut Runner, by: &Option<Crossings>)
 }
 
 /// One step of a recovery, run by a call that waits.
-fn roll<C: EventCore, H: Hook>(
+pub(crate) fn roll<C: EventCore, H: Hook>(
     alloc: Global,
     core: &mut C,
     hook: &mut H,
@@ -38,7 +39,7 @@ fn roll<C: EventCore, H: Hook>(
     call: &Call,
 ) -> Went
     requires may { MayStep calls.now (H.test hook.old) (C.sight core.old) runner.old call.now }
-    requires outside { runner.old.at ≡ at.Outside }
+    requires rests { IsResting (C.sight core.old).incarnation runner.old.at }
     requires waits { IsWaiting ((C.sight core.old).seats runner.old.crossings.caller) }
     requires recovered { recovers (C.sight core.old).stage ≡ true }
     ensures rolled { Rolled calls.now (H.test hook.old) (C.sight core.old) (C.sight core.new) runner.old runner.new result }
@@ -89,7 +90,7 @@ fn roll<C: EventCore, H: Hook>(
 }
 
 /// Ends a call that met want of memory, where it was begun: it gets no entry.
-fn give_up<C: EventCore>(core: &mut C, runner: &Runner)
+pub(crate) fn give_up<C: EventCore>(core: &mut C, runner: &Runner)
     requires { MayGiveUp (C.sight core.old) runner.now }
     ensures right { IsOrderly (C.sight core.new) }
 {
@@ -226,9 +227,11 @@ pub fn run_call<C: EventCore, H: Hook>(
 ) -> bool
     requires underway { Underway calls.now (H.test hook.old) (C.sight core.old) runners.old }
     requires within { caller < length runners.old }
-    ensures underway { result ≡ true → Underway calls.now (H.test hook.old) (C.sight core.new) runners.new }
+    ensures whole { result ≡ true → IsWhole calls.now (H.test hook.old) (C.sight core.old) (C.sight core.new) runners.old runners.new }
+    ensures answered { result ≡ true → IsAnswered calls.now caller runners.old runners.new }
     ensures length { length runners.new ≡ length runners.old }
     ensures test { H.test hook.new ≡ H.test hook.old }
+    ensures right { IsOrderly (C.sight core.new) }
 {
     'turns: loop {
         let place = runners[caller as usize].done;
@@ -279,7 +282,9 @@ pub fn run_in_order<C: EventCore, H: Hook>(
 ) -> bool
     requires begins { IsAfter calls.now (H.test hook.old) (C.sight core.old) runners.old 0 }
     requires callers { AllByRecursion (λ (made : JobCall). made.caller < length runners.old) calls.now }
-    ensures { result ≡ true → IsRunInOrder calls.now (H.test hook.old) (C.sight core.new) }
+    ensures done { result ≡ true → IsRunInOrder calls.now (H.test hook.old) (C.sight core.new) }
+    ensures test { H.test hook.new ≡ H.test hook.old }
+    ensures right { IsOrderly (C.sight core.new) }
 {
     for made in calls {
         if !run_holder(

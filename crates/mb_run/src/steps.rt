@@ -245,7 +245,7 @@ fn leave<C: EventCore, H: Hook>(
 }
 
 /// Whether the tables were gathered.
-fn has_tables(pages: &Pages) -> bool
+pub(crate) fn has_tables(pages: &Pages) -> bool
     ensures { result ≡ has pages.now 0 }
 {
     pages.opens().is_some()

@@ -1,4 +1,5 @@
-use Rattle.std.proofs.Common.{refl, ◌∙◌}
+use Rattle.std.proofs.Common.{refl, ◌∙◌, subst, sym}
+use Rattle.mb_run.specs.Served.{IsResting}
 use Rattle.mb_run.proofs.Going.{rolling_begin, rolling_on, rolling_ends, rolling_back, rolling_stops}
 use Rattle.mb_run.proofs.runs.recover.Goals as goal
 
@@ -22,3 +23,6 @@ returns-in-Back-clause-recovers g c = rolling_back _ _ _ _ _ _ _ _ _ c.steps.inv
 
 pub returns-in-NoMemory-clause-recovers : goal.returns-in-NoMemory-clause-recovers
 returns-in-NoMemory-clause-recovers g c = rolling_stops _ _ _ _ _ _ _ _ _ c.steps.invariant.rolling (rw c.steps.invariant.test at c.in-NoMemory.ensures.rolled)
+
+pub roll-requires-clause-rests : goal.roll-requires-clause-rests
+roll-requires-clause-rests g c = subst (IsResting (g.C.EventCore.sight c.steps.core).incarnation) (sym c.steps.invariant.rolling.outside) tt

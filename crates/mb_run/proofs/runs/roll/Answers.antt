@@ -7,31 +7,31 @@ pub advance-requires-clause-done : goal.advance-requires-clause-done
 advance-requires-clause-done g c = room _ _ _ _ _ c.requires.may
 
 pub returns-in-Device-clause-rolled : goal.returns-in-Device-clause-rolled
-returns-in-Device-clause-rolled g c = rw c.advance.ensures (device_rolls _ _ _ _ _ c.requires.may c.requires.outside c.requires.waits _ _ c.in-Device.ensures.on c.in-Device.ensures.steps)
+returns-in-Device-clause-rolled g c = rw c.advance.ensures (device_rolls _ _ _ _ _ c.requires.may c.requires.rests c.requires.waits _ _ c.in-Device.ensures.on c.in-Device.ensures.steps)
 
 pub returns-in-NoMemory-clause-rolled : goal.returns-in-NoMemory-clause-rolled
-returns-in-NoMemory-clause-rolled g c = rolled_nothing _ _ _ _ _ c.requires.may c.requires.outside c.requires.waits _ c.in-NoMemory.ensures.steps
+returns-in-NoMemory-clause-rolled g c = rolled_nothing _ _ _ _ _ c.requires.may c.requires.rests c.requires.waits _ c.in-NoMemory.ensures.steps
 
 pub returns-in-Failed-clause-rolled : goal.returns-in-Failed-clause-rolled
-returns-in-Failed-clause-rolled g c = kept_roll _ _ _ _ _ c.requires.may c.requires.outside c.requires.waits _ _ _ (stepped.Failed c.in-Failed.faults) c.in-Failed.ensures.on c.recover_step.ensures.right c.in-Failed.ensures.steps (λ ends. ends) c.keep.ensures
+returns-in-Failed-clause-rolled g c = kept_roll _ _ _ _ _ c.requires.may c.requires.rests c.requires.waits _ _ _ (stepped.Failed c.in-Failed.faults) c.in-Failed.ensures.on c.recover_step.ensures.right c.in-Failed.ensures.steps (λ ends. ends) c.keep.ensures
 
 pub returns-in-Resumed-clause-rolled : goal.returns-in-Resumed-clause-rolled
-returns-in-Resumed-clause-rolled g c = kept_roll _ _ _ _ _ c.requires.may c.requires.outside c.requires.waits _ _ _ stepped.Resumed c.in-Resumed.ensures.on c.recover_step.ensures.right c.in-Resumed.ensures.steps (λ ends. ends) c.keep-in-Resumed.ensures
+returns-in-Resumed-clause-rolled g c = kept_roll _ _ _ _ _ c.requires.may c.requires.rests c.requires.waits _ _ _ stepped.Resumed c.in-Resumed.ensures.on c.recover_step.ensures.right c.in-Resumed.ensures.steps (λ ends. ends) c.keep-in-Resumed.ensures
 
 pub returns-in-Unwound-clause-rolled : goal.returns-in-Unwound-clause-rolled
-returns-in-Unwound-clause-rolled g c = kept_roll _ _ _ _ _ c.requires.may c.requires.outside c.requires.waits _ _ _ (stepped.Unwound c.in-Unwound.field-0) c.in-Unwound.ensures.on c.recover_step.ensures.right c.in-Unwound.ensures.steps (λ ends. ends) c.keep-in-Unwound.ensures
+returns-in-Unwound-clause-rolled g c = kept_roll _ _ _ _ _ c.requires.may c.requires.rests c.requires.waits _ _ _ (stepped.Unwound c.in-Unwound.field-0) c.in-Unwound.ensures.on c.recover_step.ensures.right c.in-Unwound.ensures.steps (λ ends. ends) c.keep-in-Unwound.ensures
 
 pub returns-in-Dropped-clause-rolled : goal.returns-in-Dropped-clause-rolled
-returns-in-Dropped-clause-rolled g c = kept_roll _ _ _ _ _ c.requires.may c.requires.outside c.requires.waits _ _ _ stepped.Dropped c.in-Dropped.ensures.on c.recover_step.ensures.right c.in-Dropped.ensures.steps (λ ends. ends) c.keep-in-Dropped.ensures
+returns-in-Dropped-clause-rolled g c = kept_roll _ _ _ _ _ c.requires.may c.requires.rests c.requires.waits _ _ _ stepped.Dropped c.in-Dropped.ensures.on c.recover_step.ensures.right c.in-Dropped.ensures.steps (λ ends. ends) c.keep-in-Dropped.ensures
 
 pub returns-in-Remounted-clause-rolled : goal.returns-in-Remounted-clause-rolled
-returns-in-Remounted-clause-rolled g c = kept_roll _ _ _ _ _ c.requires.may c.requires.outside c.requires.waits _ _ _ stepped.Remounted c.in-Remounted.ensures.on c.recover_step.ensures.right c.in-Remounted.ensures.steps (λ ends. ends) c.keep-in-Remounted.ensures
+returns-in-Remounted-clause-rolled g c = kept_roll _ _ _ _ _ c.requires.may c.requires.rests c.requires.waits _ _ _ stepped.Remounted c.in-Remounted.ensures.on c.recover_step.ensures.right c.in-Remounted.ensures.steps (λ ends. ends) c.keep-in-Remounted.ensures
 
 pub returns-in-Reopened-clause-rolled : goal.returns-in-Reopened-clause-rolled
-returns-in-Reopened-clause-rolled g c = kept_roll _ _ _ _ _ c.requires.may c.requires.outside c.requires.waits _ _ _ stepped.Reopened c.in-Reopened.ensures.on c.recover_step.ensures.right c.in-Reopened.ensures.steps (λ ends. ends) c.keep-in-Reopened.ensures
+returns-in-Reopened-clause-rolled g c = kept_roll _ _ _ _ _ c.requires.may c.requires.rests c.requires.waits _ _ _ stepped.Reopened c.in-Reopened.ensures.on c.recover_step.ensures.right c.in-Reopened.ensures.steps (λ ends. ends) c.keep-in-Reopened.ensures
 
 pub returns-in-Replayed-clause-rolled : goal.returns-in-Replayed-clause-rolled
-returns-in-Replayed-clause-rolled g c = kept_roll _ _ _ _ _ c.requires.may c.requires.outside c.requires.waits _ _ _ (stepped.Replayed c.in-Replayed.field-0) c.in-Replayed.ensures.on c.recover_step.ensures.right c.in-Replayed.ensures.steps (λ ends. ends) c.keep-in-Replayed.ensures
+returns-in-Replayed-clause-rolled g c = kept_roll _ _ _ _ _ c.requires.may c.requires.rests c.requires.waits _ _ _ (stepped.Replayed c.in-Replayed.field-0) c.in-Replayed.ensures.on c.recover_step.ensures.right c.in-Replayed.ensures.steps (λ ends. ends) c.keep-in-Replayed.ensures
 
 pub returns-in-Again-clause-rolled : goal.returns-in-Again-clause-rolled
-returns-in-Again-clause-rolled g c = kept_roll _ _ _ _ _ c.requires.may c.requires.outside c.requires.waits _ _ _ (stepped.Again c.in-Again.faults) c.in-Again.ensures.on c.recover_step.ensures.right c.in-Again.ensures.steps (λ ends. ends) c.keep-in-Again.ensures
+returns-in-Again-clause-rolled g c = kept_roll _ _ _ _ _ c.requires.may c.requires.rests c.requires.waits _ _ _ (stepped.Again c.in-Again.faults) c.in-Again.ensures.on c.recover_step.ensures.right c.in-Again.ensures.steps (λ ends. ends) c.keep-in-Again.ensures

@@ -1,11 +1,11 @@
 use Rattle.std.proofs.Common.{◌≡◌, length}
-use Rattle.mb_run.specs.Served.{Underway}
+use Rattle.mb_run.specs.Orders.{IsWhole}
 use Rattle.mb_run.proofs.Everybody.{work_at}
 use Rattle.mb_run.proofs.runs.run_call.Given as goal
 
 abbrev pub invariant-turns : goal.invariant-turns
 invariant-turns g l = record {
-  underway : Underway l.calls (g.H.Hook.test l.fn.hook) (g.C.EventCore.sight l.core) l.runners;
+  whole : IsWhole l.calls (g.H.Hook.test l.fn.hook) (g.C.EventCore.sight l.fn.core) (g.C.EventCore.sight l.core) l.fn.runners l.runners;
   size : length l.runners ≡ length l.fn.runners;
   test : g.H.Hook.test l.hook ≡ g.H.Hook.test l.fn.hook;
 }

@@ -4,8 +4,8 @@ use Rattle.std.proofs.lemmas.Option.{slice_get-get_or}
 use Rattle.mb_run.proofs.InOrder.{all_callers, order_after, order_may, order_mine, order_over}
 use Rattle.mb_run.proofs.runs.run_in_order.Goals as goal
 
-pub returns : goal.returns
-returns g c = λ done. order_over _ _ _ _ _ c.loop-made-test.false c.loop-made.invariant.after
+pub returns-clause-done : goal.returns-clause-done
+returns-clause-done g c = λ so. order_over _ _ _ _ _ c.loop-made-test.false c.loop-made.invariant.after
 
 pub run_holder-requires-clause-may : goal.run_holder-requires-clause-may
 run_holder-requires-clause-may g c =
@@ -31,3 +31,6 @@ loop-made-preserved g c =
       size = length-set c.loop-made.runners c.made-item.result.caller c.run_holder.new.runner ∙ c.loop-made.invariant.size;
       test = c.run_holder.ensures.test ∙ c.loop-made.invariant.test;
     }
+
+pub returns-clause-right : goal.returns-clause-right
+returns-clause-right g c = c.loop-made.invariant.after.underway.right

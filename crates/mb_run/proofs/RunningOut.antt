@@ -1,0 +1,46 @@
+-- The calls that an order left, run to their ends in the order of their indices.
+use Rattle.std.proofs.Common.{◌≡◌, ◌≢◌, ◌⊎◌, List, [], ◌∷◌, ℕ, zero, suc, ◌+◌, ◌<◌, ◌≤◌, Bool, true, false, cond, nat_eq, inl, inr, refl, ap, sym, subst, ◌∙◌, arith, Option, None, Some, length, filter, map, take, get_or, slice_get, slice_set}
+use Rattle.mb_edge.specs.declared.crossings.Crossing.{Crossing}
+use Rattle.mb_jobs.specs.declared.jobs.JobCall.{JobCall}
+use Rattle.mb_kinds.specs.declared.calls.Call.{Call}
+use Rattle.mb_run.specs.Orders.{Grows, IsAnswered, Moves, done_at, done_by}
+use Rattle.mb_run.specs.Served.{HasRun, Turns, calls_of}
+use Rattle.mb_run.specs.Sights.{Sight}
+use Rattle.mb_run.specs.declared.progress.Turn.TheVariants as turn
+use Rattle.mb_run.specs.declared.runner.Runner.{Runner}
+use Rattle.mb_run.proofs.Everybody.{got, put_here}
+
+-- ---- turns of a caller
+
+pub ended_moves : (calls : List JobCall) (test : Option (Crossing → Bool)) (old new : Sight) (before now : Runner) → Turns calls test old new before now turn.Ended → Moves calls test old new before now
+ended_moves calls test old new before now turns = record { nears = turns.nears; done = inr turns.goes.0 }
+
+pub again_moves : (calls : List JobCall) (test : Option (Crossing → Bool)) (old new : Sight) (before now : Runner) → Turns calls test old new before now turn.Again → Moves calls test old new before now
+again_moves calls test old new before now turns = record { nears = turns.nears; done = inl turns.goes.0 }
+
+pub busy_moves : (calls : List JobCall) (test : Option (Crossing → Bool)) (old new : Sight) (before now : Runner) (holder : ℕ) → Turns calls test old new before now (turn.Busy holder) → Moves calls test old new before now
+busy_moves calls test old new before now holder turns = record { nears = turns.nears; done = inl turns.goes.0 }
+
+pub ran_moves : (calls : List JobCall) (test : Option (Crossing → Bool)) (old new : Sight) (before now : Runner) → HasRun calls test old new before now → Moves calls test old new before now
+ran_moves calls test old new before now ran = record { nears = ran.nears; done = inr ran.done }
+
+pub ended_answered : (calls : List JobCall) (test : Option (Crossing → Bool)) (old new : Sight) (first runners : List Runner) (caller : ℕ) (d now : Runner) → Grows first runners → caller < length runners
+    → Turns calls test old new (get_or runners caller d) now turn.Ended → IsAnswered calls caller first (slice_set runners caller now)
+ended_answered calls test old new first runners caller d now grows low turns =
+    let was = ap done_by (got runners caller d low) in
+    let is = ap done_by (put_here runners caller now low) in
+    inl (omega (arith, was, is, grows caller, turns.goes.0))
+
+no_call : (call : Call) → Some call ≡ None → ⊥
+no_call call same = cc
+
+pub past_end : (xs : List Call) (i : ℕ) → slice_get xs i ≡ None → length xs ≤ i
+past_end [] i none = omega arith
+past_end (x ∷ xs) zero none = absurd (no_call x none)
+past_end (x ∷ xs) (suc i) none = let less = past_end xs i none in omega (arith, less)
+
+pub none_answered : (calls : List JobCall) (first runners : List Runner) (caller : ℕ) (x : Runner) → caller < length runners → slice_get (calls_of calls caller) (get_or runners caller x).done ≡ None → IsAnswered calls caller first runners
+none_answered calls first runners caller x low none =
+    let is = ap done_by (got runners caller x low) in
+    let past = past_end (calls_of calls caller) (get_or runners caller x).done none in
+    inr (omega (arith, is, past))

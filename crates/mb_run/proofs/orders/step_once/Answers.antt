@@ -1,0 +1,23 @@
+use Rattle.std.proofs.Common.{◌≡◌}
+use Rattle.mb_run.proofs.Moving.{did_move}
+use Rattle.mb_run.proofs.GivingUp.{may_give_up}
+use Rattle.mb_run.specs.declared.progress.Went.TheVariants as went
+use Rattle.mb_run.proofs.orders.step_once.Goals as goal
+
+pub returns-in-Ended-clause-moved : goal.returns-in-Ended-clause-moved
+returns-in-Ended-clause-moved g c = did_move _ _ _ _ _ _ went.Ended c.in-Ended.ensures.did
+
+pub returns-in-On-clause-moved : goal.returns-in-On-clause-moved
+returns-in-On-clause-moved g c = did_move _ _ _ _ _ _ went.On c.in-On.ensures.did
+
+pub returns-in-Back-clause-moved : goal.returns-in-Back-clause-moved
+returns-in-Back-clause-moved g c = did_move _ _ _ _ _ _ went.Back c.in-Back.ensures.did
+
+pub returns-in-Shut-clause-moved : goal.returns-in-Shut-clause-moved
+returns-in-Shut-clause-moved g c = did_move _ _ _ _ _ _ went.Shut c.in-Shut.ensures.did
+
+pub returns-in-Busy-clause-moved : goal.returns-in-Busy-clause-moved
+returns-in-Busy-clause-moved g c = did_move _ _ _ _ _ _ (went.Busy c.in-Busy.field-0) c.in-Busy.ensures.did
+
+pub give_up-requires : goal.give_up-requires
+give_up-requires g c = may_give_up _ _ _ _ _ _ _ _ c.requires c.in-NoMemory.ensures.did.nears c.in-NoMemory.ensures.did.goes.1 c.step.ensures.right

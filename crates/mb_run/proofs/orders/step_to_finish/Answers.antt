@@ -1,0 +1,42 @@
+use Rattle.std.proofs.Common.{◌≡◌, ◌∙◌, refl}
+use Rattle.mb_run.proofs.Going.{turning_begin, turning_less, turning_on}
+use Rattle.mb_run.proofs.Moving.{may_look, stopped_move, turned_move}
+use Rattle.mb_run.proofs.GivingUp.{may_give_up, turning_gives_up}
+use Rattle.mb_run.specs.declared.progress.Went.TheVariants as went
+use Rattle.mb_run.proofs.orders.step_to_finish.Goals as goal
+
+pub steps-init : goal.steps-init
+steps-init g c = record { turning = turning_begin _ _ _ _ _ c.requires; test = refl }
+
+pub look-requires : goal.look-requires
+look-requires g c = may_look _ _ _ _ _ c.steps.invariant.turning.may
+
+pub step-requires : goal.step-requires
+step-requires g c = rw c.steps.invariant.test c.steps.invariant.turning.may
+
+pub returns-in-Late-clause-moved : goal.returns-in-Late-clause-moved
+returns-in-Late-clause-moved g c = stopped_move _ _ _ _ _ _ _ c.steps.invariant.turning
+
+pub give_up-requires : goal.give_up-requires
+give_up-requires g c = turning_gives_up _ _ _ _ _ _ _ c.steps.invariant.turning c.in-NoMemory.ensures
+
+pub steps-preserved : goal.steps-preserved
+steps-preserved g c = record { turning = turning_on _ _ _ _ _ _ _ _ _ c.steps.invariant.turning (rw c.steps.invariant.test at c.in-On.ensures.did.nears) c.in-On.ensures.did.goes.0 c.step.ensures.right; test = c.step.ensures.test ∙ c.steps.invariant.test }
+
+pub steps-smaller : goal.steps-smaller
+steps-smaller g c = turning_less _ _ _ _ _ _ c.in-On.ensures.did.nears c.in-On.ensures.did.goes.1
+
+pub returns-in-Ended-clause-moved : goal.returns-in-Ended-clause-moved
+returns-in-Ended-clause-moved g c = turned_move _ _ _ _ _ _ _ _ _ went.Ended c.steps.invariant.turning (rw c.steps.invariant.test at c.in-Ended.ensures.did)
+
+pub returns-in-Back-clause-moved : goal.returns-in-Back-clause-moved
+returns-in-Back-clause-moved g c = turned_move _ _ _ _ _ _ _ _ _ went.Back c.steps.invariant.turning (rw c.steps.invariant.test at c.in-Back.ensures.did)
+
+pub returns-in-Shut-clause-moved : goal.returns-in-Shut-clause-moved
+returns-in-Shut-clause-moved g c = turned_move _ _ _ _ _ _ _ _ _ went.Shut c.steps.invariant.turning (rw c.steps.invariant.test at c.in-Shut.ensures.did)
+
+pub returns-in-Busy-clause-moved : goal.returns-in-Busy-clause-moved
+returns-in-Busy-clause-moved g c = turned_move _ _ _ _ _ _ _ _ _ (went.Busy c.in-Busy.field-0) c.steps.invariant.turning (rw c.steps.invariant.test at c.in-Busy.ensures.did)
+
+pub give_up-requires-in-NoMemory-step : goal.give_up-requires-in-NoMemory-step
+give_up-requires-in-NoMemory-step g c = may_give_up _ _ _ _ _ _ _ _ c.steps.invariant.turning.may c.in-NoMemory-step.ensures.did.nears c.in-NoMemory-step.ensures.did.goes.1 c.step.ensures.right

@@ -1,0 +1,98 @@
+-- What the steps of an order make of the callers of a job.
+use Rattle.std.specs.Prelude.{ℕ, ◌+◌, ◌<◌, ◌≤◌, ◌≡◌, ◌⊎◌, List, Bool, true, false, Option, Some, None, length, slice_get, slice_index, take}
+use Rattle.mb_edge.specs.declared.crossings.Crossing.{Crossing}
+use Rattle.mb_core_spec.specs.declared.stages.Stage.TheVariants as stage
+use Rattle.mb_jobs.specs.declared.jobs.Caller.{Caller}
+use Rattle.mb_jobs.specs.declared.jobs.JobCall.{JobCall}
+use Rattle.mb_kinds.specs.declared.faults.Ticket.{Ticket}
+use Rattle.mb_run.specs.Events.{Counts}
+use Rattle.mb_run.specs.Pages.{HasTablesFor}
+use Rattle.mb_run.specs.Served.{IsBalanced, Nears, Underway, calls_of}
+use Rattle.mb_run.specs.Sights.{Sight}
+use Rattle.mb_run.specs.declared.progress.Next.{Next}
+use Rattle.mb_run.specs.declared.progress.Next.TheVariants as next
+use Rattle.mb_run.specs.declared.runner.At.{At}
+use Rattle.mb_run.specs.declared.runner.At.TheVariants as at
+use Rattle.mb_run.specs.declared.runner.Runner.{Runner}
+
+-- ---- one caller
+
+-- a call inside has pages of the declared callers, and no entry
+abbrev pub MayLookAt : Sight → Runner → At → Type 0
+MayLookAt sight runner (at.Inside ticket) = (ticket.caller < sight.config.callers) × HasTablesFor sight.config.callers runner.pages × (runner.answered ≡ false)
+MayLookAt sight runner _ = Unit {0}
+
+abbrev pub MayLook : Sight → Runner → Type 0
+MayLook sight runner = MayLookAt sight runner runner.at
+
+-- want of memory is met by a call inside alone, and a call that has its entry finishes no more
+abbrev pub Ahead : Runner → Next → Type 0
+Ahead runner next.NoMemory = runner.answered ≡ false
+Ahead runner _ = Unit {0}
+
+-- steps of a caller's call, with which it was answered, or not
+pub record Moves (calls : List JobCall) (test : Option (Crossing → Bool)) (old new : Sight) (before now : Runner) : Type 0 where
+  pub nears : Nears calls test old new before now
+  pub done : (now.done ≡ before.done) ⊎ (now.done ≡ before.done + 1)
+
+abbrev pub Moved : List JobCall → Option (Crossing → Bool) → Sight → Sight → Runner → Runner → Bool → Type 0
+Moved calls test old new before now true = Moves calls test old new before now
+Moved calls test old new before now false = Unit {0}
+
+-- ---- all callers
+
+-- how many calls of a caller were answered
+abbrev pub done_by : Option Runner → ℕ
+done_by None = 0
+done_by (Some runner) = runner.done
+
+abbrev pub done_at : List Runner → ℕ → ℕ
+done_at runners caller = done_by (slice_get runners caller)
+
+-- of no caller fewer calls were answered
+abbrev pub Grows : List Runner → List Runner → Type 0
+Grows old new = (caller : ℕ) → done_at old caller ≤ done_at new caller
+
+-- a job is still under way, later on
+pub record IsWhole (calls : List JobCall) (test : Option (Crossing → Bool)) (old new : Sight) (before now : List Runner) : Type 0 where
+  pub underway : Underway calls test new now
+  pub grows : Grows before now
+  pub balanced : IsBalanced old → IsBalanced new
+  pub config : new.config ≡ old.config
+
+-- nobody's call did anything: calls, entries and records stay, and while the volume runs, so does what calls gathered
+pub record IsQuiet (old new : Sight) : Type 0 where
+  pub config : new.config ≡ old.config
+  pub records : new.records ≡ old.records
+  pub incarnation : new.incarnation ≡ old.incarnation
+  pub seats : (caller : ℕ) → new.seats caller ≡ old.seats caller
+  pub counts : Counts old new
+  pub floor : (new.floor ≡ None) ⊎ (new.floor ≡ old.floor)
+  pub runs : old.stage ≡ stage.Running → new.stage ≡ stage.Running
+  pub copies : old.stage ≡ stage.Running → (caller : ℕ) → new.copies caller ≡ old.copies caller
+  pub stales : old.stage ≡ stage.Running → (caller : ℕ) → new.stales caller ≡ old.stales caller
+
+-- a caller has a call in flight without an entry
+pub record IsOpenAt (sight : Sight) (runners : List Runner) (caller : ℕ) : Type 0 where
+  pub runner : Runner
+  pub here : slice_get runners caller ≡ Some runner
+  pub more : runner.done < (sight.seats caller).begun
+  pub lacks : runner.answered ≡ false
+
+-- the caller at a place has that letter
+pub record HasLetter (callers : List Caller) (letter place : ℕ) : Type 0 where
+  pub caller : Caller
+  pub here : slice_get callers place ≡ Some caller
+  pub is : caller.letter ≡ letter
+
+-- one call more of a caller was answered, or its list is done
+abbrev pub IsAnswered : List JobCall → ℕ → List Runner → List Runner → Type 0
+IsAnswered calls caller old new = (done_at old caller + 1 ≤ done_at new caller) ⊎ (length (calls_of calls caller) ≤ done_at new caller)
+
+-- of each caller at least the calls among the first so many of the job were answered
+abbrev pub AreRunOut : List JobCall → List Runner → ℕ → Type 0
+AreRunOut calls runners index = (caller : ℕ) → caller < length runners → length (calls_of (take index calls) caller) ≤ done_at runners caller
+
+-- how many calls each caller has among them
+abbrev pub AreCounted : List JobCall → List ℕ → ℕ → Type 0
+AreCounted calls passed index = (caller : ℕ) → caller < 8 → slice_index passed caller ≡ length (calls_of (take index calls) caller)

@@ -1,0 +1,308 @@
+ghost use Rattle.std.specs.Prelude.{◌≡◌, ◌<◌, ◌≤◌, IfSome, true, length};
+ghost use Rattle.mb_run.specs.Orders.{Ahead, HasLetter, IsOpenAt, IsQuiet, IsWhole, MayLook, Moved};
+ghost use Rattle.mb_run.specs.Served.{MayStep, Underway};
+ghost use Rattle.mb_run.specs.Sights.{IsOrderly, recovers};
+
+use crate::answers::Stepped;
+use crate::event_core::EventCore;
+use crate::progress::{Next, Went};
+use crate::runner::{At, Runner};
+use crate::runs::{find_call, give_up, roll};
+use crate::steps::{has_tables, step};
+use mb_calls::Performed;
+use mb_core_spec::Stage;
+use mb_edge::Hook;
+use mb_jobs::{Caller, JobCall};
+use mb_kinds::Call;
+use std::alloc::Global;
+
+/// What the next fault point of a caller's call is.
+fn look<C: EventCore>(alloc: Global, core: &C, runner: &Runner, call: &Call) -> Next
+    requires { MayLook (C.sight core.now) runner.now }
+    ensures { Ahead runner.now result }
+{
+    match runner.at {
+        At::Outside => Next::Early,
+        At::Logged(_) => Next::Late,
+        At::Inside(ticket) => {
+            if !has_tables(&runner.pages) {
+                return Next::Early;
+            }
+            match core.perform(alloc, &runner.pages, &ticket, call) {
+                Performed::Need(_) => Next::Early,
+                Performed::Ready(_) => Next::Late,
+                Performed::NoMemory => Next::NoMemory,
+            }
+        }
+    }
+}
+
+/// One step of a caller, whose next call is that one. False is want of memory; the call then has no entry.
+fn step_once<C: EventCore, H: Hook>(
+    alloc: Global,
+    core: &mut C,
+    hook: &mut H,
+    runner: &mut Runner,
+    calls: &[JobCall],
+    call: &Call,
+) -> bool
+    requires { MayStep calls.now (H.test hook.old) (C.sight core.old) runner.old call.now }
+    ensures moved { Moved calls.now (H.test hook.old) (C.sight core.old) (C.sight core.new) runner.old runner.new result }
+    ensures test { H.test hook.new ≡ H.test hook.old }
+    ensures right { IsOrderly (C.sight core.new) }
+{
+    match step(alloc, core, hook, runner, calls, call) {
+        Went::Ended => return true,
+        Went::On => return true,
+        Went::Back => return true,
+        Went::Shut => return true,
+        Went::Busy(_) => return true,
+        Went::NoMemory => {
+            give_up(core, runner);
+            return false;
+        }
+    }
+}
+
+/// Steps of a caller, whose next call is that one, as long as its next fault point is that of entering or gathering. They
+/// end too after a step with which the call was answered, struck, turned away with an old ticket, or met a recovery. False
+/// is want of memory; the call then has no entry.
+fn step_to_finish<C: EventCore, H: Hook>(
+    alloc: Global,
+    core: &mut C,
+    hook: &mut H,
+    runner: &mut Runner,
+    calls: &[JobCall],
+    call: &Call,
+) -> bool
+    requires { MayStep calls.now (H.test hook.old) (C.sight core.old) runner.old call.now }
+    ensures moved { Moved calls.now (H.test hook.old) (C.sight core.old) (C.sight core.new) runner.old runner.new result }
+    ensures test { H.test hook.new ≡ H.test hook.old }
+    ensures right { IsOrderly (C.sight core.new) }
+{
+    'steps: loop {
+        match look(alloc, core, runner, call) {
+            Next::Early => {}
+            Next::Late => return true,
+            Next::NoMemory => {
+                give_up(core, runner);
+                return false;
+            }
+        }
+        match step(alloc, core, hook, runner, calls, call) {
+            Went::On => {}
+            Went::Ended => return true,
+            Went::Back => return true,
+            Went::Shut => return true,
+            Went::Busy(_) => return true,
+            Went::NoMemory => {
+                give_up(core, runner);
+                return false;
+            }
+        }
+    }
+}
+
+/// The step of a letter of an order, small or capital; nothing where the caller's list is done. False is want of memory.
+fn step_letter<C: EventCore, H: Hook>(
+    alloc: Global,
+    core: &mut C,
+    hook: &mut H,
+    runners: &mut [Runner],
+    calls: &[JobCall],
+    caller: u8,
+    capital: bool,
+) -> bool
+    requires underway { Underway calls.now (H.test hook.old) (C.sight core.old) runners.old }
+    requires within { caller < length runners.old }
+    ensures whole { result ≡ true → IsWhole calls.now (H.test hook.old) (C.sight core.old) (C.sight core.new) runners.old runners.new }
+    ensures length { length runners.new ≡ length runners.old }
+    ensures test { H.test hook.new ≡ H.test hook.old }
+    ensures right { IsOrderly (C.sight core.new) }
+{
+    let place = runners[caller as usize].done;
+    let Some(call) = find_call(calls, caller, place) else {
+        return true;
+    };
+    if capital {
+        return step_to_finish(alloc, core, hook, &mut runners[caller as usize], calls, call);
+    }
+    step_once(alloc, core, hook, &mut runners[caller as usize], calls, call)
+}
+
+fn is_recovering(stage: Stage) -> bool
+    ensures { result ≡ recovers stage }
+{
+    match stage {
+        Stage::Running | Stage::Failed => false,
+        Stage::Struck | Stage::Again | Stage::Dropped | Stage::Remounted | Stage::Restored(_) => true,
+    }
+}
+
+/// The first caller that has a call in flight without an entry.
+fn first_waiting<C: EventCore>(core: &C, runners: &[Runner]) -> Option<u8>
+    requires few { length runners.now ≤ 8 }
+    requires callers { length runners.now ≤ (C.sight core.now).config.callers }
+    ensures { IfSome result (λ caller. IsOpenAt (C.sight core.now) runners.now caller) }
+{
+    let mut caller: u8 = 0;
+    for runner in runners {
+        if !runner.answered {
+            if core.begun(caller) > runner.done {
+                return Some(caller);
+            }
+        }
+        caller += 1;
+    }
+    None
+}
+
+/// One step of a recovery that nobody's call runs: no fault injector is asked. False is want of memory.
+fn recover_alone<C: EventCore, H: Hook>(alloc: Global, core: &mut C, hook: &mut H) -> bool
+    requires right { IsOrderly (C.sight core.old) }
+    ensures quiet { IsQuiet (C.sight core.old) (C.sight core.new) }
+    ensures test { H.test hook.new ≡ H.test hook.old }
+    ensures right { IsOrderly (C.sight core.new) }
+{
+    let mut by = None;
+    match core.recover_step(alloc, &mut by, hook) {
+        Stepped::NoMemory => return false,
+        _ => return true,
+    }
+}
+
+/// One step of a recovery, run by the first caller that has a call in flight without an entry, or by nobody; nothing where
+/// none is in progress. False is want of memory; the call then has no entry.
+fn recover_once<C: EventCore, H: Hook>(
+    alloc: Global,
+    core: &mut C,
+    hook: &mut H,
+    runners: &mut [Runner],
+    calls: &[JobCall],
+) -> bool
+    requires underway { Underway calls.now (H.test hook.old) (C.sight core.old) runners.old }
+    ensures whole { result ≡ true → IsWhole calls.now (H.test hook.old) (C.sight core.old) (C.sight core.new) runners.old runners.new }
+    ensures length { length runners.new ≡ length runners.old }
+    ensures test { H.test hook.new ≡ H.test hook.old }
+    ensures right { IsOrderly (C.sight core.new) }
+{
+    if !is_recovering(core.stage()) {
+        return true;
+    }
+    let Some(caller) = first_waiting(core, runners) else {
+        return recover_alone(alloc, core, hook);
+    };
+    let place = runners[caller as usize].done;
+    let Some(call) = find_call(calls, caller, place) else {
+        unreachable!();
+    };
+    match roll(alloc, core, hook, &mut runners[caller as usize], calls, call) {
+        Went::NoMemory => {
+            give_up(core, &runners[caller as usize]);
+            return false;
+        }
+        _ => return true,
+    }
+}
+
+/// Takes a checkpoint where the volume runs. False is want of memory.
+fn seal_now<C: EventCore>(core: &mut C) -> bool
+    requires right { IsOrderly (C.sight core.old) }
+    ensures quiet { IsQuiet (C.sight core.old) (C.sight core.new) }
+    ensures right { IsOrderly (C.sight core.new) }
+{
+    if core.stage() != Stage::Running {
+        return true;
+    }
+    match core.seal() {
+        Ok(()) => return true,
+        Err(_) => return false,
+    }
+}
+
+/// Writes one checkpointed page back, where the disk does not fail.
+fn flush<C: EventCore>(core: &mut C)
+    requires right { IsOrderly (C.sight core.old) }
+    ensures quiet { IsQuiet (C.sight core.old) (C.sight core.new) }
+    ensures right { IsOrderly (C.sight core.new) }
+{
+    let _ = core.flush_one();
+}
+
+/// The place of the caller with that letter.
+fn find_letter(callers: &[Caller], letter: u8) -> Option<u8>
+    requires few { length callers.now ≤ 8 }
+    ensures { IfSome result (λ caller. HasLetter callers.now letter caller) }
+{
+    let mut place: u8 = 0;
+    for caller in callers {
+        if caller.letter == letter {
+            return Some(place);
+        }
+        place += 1;
+    }
+    None
+}
+
+/// The step of one character of an order. False is want of memory.
+fn step_character<C: EventCore, H: Hook>(
+    alloc: Global,
+    core: &mut C,
+    hook: &mut H,
+    runners: &mut [Runner],
+    calls: &[JobCall],
+    callers: &[Caller],
+    character: u8,
+) -> bool
+    requires underway { Underway calls.now (H.test hook.old) (C.sight core.old) runners.old }
+    requires callers { length callers.now ≡ length runners.old }
+    ensures whole { result ≡ true → IsWhole calls.now (H.test hook.old) (C.sight core.old) (C.sight core.new) runners.old runners.new }
+    ensures length { length runners.new ≡ length runners.old }
+    ensures test { H.test hook.new ≡ H.test hook.old }
+    ensures right { IsOrderly (C.sight core.new) }
+{
+    if character == b' ' {
+        return true;
+    }
+    if character == b'=' {
+        return seal_now(core);
+    }
+    if character == b'>' {
+        flush(core);
+        return true;
+    }
+    if character == b'*' {
+        return recover_once(alloc, core, hook, runners, calls);
+    }
+    let capital = character < b'a';
+    let letter = character | 32;
+    let Some(caller) = find_letter(callers, letter) else {
+        return true;
+    };
+    step_letter(alloc, core, hook, runners, calls, caller, capital)
+}
+
+/// The steps of an order, one after another. False is want of memory.
+pub fn run_order<C: EventCore, H: Hook>(
+    alloc: Global,
+    core: &mut C,
+    hook: &mut H,
+    runners: &mut [Runner],
+    calls: &[JobCall],
+    callers: &[Caller],
+    order: &[u8],
+) -> bool
+    requires underway { Underway calls.now (H.test hook.old) (C.sight core.old) runners.old }
+    requires callers { length callers.now ≡ length runners.old }
+    ensures whole { result ≡ true → IsWhole calls.now (H.test hook.old) (C.sight core.old) (C.sight core.new) runners.old runners.new }
+    ensures length { length runners.new ≡ length runners.old }
+    ensures test { H.test hook.new ≡ H.test hook.old }
+    ensures right { IsOrderly (C.sight core.new) }
+{
+    for character in order {
+        if !step_character(alloc, core, hook, runners, calls, callers, *character) {
+            return false;
+        }
+    }
+    true
+}
