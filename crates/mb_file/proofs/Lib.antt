@@ -4,9 +4,11 @@ pub mod Clearing
 pub mod ErasedInodes
 pub mod ErasingSteps
 pub mod Finding
+pub mod FreeLooking
 pub mod Holding
 pub mod InHand
 pub mod Listing
+pub mod Looking
 pub mod PuttingBack
 pub mod PuttingBytes
 pub mod PuttingParts
