@@ -1,4 +1,4 @@
-ghost use Rattle.mb_call_texts.specs.Laws.{HasOneText, ReadsBack, ReadsWritable};
+ghost use Rattle.mb_call_texts.specs.Laws.{HasOneText, JobsReadBack, ReadsBack, ReadsWritable};
 
 /// The text of each call that a text can write is read as that call.
 pub fn reads_back()
@@ -13,4 +13,10 @@ pub fn reads_writable()
 /// The call that is read of a text is read of its own text too.
 pub fn has_one_text()
     ensures { HasOneText }
+{}
+
+/// Each call of a job, the added `exit`s among them, is read of its text in the job and of the text that
+/// is written for it.
+pub fn jobs_read_back()
+    ensures { JobsReadBack }
 {}

@@ -11,5 +11,5 @@ mod tests;
 mod texts;
 mod words;
 
-pub use laws::{has_one_text, reads_back, reads_writable};
+pub use laws::{has_one_text, jobs_read_back, reads_back, reads_writable};
 pub use texts::text_of_call;
