@@ -123,6 +123,8 @@ module _ {D : Type 0} (told : D → Option Image) (faults : D → ℕ) (job : Jo
   comes_ran (outcome.Ran text) clean is = ran_with text clean is
   comes_ran outcome.OutOfMemory clean is = tt
   comes_ran outcome.WordsRefused clean is = absurd is
+  comes_ran outcome.CommandNotBuilt clean is = absurd is
+  comes_ran (outcome.Made line) clean is = absurd is
   comes_ran outcome.InputFault clean is = absurd is
   comes_ran (outcome.JobRefused line) clean is = absurd is
   comes_ran outcome.JobNotBuilt clean is = absurd is
@@ -146,6 +148,8 @@ module _ {D : Type 0} (told : D → Option Image) (faults : D → ℕ) (job : Jo
     comes_unsettled (outcome.Unsettled text) is = record { run = is_run; fewer = fewer; printed = is }
     comes_unsettled outcome.OutOfMemory is = tt
     comes_unsettled outcome.WordsRefused is = absurd is
+    comes_unsettled outcome.CommandNotBuilt is = absurd is
+    comes_unsettled (outcome.Made line) is = absurd is
     comes_unsettled outcome.InputFault is = absurd is
     comes_unsettled (outcome.JobRefused line) is = absurd is
     comes_unsettled outcome.JobNotBuilt is = absurd is

@@ -10,7 +10,7 @@ ghost use Rattle.mb_print.specs.Transcript.{transcript_text};
 ghost use Rattle.mb_top.specs.Built.{is_built};
 ghost use Rattle.mb_top.specs.Held.{held_disk};
 ghost use Rattle.mb_top.specs.Beginnings.{IsBegunFor};
-ghost use Rattle.mb_top.specs.Outcomes.{IsDiskFault, IsJobRefused, IsOutcome, IsRan, IsRefusedAs, ComesOfJob, ComesOfRun, IsRefusal, IsUnsettled, OfBytes, run_text, unsettled_text};
+ghost use Rattle.mb_top.specs.Outcomes.{ComesOfMkfs, ComesOfRunWords, IsDiskFault, IsJobRefused, IsOutcome, IsRan, IsRefusedAs, ComesOfJob, ComesOfRun, IsRefusal, IsUnsettled, OfBytes, run_text, unsettled_text};
 ghost use Rattle.mb_tree.specs.Volume.{HasSizes};
 ghost use Rattle.mb_top.specs.Simple.{IsSimple};
 
@@ -20,9 +20,10 @@ use crate::opening::is_simple;
 use crate::outcomes::Outcome;
 use crate::runs::run_calls;
 use crate::settling::settle;
-use crate::words::{Words, is_run};
+use mb_commands::{Command, Made, command_of, make_volume};
 use mb_core::{Config, Core, OpenFault, ReadFault, Refusal, RollFault};
 use mb_edge::{Disk, NoMemory, Source, read_whole};
+use mb_host::Words;
 use mb_jobs::{Job, JobFault, Text, job_of};
 use mb_kinds::Creds;
 use mb_print::{last_line, text_of_cause, transcript};
@@ -34,19 +35,57 @@ pub struct Decided<D: Disk> {
     pub held: Held<D>,
 }
 
-/// Reads the job and runs it, up to what is to be printed.
+/// Does what the words ask for, up to what is to be printed.
 pub fn decide<S: Source, D: Disk>(alloc: Global, words: &Words, job: &mut S, disk: D) -> Decided<D>
     ensures outcome { IsOutcome D.told D.faults words.now (S.left job.old) disk result.held result.outcome }
     ensures input { result.outcome ≡ Outcome.InputFault → Rose (S.faults job.old) (S.faults job.new) }
     ensures device { IsDiskFault result.outcome → Rose (D.faults disk) (D.faults (held_disk result.held)) }
     ensures later { D.faults disk ≤ D.faults (held_disk result.held) }
 {
-    if !is_run(words) {
-        return Decided {
-            outcome: Outcome::WordsRefused,
-            held: Held::Disk(disk),
-        };
+    match command_of(words) {
+        None => untouched(disk, Outcome::WordsRefused),
+        Some(Command::Mkfs { blocks, inodes }) => make_over(alloc, disk, blocks, inodes),
+        Some(Command::Run { threads: false }) => run_job(alloc, job, disk),
+        Some(_) => untouched(disk, Outcome::CommandNotBuilt),
     }
+}
+
+// A disk that was not asked.
+fn untouched<D: Disk>(disk: D, outcome: Outcome) -> Decided<D>
+    ensures outcome { result.outcome ≡ outcome }
+    ensures held { result.held ≡ Held.Disk disk }
+{
+    Decided {
+        outcome,
+        held: Held::Disk(disk),
+    }
+}
+
+// Makes a fresh volume.
+fn make_over<D: Disk>(alloc: Global, mut disk: D, blocks: u32, inodes: u32) -> Decided<D>
+    ensures comes { ComesOfMkfs D.told disk blocks inodes result.held result.outcome }
+    ensures device { IsDiskFault result.outcome → Rose (D.faults disk) (D.faults (held_disk result.held)) }
+    ensures later { D.faults disk ≤ D.faults (held_disk result.held) }
+{
+    let outcome = match make_volume(alloc, &mut disk, blocks, inodes) {
+        Made::Line(line) => Outcome::Made(line),
+        Made::BadSizes => Outcome::WordsRefused,
+        Made::DiskFault => Outcome::DiskFault,
+        Made::NoMemory => Outcome::OutOfMemory,
+    };
+    Decided {
+        outcome,
+        held: Held::Disk(disk),
+    }
+}
+
+// Reads the job and runs it.
+fn run_job<S: Source, D: Disk>(alloc: Global, job: &mut S, disk: D) -> Decided<D>
+    ensures comes { ComesOfRunWords D.told D.faults (S.left job.old) disk result.held result.outcome }
+    ensures input { result.outcome ≡ Outcome.InputFault → Rose (S.faults job.old) (S.faults job.new) }
+    ensures device { IsDiskFault result.outcome → Rose (D.faults disk) (D.faults (held_disk result.held)) }
+    ensures later { D.faults disk ≤ D.faults (held_disk result.held) }
+{
     match read_job(alloc, job) {
         Ok(job) => run_over(alloc, disk, &job),
         Err(outcome) => Decided {

@@ -1,9 +1,15 @@
 use crate::run_tests::{NOTHING_FAILS, run};
 use crate::volumes::hello_volume;
+use std::process::Abort;
 use std::test::Fail;
 
 // What a job ends with that changes nothing of the volume.
-fn expect(rt: &HostRuntime, job: &[u8], status: u8, printed: &[u8]) -> Result<(), Fail> {
+fn expect<R: Abort + AllocGlobal>(
+    rt: &R,
+    job: &[u8],
+    status: u8,
+    printed: &[u8],
+) -> Result<(), Fail> {
     let end = run(
         rt.alloc(),
         &["run", "v"],
