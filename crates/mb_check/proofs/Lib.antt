@@ -1,3 +1,4 @@
+pub mod LateParts
 pub mod Leading
 pub mod Marking
 pub mod Naming
