@@ -1,3 +1,4 @@
+pub mod Figures
 pub mod LateParts
 pub mod Leading
 pub mod Marking
@@ -6,5 +7,6 @@ pub mod Parenting
 pub mod PartReads
 pub mod Reaches
 pub mod SlotWalks
+pub mod Sounding
 pub mod Tallying
 pub mod WholeDirectories

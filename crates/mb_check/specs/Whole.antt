@@ -1,10 +1,11 @@
 -- The scan from its fourth part on, and what it tells of a volume.
-use Rattle.std.specs.Prelude.{List, ◌++◌, ℕ, ◌+◌, ◌≡◌, Bool, Option, Some, None, Result, Ok, Err, is_some, filter, length, IfSome}
+use Rattle.std.specs.Prelude.{List, ◌++◌, ℕ, ◌+◌, ◌≤◌, ◌≡◌, Bool, not, ◌&&◌, nat_eq, Option, Some, None, Result, Ok, Err, is_some, filter, length, IfSome}
 use Rattle.std.specs.FinMap as fin
 use Rattle.std.specs.List.{range_with_len}
 use Rattle.mb_kinds.specs.Image.{Image}
 use Rattle.mb_tree.specs.Cost.{cost}
 use Rattle.mb_tree.specs.Counting.{sum_below}
+use Rattle.mb_tree.specs.Inodes.{is_directory}
 use Rattle.mb_tree.specs.Opening.{is_nameless}
 use Rattle.mb_tree.specs.Volume.{IsVolume}
 use Rattle.mb_tree.specs.declared.trees.Tree.{Tree}
@@ -14,6 +15,10 @@ use Rattle.mb_rules.specs.Parents.{parents_items}
 use Rattle.mb_rules.specs.Slots.{slots_items}
 use Rattle.mb_rules.specs.Scan.{scan}
 use Rattle.mb_rules.specs.TreeOf.{chain_of, tree_of}
+use Rattle.mb_edge.specs.Causes.{Rose}
+use Rattle.mb_check_files.specs.declared.inodes.InodeKept.{InodeKept}
+use Rattle.mb_check_files.specs.declared.stops.Stop.{Stop}
+use Rattle.mb_check_files.specs.declared.stops.Stop.TheVariants as stops
 use Rattle.mb_check.specs.Tallies.{one_if}
 use Rattle.mb_check.specs.declared.scans.OpenFault.{OpenFault}
 use Rattle.mb_check.specs.declared.scans.OpenFault.TheVariants.{Unsound, Device, NoMemory}
@@ -53,3 +58,24 @@ IsScanned image (Ok told) = IsSoundAs image told
 IsScanned image (Err (Unsound block rule)) = IsUnsound image block rule
 IsScanned image (Err Device) = Unit {0}
 IsScanned image (Err NoMemory) = Unit {0}
+
+-- what is kept of a file without a name
+abbrev pub is_nameless_kept : ℕ → InodeKept → Bool
+is_nameless_kept ino kept = not (nat_eq kept.mode 0) && nat_eq kept.nlink 0 && not (is_directory kept.mode) && not (nat_eq ino 1)
+
+-- a pass that ended is why the image is not opened
+abbrev pub fault_of : Stop → OpenFault
+fault_of (stops.Broken broken) = Unsound broken.block broken.rule
+fault_of stops.Device = Device
+fault_of stops.NoMemory = NoMemory
+
+-- the count of faults never falls, and Device comes only where it rose
+abbrev pub IsDiskFault : Result Scan OpenFault → Type 0
+IsDiskFault (Ok told) = ⊥
+IsDiskFault (Err (Unsound block rule)) = ⊥
+IsDiskFault (Err Device) = Unit {0}
+IsDiskFault (Err NoMemory) = ⊥
+
+pub record HasFailed (before now : ℕ) (result : Result Scan OpenFault) : Type 0 where
+  pub later : before ≤ now
+  pub failed : IsDiskFault result → Rose before now

@@ -21,7 +21,7 @@ pub use links::parents;
 pub use names::NameSet;
 pub use parts::{kept_of, parts_of, read_part, slots_of_part};
 pub use reaching::{Reach, reached};
-pub use scans::{OpenFault, Scan};
+pub use scans::{OpenFault, Scan, sound};
 pub use slot_walks::each_directory;
 pub use slots::{has_dots, is_named_once, leads_there};
 pub use tallies::{Late, SlotCounts, Tally};
