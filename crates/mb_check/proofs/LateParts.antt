@@ -1,9 +1,8 @@
 -- The parts of the scan in a row.
-use Rattle.std.proofs.Common.{◌≡◌, ℕ, zero, suc, ◌+◌, ◌-◌, ◌*◌, ◌/◌, ◌<◌, ◌≤◌, List, [], ◌∷◌, ◌++◌, Bool, true, false, not, ◌&&◌, ◌||◌, nat_eq, nat_le, cond, if◌then◌else◌, Some, slice_get, slice_index_or, length, Result, Ok, Err, refl, sym, ap, subst, ◌∙◌, arith, append_assoc}
+use Rattle.std.proofs.Common.{◌≡◌, ℕ, ◌/◌, ◌≤◌, List, [], ◌∷◌, ◌++◌, Bool, true, false, not, ◌&&◌, ◌||◌, nat_eq, nat_le, slice_index_or, length, Result, Ok, Err, refl, sym, ap, subst, ◌∙◌, arith, append_assoc}
 use Rattle.std.proofs.lemmas.Bool.Decides.{nat_tests}
 use Rattle.std.proofs.lemmas.Option.{slice_get-get_or}
 use Rattle.mb_kinds.specs.Image.{Image}
-use Rattle.mb_word.specs.Fields.{isize_of}
 use Rattle.mb_tree.specs.Blocks.{slot_in}
 use Rattle.mb_tree.specs.Inodes.{is_directory}
 use Rattle.mb_tree.specs.Lookup.{is_used}
@@ -15,8 +14,7 @@ use Rattle.mb_rules.specs.FreeChain.{chain_items}
 use Rattle.mb_rules.specs.Files.{files_items, mode_at, root_items, size_at}
 use Rattle.mb_rules.specs.Parents.{parents_items}
 use Rattle.mb_rules.specs.Scan.{scan_items}
-use Rattle.mb_rules.specs.Slots.{directory_items, has_dots, leads_there, slot_items, slots_items}
-use Rattle.mb_rules.specs.TreeOf.{chain_of, tree_of}
+use Rattle.mb_rules.specs.Slots.{directory_items, leads_there, slot_items, slots_items}
 use Rattle.mb_rules.proofs.Walks.{AllHold, both, hold_each, walk_append, walk_holds}
 use Rattle.mb_scan_laws.specs.Laws.{first_items}
 use Rattle.mb_scan_laws.proofs.Storing.{stores}

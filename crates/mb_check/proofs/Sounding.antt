@@ -1,5 +1,5 @@
 -- The end of a scan, as it is told.
-use Rattle.std.proofs.Common.{◌≡◌, ℕ, ◌≤◌, List, [], length, Option, Some, None, Result, Ok, Err, refl, sym, ap, subst, ◌∙◌}
+use Rattle.std.proofs.Common.{◌≡◌, ℕ, List, [], length, Some, Result, Ok, Err, sym, ap, subst}
 use Rattle.std.specs.Result.{IsErr, IsErrAnd}
 use Rattle.mb_kinds.specs.Image.{Image}
 use Rattle.mb_rules.specs.declared.findings.Finding.{Finding}

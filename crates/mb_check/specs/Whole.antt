@@ -1,5 +1,5 @@
 -- The scan from its fourth part on, and what it tells of a volume.
-use Rattle.std.specs.Prelude.{List, ◌++◌, ℕ, ◌+◌, ◌≤◌, ◌≡◌, Bool, not, ◌&&◌, nat_eq, Option, Some, None, Result, Ok, Err, is_some, filter, length, IfSome}
+use Rattle.std.specs.Prelude.{List, ◌++◌, ℕ, ◌+◌, ◌≤◌, ◌≡◌, Bool, not, ◌&&◌, nat_eq, Some, None, Result, Ok, Err, is_some, filter, length}
 use Rattle.std.specs.FinMap as fin
 use Rattle.std.specs.List.{range_with_len}
 use Rattle.mb_kinds.specs.Image.{Image}

@@ -1,5 +1,4 @@
-use Rattle.std.proofs.Common.{◌≡◌, ℕ, List, Bool, ◌+◌, ◌≤◌, Ok, Err, subst, sym, ap, ◌∙◌, arith}
-use Rattle.mb_tree.specs.Volume.{last_inode}
+use Rattle.std.proofs.Common.{◌+◌, Ok, Err, subst, sym, ◌∙◌, arith}
 use Rattle.mb_check.specs.ParentTests.{KnowsLinks}
 use Rattle.mb_check.specs.Reaching.{AreReached}
 use Rattle.mb_check.specs.Tallies.{KeepsCounts}

@@ -1,4 +1,4 @@
-use Rattle.std.proofs.Common.{◌≡◌, ℕ, ◌+◌, ◌≤◌, ◌<◌, ap, sym, subst, ◌∙◌, arith}
+use Rattle.std.proofs.Common.{◌≡◌, ◌∙◌, arith}
 use Rattle.mb_tree.specs.Volume.{last_inode}
 use Rattle.mb_check.proofs.Figures.{nameless_all, nameless_first, nameless_more}
 use Rattle.mb_check.proofs.scans.nameless.Goals as goal

@@ -1,4 +1,4 @@
-use Rattle.std.proofs.Common.{ℕ, ◌≡◌, ◌+◌}
+use Rattle.std.proofs.Common.{◌≡◌, ◌+◌}
 use Rattle.mb_kinds.specs.Image.{Image}
 use Rattle.mb_tree.specs.Volume.{last_inode}
 use Rattle.mb_check.specs.Directories.{KeepsAll}

@@ -1,6 +1,6 @@
-use Rattle.std.proofs.Common.{◌≡◌, ℕ, ◌+◌, ◌≤◌, ◌<◌, not, nat_eq, ap, sym, subst, ◌∙◌, arith}
+use Rattle.std.proofs.Common.{◌≡◌, ◌+◌, ◌≤◌, not, nat_eq, ◌∙◌, arith}
 use Rattle.mb_tree.specs.Volume.{last_inode}
-use Rattle.mb_check.proofs.Figures.{at_most_one, nodes_all, nodes_below, nodes_first, nodes_more}
+use Rattle.mb_check.proofs.Figures.{at_most_one, nodes_all, nodes_first, nodes_more}
 use Rattle.mb_check.proofs.scans.nodes.Goals as goal
 
 pub loop-before-init : goal.loop-before-init

@@ -1,4 +1,3 @@
-use Rattle.std.proofs.Common.{◌≡◌, List, [], Ok, Err, ◌∙◌}
 use Rattle.mb_check_files.proofs.Listing.{if_told}
 use Rattle.mb_check_files.proofs.Underways.{told_of}
 use Rattle.mb_check.specs.Whole.{fault_of}

@@ -1,5 +1,4 @@
-use Rattle.std.proofs.Common.{◌≡◌, ℕ, List, [], ◌≤◌, Ok, Err, length, refl, subst, sym, ap, ◌∙◌, arith}
-use Rattle.mb_tree.specs.Volume.{last_inode}
+use Rattle.std.proofs.Common.{[], Ok, Err, refl, ◌∙◌, arith}
 use Rattle.mb_check_files.specs.declared.surveys.VolumeFiles.{VolumeFiles}
 use Rattle.mb_check_files.proofs.Listing.{if_told}
 use Rattle.mb_check_files.proofs.Stopping.{came_from}
@@ -27,6 +26,8 @@ returns-clause-walk g c = if_told (g.D.Disk.told c.args.disk.now) _ (λ image to
     let first = told_of (g.D.Disk.told c.args.disk.now) image _ told c.in_ok-files.ensures.walk in
     let tells = told_of (g.D.Disk.told c.args.disk.now) image _ told c.in_ok-files.ensures.tells in
     let low = enough_inodes image first.0 (λ block. g.met.D.Disk.sized c.args.disk.now image block told) first.1 in
-    let last = tells.last in
-    (first.0, then_late image first.0 (Ok first.0) first.1
-    (told_of (g.D.Disk.told c.volume_files.new.disk) image _ (c.volume_files.ensures.told ∙ told) c.in_ok-late_parts.ensures.walk first.0 (keeps_files image c.in_ok-files.files tells) last (omega (arith, last, low)))))
+    let last = tells.last in (
+      first.0,
+      then_late image first.0 (Ok first.0) first.1
+          (told_of (g.D.Disk.told c.volume_files.new.disk) image _ (c.volume_files.ensures.told ∙ told) c.in_ok-late_parts.ensures.walk first.0 (keeps_files image c.in_ok-files.files tells) last (omega (arith, last, low))),
+    ))
