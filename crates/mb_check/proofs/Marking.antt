@@ -1,13 +1,12 @@
 -- The inodes that are reached, as more of them are.
-use Rattle.std.proofs.Common.{◌≡◌, ◌≢◌, ◌⊎◌, inl, inr, ℕ, zero, suc, ◌+◌, ◌-◌, ◌*◌, ◌/◌, ◌<◌, ◌≤◌, List, [], ◌∷◌, ◌++◌, Bool, true, false, not, ◌&&◌, ◌||◌, nat_eq, nat_le, if◌then◌else◌, cond, Some, slice_get, slice_set, slice_index_or, length, count_by, drop, replicate, refl, sym, ap, subst, ◌∙◌, arith}
+use Rattle.std.proofs.Common.{◌≡◌, ◌≢◌, inl, inr, ℕ, suc, ◌+◌, ◌*◌, ◌/◌, ◌<◌, ◌≤◌, List, [], ◌∷◌, ◌++◌, Bool, true, false, not, ◌&&◌, ◌||◌, nat_eq, nat_le, cond, Some, slice_get, slice_set, slice_index_or, length, count_by, drop, replicate, refl, sym, ap, subst, ◌∙◌, arith}
 use Rattle.std.proofs.lemmas.Bool.{cases_lt}
 use Rattle.std.proofs.lemmas.Bool.Decides.{nat_tests, eqb_tells}
 use Rattle.std.proofs.lemmas.List.{get_or-replicate, length-append, length-replicate, length-set}
 use Rattle.std.proofs.lemmas.List.Folds.{sum_by-replicate}
-use Rattle.std.proofs.lemmas.List.Sums.{count_by-le-length}
 use Rattle.std.proofs.lemmas.Option.{same_Some, slice_get_within, slice_get-get_or}
 use Rattle.mb_tree.specs.Blocks.{slot_in}
-use Rattle.mb_tree.specs.Counting.{sum_below, any_from}
+use Rattle.mb_tree.specs.Counting.{any_from}
 use Rattle.mb_tree.specs.Inodes.{is_directory}
 use Rattle.mb_tree.specs.Trees.{leads_to}
 use Rattle.mb_tree.specs.Volume.{last_inode}
@@ -15,16 +14,12 @@ use Rattle.mb_tree.proofs.SlotLists.{push_here, push_there, set_here, set_there}
 use Rattle.mb_tree.proofs.Sums.{sum_term}
 use Rattle.mb_rules.specs.Files.{mode_at, size_at}
 use Rattle.mb_rules.specs.Parents.{is_reached, late_from}
-use Rattle.mb_rules.specs.Slots.{slots_at}
-use Rattle.mb_rules.proofs.Files.{found_from}
 use Rattle.mb_rules.proofs.FilesAccepted.{found_yes}
 use Rattle.mb_rules.proofs.Reaching.{within_most}
-use Rattle.mb_rules.proofs.Ways.{or_true}
-use Rattle.mb_rules.proofs.Walks.{both}
 use Rattle.mb_scan_laws.proofs.ShownTrees.{slots_by}
 use Rattle.mb_check_files.proofs.Claims.{count_more}
 use Rattle.mb_check.specs.declared.reaching.Reach.{Reach}
-use Rattle.mb_check.specs.Reaching.{Advances, AdvancesOver, AreReached, Grows, IsReachedDirectory, Marks, Reaching, ReachesAll, ReachesSlots}
+use Rattle.mb_check.specs.Reaching.{Advances, AdvancesOver, Grows, IsReachedDirectory, Marks, Reaching, ReachesSlots}
 use Rattle.mb_check.specs.Tallies.{one_if, slots_to}
 use Rattle.mb_check_files.specs.InodeTables.{KeepsInode, KeepsInodes}
 use Rattle.mb_check_files.specs.declared.inodes.InodeKept.{InodeKept}
@@ -92,10 +87,10 @@ module _ (blocks : ℕ → List ℕ) (ino : ℕ) (old new : Reach) (flags : new.
       listed = listed_new;
       flagged = flagged_new;
       once = (
-        let long : length new.list.items ≡ length old.list.items + 1 = ap (λ (xs : List ℕ). length xs) list ∙ length-append old.list.items (ino ∷ []) in
-        let more : count_by (λ flag. flag) new.flags.items ≡ suc (count_by (λ flag. flag) old.flags.items) = ap (λ (xs : List Bool). count_by (λ flag. flag) xs) flags ∙ count_more old.flags.items ino inside (same_Some (slice_index_or old.flags.items ino false) false (sym (slice_get-get_or old.flags.items ino false inside) ∙ fresh)) in
-        let was = reaching.once in
-        omega (arith, long, more, was));
+          let long : length new.list.items ≡ length old.list.items + 1 = ap (λ (xs : List ℕ). length xs) list ∙ length-append old.list.items (ino ∷ []) in
+          let more : count_by (λ flag. flag) new.flags.items ≡ suc (count_by (λ flag. flag) old.flags.items) = ap (λ (xs : List Bool). count_by (λ flag. flag) xs) flags ∙ count_more old.flags.items ino inside (same_Some (slice_index_or old.flags.items ino false) false (sym (slice_get-get_or old.flags.items ino false inside) ∙ fresh)) in
+          let was = reaching.once in
+          omega (arith, long, more, was));
       reached = reached_new may;
     };
     grows = record { flags = flag_kept; list = list_kept };
@@ -118,10 +113,10 @@ reaching_none blocks reach n flags size list =
       listed = λ ino has. absurd (none ino has);
       flagged = λ at ino has. (let e : slice_get [] at ≡ Some ino = ap (λ (xs : List ℕ). slice_get xs at) (sym list) ∙ has in absurd (cc));
       once = (
-        let long : length reach.list.items ≡ 0 = ap (λ (xs : List ℕ). length xs) list in
-        let count : count_by (λ flag. flag) reach.flags.items ≡ count_by (λ flag. flag) (replicate n false) = ap (λ (xs : List Bool). count_by (λ flag. flag) xs) flags in
-        let s = sum_by-replicate (λ (b : Bool). cond {A = ℕ} b 1 0) n false in
-        omega (arith, long, count, s));
+          let long : length reach.list.items ≡ 0 = ap (λ (xs : List ℕ). length xs) list in
+          let count : count_by (λ flag. flag) reach.flags.items ≡ count_by (λ flag. flag) (replicate n false) = ap (λ (xs : List Bool). count_by (λ flag. flag) xs) flags in
+          let s = sum_by-replicate (λ (b : Bool). cond {A = ℕ} b 1 0) n false in
+          omega (arith, long, count, s));
       reached = λ ino has. absurd (none ino has);
     }
 

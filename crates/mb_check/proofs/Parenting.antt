@@ -1,19 +1,17 @@
 -- Rules 13 and 14 by what is counted.
-use Rattle.std.proofs.Common.{◌≡◌, ◌≢◌, ◌⊎◌, inl, inr, ℕ, zero, suc, ◌+◌, ◌-◌, ◌*◌, ◌/◌, ◌<◌, ◌≤◌, List, [], ◌∷◌, ◌++◌, Bool, true, false, not, ◌&&◌, ◌||◌, nat_eq, nat_le, min, if◌then◌else◌, cond, Some, Result, Ok, Err, slice_get, length, count_by, drop, refl, sym, ap, subst, ◌∙◌, arith}
+use Rattle.std.proofs.Common.{◌≡◌, inl, inr, ℕ, ◌+◌, ◌<◌, ◌≤◌, List, [], ◌∷◌, Bool, true, false, not, ◌&&◌, ◌||◌, nat_eq, nat_le, if◌then◌else◌, Result, Ok, Err, refl, sym, ap, subst, ◌∙◌, arith}
 use Rattle.std.proofs.lemmas.Bool.{cases_lt}
 use Rattle.std.proofs.lemmas.Bool.Decides.{nat_tests, eqb_tells}
 use Rattle.mb_word.specs.Fields.{inode_block, inode_place, nlink_of}
 use Rattle.mb_tree.specs.Blocks.{slot_in}
 use Rattle.mb_tree.specs.Counting.{sum_below}
 use Rattle.mb_tree.specs.Inodes.{is_directory}
-use Rattle.mb_tree.specs.Trees.{leads_to}
 use Rattle.mb_tree.specs.Volume.{last_inode}
 use Rattle.mb_tree.proofs.Sums.{sum_terms}
 use Rattle.mb_rules.specs.declared.findings.Finding.{Finding}
 use Rattle.mb_rules.specs.Files.{mode_at}
 use Rattle.mb_rules.specs.Items.{Item, Holds, each_from, walked, walked_on}
 use Rattle.mb_rules.specs.Parents.{all_to, has_parent, is_reached, is_top, late_from, late_to, link_items, parent_items, parents_items}
-use Rattle.mb_rules.specs.Slots.{slots_at}
 use Rattle.mb_rules.proofs.Walks.{walk_append}
 use Rattle.mb_check.specs.declared.tallies.Late.{Late}
 use Rattle.mb_check.specs.declared.tallies.Late.TheVariants.{Never, Once, Often}

@@ -1,9 +1,9 @@
 -- The parts of directories: where they stand, and how many slots they have.
-use Rattle.std.proofs.Common.{◌≡◌, ℕ, zero, suc, ◌+◌, ◌-◌, ◌*◌, ◌/◌, ◌%◌, ◌<◌, ◌≤◌, List, true, min, nat_lt, cond, Option, Some, None, length, refl, sym, ap, ◌∙◌, arith}
+use Rattle.std.proofs.Common.{◌≡◌, ℕ, zero, suc, ◌+◌, ◌*◌, ◌/◌, ◌<◌, ◌≤◌, List, true, nat_lt, cond, Option, Some, None, refl, sym, ap, ◌∙◌, arith}
 use Rattle.std.proofs.lemmas.Bool.Decides.{nat_tests}
 use Rattle.mb_kinds.specs.Image.{zeros}
 use Rattle.std.specs.Prelude.{unwrap_or}
-use Rattle.mb_tree.specs.Blocks.{bytes_at, part_address, part_bytes, part_in}
+use Rattle.mb_tree.specs.Blocks.{bytes_at, part_address, part_in}
 use Rattle.mb_tree.specs.Cost.{most_parts}
 use Rattle.mb_check_files.specs.declared.inodes.InodeKept.{InodeKept}
 use Rattle.mb_check_files.specs.declared.inodes.InodeTable.{InodeTable}

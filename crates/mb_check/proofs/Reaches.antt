@@ -1,26 +1,25 @@
 -- Directories in the order of being reached: once all of them were read, the flags are what the root reaches.
-use Rattle.std.proofs.Common.{◌≡◌, ◌⊎◌, inl, inr, ℕ, zero, suc, ◌+◌, ◌-◌, ◌*◌, ◌/◌, ◌<◌, ◌≤◌, List, [], ◌∷◌, Bool, true, false, not, ◌&&◌, ◌||◌, nat_eq, nat_le, if◌then◌else◌, cond, Option, Some, None, slice_get, slice_index_or, length, count_by, drop, refl, sym, ap, subst, ◌∙◌, arith}
+use Rattle.std.proofs.Common.{◌≡◌, inl, inr, ℕ, zero, suc, ◌+◌, ◌/◌, ◌<◌, ◌≤◌, List, Bool, true, false, not, ◌&&◌, nat_eq, nat_le, Some, None, slice_get, slice_index_or, length, count_by, drop, refl, sym, ap, subst, ◌∙◌, arith}
 use Rattle.std.proofs.Math.Seq.{drop-nil}
 use Rattle.std.proofs.lemmas.Bool.{cases_lt}
-use Rattle.std.proofs.lemmas.Bool.Decides.{nat_tests, eqb_tells}
+use Rattle.std.proofs.lemmas.Bool.Decides.{nat_tests}
 use Rattle.std.proofs.lemmas.List.Sums.{count_by-le-length}
 use Rattle.std.proofs.lemmas.Option.{same_Some, slice_get_within, slice_get-get_or}
 use Rattle.mb_tree.specs.Blocks.{slot_in}
-use Rattle.mb_tree.specs.Counting.{sum_below, any_from}
+use Rattle.mb_tree.specs.Counting.{sum_below}
 use Rattle.mb_tree.specs.Inodes.{is_directory}
 use Rattle.mb_tree.specs.Trees.{leads_to}
 use Rattle.mb_tree.specs.Volume.{last_inode}
 use Rattle.mb_rules.specs.Files.{mode_at, size_at}
 use Rattle.mb_rules.specs.Parents.{is_reached, late_from}
-use Rattle.mb_rules.specs.Slots.{slots_at}
 use Rattle.mb_rules.proofs.Files.{found_from}
 use Rattle.mb_rules.proofs.Reaching.{within_most}
 use Rattle.mb_rules.proofs.Ways.{or_true}
 use Rattle.mb_rules.proofs.Walks.{both}
 use Rattle.mb_scan_laws.proofs.ShownTrees.{slots_by}
 use Rattle.mb_check.specs.declared.reaching.Reach.{Reach}
-use Rattle.mb_check.specs.Reaching.{AdvancesOver, AreReached, Grows, Marks, Reaching, ReachesAll, ReachesSlots}
-use Rattle.mb_check.specs.Tallies.{one_if, slots_to}
+use Rattle.mb_check.specs.Reaching.{AdvancesOver, AreReached, Marks, Reaching, ReachesAll}
+use Rattle.mb_check.specs.Tallies.{one_if}
 use Rattle.mb_check.proofs.Marking.{late_is, next_step, slots_kept}
 
 -- the first n of the list were read

@@ -1,5 +1,5 @@
 -- What is counted of slots, with one slot more.
-use Rattle.std.proofs.Common.{◌≡◌, ◌≢◌, ◌⊎◌, inl, inr, ℕ, zero, suc, ◌+◌, ◌<◌, ◌≤◌, List, [], Bool, true, false, ◌&&◌, nat_eq, nat_le, min, if◌then◌else◌, cond, Some, None, slice_get, slice_set, slice_index_or, length, count_by, drop, replicate, refl, sym, ap, subst, ◌∙◌, arith}
+use Rattle.std.proofs.Common.{◌≡◌, ◌≢◌, inl, inr, ℕ, suc, ◌+◌, ◌<◌, ◌≤◌, List, [], Bool, true, false, ◌&&◌, nat_le, min, Some, slice_get, slice_set, slice_index_or, length, count_by, drop, replicate, refl, sym, ap, subst, ◌∙◌, arith}
 use Rattle.std.proofs.lemmas.Bool.Decides.{nat_tests, eqb_tells}
 use Rattle.std.proofs.Math.Seq.{drop-nil}
 use Rattle.std.proofs.lemmas.List.{get_or-replicate, length-replicate}
@@ -11,7 +11,6 @@ use Rattle.mb_tree.specs.Trees.{leads_to}
 use Rattle.mb_tree.specs.declared.nodes.PlainSlot.{PlainSlot}
 use Rattle.mb_tree.proofs.SlotLists.{set_here, set_there}
 use Rattle.mb_rules.specs.Files.{mode_at}
-use Rattle.mb_rules.specs.Parents.{late_from}
 use Rattle.mb_rules.specs.Slots.{slots_at}
 use Rattle.mb_check.specs.declared.tallies.Late.{Late}
 use Rattle.mb_check.specs.declared.tallies.Late.TheVariants.{Never, Once, Often}

@@ -1,17 +1,16 @@
 -- All slots of a directory were counted: the counts before the next one.
-use Rattle.std.proofs.Common.{◌≡◌, ◌⊎◌, inl, inr, ℕ, zero, suc, ◌+◌, ◌-◌, ◌*◌, ◌/◌, ◌<◌, ◌≤◌, List, [], ◌∷◌, ◌++◌, Bool, true, false, ◌&&◌, nat_le, min, if◌then◌else◌, cond, map, Result, Ok, Err, Some, slice_get, length, count_by, drop, refl, sym, ap, subst, ◌∙◌, arith}
+use Rattle.std.proofs.Common.{◌≡◌, inl, inr, ℕ, zero, suc, ◌+◌, ◌*◌, ◌/◌, ◌<◌, ◌≤◌, List, [], ◌∷◌, ◌++◌, Bool, true, false, ◌&&◌, nat_le, min, if◌then◌else◌, map, Result, Ok, Err, length, count_by, drop, refl, sym, ap, subst, ◌∙◌, arith}
 use Rattle.std.specs.List.{range_with_len}
 use Rattle.std.proofs.Math.Seq.{drop-nil}
 use Rattle.std.proofs.lemmas.Bool.{cases_lt}
 use Rattle.std.proofs.lemmas.Bool.Decides.{nat_tests}
 use Rattle.std.proofs.lemmas.List.FromFn.{map-range_with_len_more, length-map-range_with_len}
 use Rattle.mb_tree.specs.Blocks.{slot_in}
-use Rattle.mb_tree.specs.Counting.{sum_below, any_from, first_from}
+use Rattle.mb_tree.specs.Counting.{sum_below, first_from}
 use Rattle.mb_tree.specs.Inodes.{is_directory}
-use Rattle.mb_tree.specs.Lookup.{is_named}
 use Rattle.mb_tree.specs.Trees.{leads_to}
 use Rattle.mb_tree.specs.declared.nodes.PlainSlot.{PlainSlot}
-use Rattle.mb_tree.proofs.SlotLists.{weight, count_push}
+use Rattle.mb_tree.proofs.SlotLists.{count_push}
 use Rattle.mb_rules.specs.Files.{mode_at, size_at}
 use Rattle.mb_rules.specs.declared.findings.Finding.{Finding}
 use Rattle.mb_rules.specs.Items.{Item, each_from, walked}
@@ -19,12 +18,11 @@ use Rattle.mb_rules.specs.Parents.{late_from}
 use Rattle.mb_rules.specs.Slots.{directory_items, slot_items, slots_at}
 use Rattle.mb_scan_laws.proofs.ShownTrees.{slots_by}
 use Rattle.mb_check.specs.declared.names.NameSet.{NameSet}
-use Rattle.mb_check.specs.declared.tallies.Late.{Late}
 use Rattle.mb_check.specs.declared.tallies.Tally.{Tally}
 use Rattle.mb_check.specs.declared.tallies.SlotCounts.{SlotCounts}
 use Rattle.mb_check.specs.NameSets.{has_name}
 use Rattle.mb_check.specs.SlotTests.{KnowsNames}
-use Rattle.mb_check.specs.Tallies.{one_if, slots_to, slots_so_far, HoldsLate, before, itself, IsLate, KeepsCounts, KeepsTally, KeepsTallies, IsPassed, below, within, KeepsParents}
+use Rattle.mb_check.specs.Tallies.{one_if, slots_to, slots_so_far, HoldsLate, before, itself, KeepsCounts, KeepsTally, IsPassed, below, within}
 use Rattle.mb_check_files.specs.InodeTables.{KeepsInode}
 use Rattle.mb_check_files.specs.declared.inodes.InodeKept.{InodeKept}
 use Rattle.mb_check_files.specs.declared.inodes.InodeTable.{InodeTable}

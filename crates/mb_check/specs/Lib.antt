@@ -4,3 +4,4 @@ pub mod ParentTests
 pub mod Reaching
 pub mod SlotTests
 pub mod Tallies
+pub mod Whole

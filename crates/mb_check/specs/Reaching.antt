@@ -1,5 +1,5 @@
 -- What is kept of the inodes that the root reaches, while directories are read again (rule 13).
-use Rattle.std.specs.Prelude.{List, ℕ, ◌+◌, ◌*◌, ◌/◌, ◌≤◌, ◌<◌, ◌≡◌, true, Some, Bool, slice_get, length, count_by}
+use Rattle.std.specs.Prelude.{List, ℕ, ◌+◌, ◌/◌, ◌≤◌, ◌<◌, ◌≡◌, true, Some, Bool, slice_get, length, count_by}
 use Rattle.mb_tree.specs.Blocks.{slot_in}
 use Rattle.mb_tree.specs.Inodes.{is_directory}
 use Rattle.mb_tree.specs.Volume.{last_inode}

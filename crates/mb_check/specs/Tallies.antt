@@ -1,5 +1,5 @@
 -- What is counted of the slots of directories while they are gone through, for rules 13 and 14.
-use Rattle.std.specs.Prelude.{List, ℕ, zero, suc, ◌+◌, ◌≤◌, ◌<◌, ◌≡◌, Bool, true, ◌&&◌, nat_le, min, if◌then◌else◌, Some, slice_get, length, count_by, drop}
+use Rattle.std.specs.Prelude.{List, ℕ, ◌+◌, ◌≤◌, ◌<◌, ◌≡◌, Bool, true, ◌&&◌, nat_le, min, if◌then◌else◌, Some, slice_get, length, count_by, drop}
 use Rattle.mb_tree.specs.Blocks.{slot_in}
 use Rattle.mb_tree.specs.Counting.{sum_below}
 use Rattle.mb_tree.specs.Inodes.{is_directory}

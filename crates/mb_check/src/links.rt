@@ -80,12 +80,7 @@ fn keeps_parent(counts: &SlotCounts, reached: &[bool], dir: u16) -> bool
 }
 
 /// Rule 13 of an inode, where it is a directory.
-fn parent(
-    table: &InodeTable,
-    counts: &SlotCounts,
-    reached: &[bool],
-    ino: u16,
-) -> Result<(), Stop>
+fn parent(table: &InodeTable, counts: &SlotCounts, reached: &[bool], ino: u16) -> Result<(), Stop>
     ensures walk { (blocks : ℕ → List ℕ) (met : List ℕ) → KeepsAll blocks table.now → KnowsLinks blocks counts.now reached.now → 1 ≤ ino → ino ≤ last_inode blocks → Tests result met (parent_items blocks ino) }
     ensures cause { IsDevice result → ⊥ }
 {

@@ -5,6 +5,7 @@ ghost use Rattle.mb_rules.specs.Files.{size_at};
 ghost use Rattle.mb_rules.specs.Parents.{is_reached};
 ghost use Rattle.mb_check.specs.Directories.{KeepsAll, KeepsDirectory, slots_in_part};
 ghost use Rattle.mb_check.specs.Reaching.{Advances, AdvancesOver, AreReached, IsReachedDirectory, Marks, Reaching, ReachesSlots};
+ghost use Rattle.mb_check.specs.SlotTests.{IsBroken};
 ghost use Rattle.mb_check_files.specs.Passes.{DeviceCause};
 
 use crate::parts::{kept_of, parts_of, read_part, slots_of_part};
@@ -83,6 +84,7 @@ fn part_targets<D: Disk>(
     requires { 512 * part < kept.now.size }
     ensures reach { OnOk result (IfSome (D.told disk.old) (λ image. (dir : ℕ) → KeepsDirectory image.at table.now dir kept.now → IsReachedDirectory image.at dir → Reaching image.at reach.old
         → ReachesSlots image.at dir (32 * part) reach.old → Advances image.at dir (32 * part + slots_in_part kept.now.size part) reach.old reach.new)) }
+    ensures unbroken { IsBroken result → ⊥ }
     ensures told { D.told disk.new ≡ D.told disk.old }
     ensures cause { DeviceCause (D.faults disk.old) (D.faults disk.new) result }
 {
@@ -101,6 +103,7 @@ fn directory_targets<D: Disk>(
 ) -> Result<(), Stop>
     ensures reach { OnOk result (IfSome (D.told disk.old) (λ image. KeepsAll image.at table.now → 2 ≤ last_inode image.at → dir ≤ last_inode image.at → is_reached image.at (last_inode image.at) dir ≡ true
         → Reaching image.at reach.old → AdvancesOver image.at dir reach.old reach.new)) }
+    ensures unbroken { IsBroken result → ⊥ }
     ensures told { D.told disk.new ≡ D.told disk.old }
     ensures cause { DeviceCause (D.faults disk.old) (D.faults disk.new) result }
 {
@@ -122,6 +125,7 @@ pub fn reached<D: Disk>(
     last: u16,
 ) -> Result<Vec<bool>, Stop>
     ensures reached { IfOk result (λ flags. IfSome (D.told disk.old) (λ image. KeepsAll image.at table.now → last ≡ last_inode image.at → 2 ≤ last → AreReached image.at flags.items)) }
+    ensures unbroken { IsBroken result → ⊥ }
     ensures told { D.told disk.new ≡ D.told disk.old }
     ensures cause { DeviceCause (D.faults disk.old) (D.faults disk.new) result }
 {

@@ -47,11 +47,7 @@ impl Tally {
     {
         Tally {
             all: self.all.saturating_add(1),
-            late: if late {
-                self.late.more(dir)
-            } else {
-                self.late
-            },
+            late: if late { self.late.more(dir) } else { self.late },
         }
     }
 }
@@ -98,10 +94,7 @@ impl SlotCounts {
         };
         let tallies = vec![in alloc; none; count]?;
         let parents = vec![in alloc; 0; count]?;
-        Ok(SlotCounts {
-            tallies,
-            parents,
-        })
+        Ok(SlotCounts { tallies, parents })
     }
 
     /// One slot more, of a directory at a place, which leads to that inode.

@@ -1,4 +1,4 @@
-use Rattle.std.proofs.Common.{◌≡◌, ℕ, List, ◌+◌, ◌≤◌, Ok, Err, refl, ap, sym, ◌∙◌, arith}
+use Rattle.std.proofs.Common.{◌≡◌, ◌+◌, refl, ap, sym, ◌∙◌, arith}
 use Rattle.mb_tree.specs.Volume.{last_inode}
 use Rattle.mb_rules.specs.Items.{each_from, walked}
 use Rattle.mb_rules.specs.Parents.{link_items}

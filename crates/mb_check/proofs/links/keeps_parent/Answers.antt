@@ -1,5 +1,5 @@
 use Rattle.mb_check.proofs.Parenting.{parent_by_late}
-use Rattle.std.proofs.Common.{◌≡◌, ◌∙◌}
+use Rattle.std.proofs.Common.{◌∙◌}
 use Rattle.mb_check.proofs.links.keeps_parent.Goals as goal
 
 pub returns : goal.returns

@@ -1,7 +1,5 @@
-use Rattle.std.proofs.Common.{◌≡◌, ℕ, true, false, ◌||◌, ◌&&◌, nat_eq, inl, inr, ap, sym, ◌∙◌, arith}
-use Rattle.std.proofs.lemmas.Bool.Decides.{nat_tests}
+use Rattle.std.proofs.Common.{inl, inr, sym, ◌∙◌}
 use Rattle.mb_tree.specs.Volume.{last_inode}
-use Rattle.mb_rules.specs.Files.{mode_at}
 use Rattle.mb_check.proofs.Parenting.{link_holds, link_stops, other_link, skipped_mode, skipped_one, unskipped}
 use Rattle.mb_check.proofs.links.link.Goals as goal
 

@@ -1,4 +1,4 @@
-use Rattle.std.proofs.Common.{◌≡◌, ℕ, List, Ok, Err}
+use Rattle.std.proofs.Common.{Ok, Err}
 use Rattle.mb_check_files.proofs.Stopping.{came_from}
 use Rattle.mb_check.proofs.Parenting.{first_stops, then_ends}
 use Rattle.mb_check.proofs.SlotWalks.{tests_on}

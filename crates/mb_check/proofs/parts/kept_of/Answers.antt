@@ -1,4 +1,4 @@
-use Rattle.std.proofs.Common.{◌≡◌, ◌∙◌}
+use Rattle.std.proofs.Common.{◌∙◌}
 use Rattle.mb_check.proofs.Leading.{found_at}
 use Rattle.mb_check.proofs.parts.kept_of.Goals as goal
 

@@ -1,4 +1,4 @@
-use Rattle.std.proofs.Common.{ℕ, List, ◌≡◌, ◌≤◌, true, IfSome}
+use Rattle.std.proofs.Common.{◌≡◌, ◌≤◌, true, IfSome}
 use Rattle.mb_tree.specs.Volume.{last_inode}
 use Rattle.mb_rules.specs.Parents.{is_reached}
 use Rattle.mb_check.specs.Directories.{KeepsAll, slots_before}

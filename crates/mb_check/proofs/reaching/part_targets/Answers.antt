@@ -1,6 +1,5 @@
-use Rattle.std.proofs.Common.{◌≡◌, ℕ, ◌+◌, ◌*◌, ◌/◌, ◌≤◌, ap, sym, subst, ◌∙◌, arith}
+use Rattle.std.proofs.Common.{◌+◌, ◌*◌, ◌/◌, ◌≤◌, sym, subst}
 use Rattle.mb_rules.specs.Files.{size_at}
-use Rattle.mb_check.specs.Directories.{slots_in_part}
 use Rattle.mb_check.specs.Reaching.{Advances}
 use Rattle.mb_check_files.proofs.Listing.{if_told}
 use Rattle.mb_check_files.proofs.Underways.{told_of}

@@ -1,17 +1,16 @@
-use Rattle.std.proofs.Common.{◌≡◌, ℕ, List, true, false, refl, ap, sym, ◌∙◌, subst, ◌+◌, ◌*◌, ◌/◌, ◌<◌, ◌≤◌, Ok, Err, arith}
+use Rattle.std.proofs.Common.{◌≡◌, refl, ap, sym, ◌∙◌, subst, ◌+◌, ◌*◌, ◌/◌, ◌<◌, ◌≤◌, arith}
 use Rattle.mb_tree.specs.Inodes.{is_directory}
 use Rattle.mb_tree.specs.Volume.{last_inode}
-use Rattle.mb_rules.specs.Files.{mode_at}
 use Rattle.mb_check.specs.Directories.{slots_before}
 use Rattle.mb_check.specs.SlotTests.{KnowsNames}
 use Rattle.mb_check.specs.Tallies.{KeepsCounts}
 use Rattle.mb_check_files.proofs.Eachs.{each_none}
-use Rattle.mb_check_files.proofs.Listing.{if_told, given}
+use Rattle.mb_check_files.proofs.Listing.{if_told}
 use Rattle.mb_check_files.proofs.Stopping.{came_from}
 use Rattle.mb_check_files.proofs.Underways.{told_of}
-use Rattle.mb_check.proofs.PartReads.{before_is, below_size, next_before}
+use Rattle.mb_check.proofs.PartReads.{before_is, next_before}
 use Rattle.mb_check.proofs.SlotWalks.{tests_on}
-use Rattle.mb_check.proofs.WholeDirectories.{keeps_directory, knows_none, other_next, other_walks, part_passes, part_stops, parts_counted, parts_pass, starts_none}
+use Rattle.mb_check.proofs.WholeDirectories.{keeps_directory, knows_none, other_next, other_walks, part_passes, part_stops, parts_counted, parts_pass}
 use Rattle.mb_check.proofs.slot_walks.directory_slots.Goals as goal
 
 pub returns-then-not-is_directory-clause-walk : goal.returns-then-not-is_directory-clause-walk
@@ -45,7 +44,7 @@ returns-in_err-part_slots-clause-walk g c = if_told (g.D.Disk.told c.args.disk.n
     let less : 512 * c.loop-part.part < c.kept_of-kept.result.size = omega (arith, end, inside) in
     let so = told_of (g.D.Disk.told c.args.disk.now) image _ told c.loop-part.invariant.walk met keeps from low in
     let names = subst (λ n. KnowsNames image.at c.args.dir n c.loop-part.names) (before_is image.at c.args.table.now c.args.dir c.kept_of-kept.result directory c.loop-part.part less)
-        (told_of (g.D.Disk.told c.args.disk.now) image _ told c.loop-part.invariant.names keeps from low) in
+    (told_of (g.D.Disk.told c.args.disk.now) image _ told c.loop-part.invariant.names keeps from low) in
     rw (came_from c.from_residual.result c.in_err-part_slots.field-0.0 c.from_residual.ensures)
     (tests_on c.in_err-part_slots.field-0.0 met _ _ (part_stops image.at c.args.table.now c.args.dir c.kept_of-kept.result directory met c.loop-part.part less so)
     (told_of (g.D.Disk.told c.loop-part.disk) image _ here c.in_err-part_slots.ensures.walk met keeps.inodes directory names)))
@@ -63,7 +62,7 @@ loop-part-preserved g c = record {
       let less : 512 * c.loop-part.part < c.kept_of-kept.result.size = omega (arith, end, inside) in
       let so = told_of (g.D.Disk.told c.args.disk.now) image _ told c.loop-part.invariant.walk met keeps from low in
       let names = subst (λ n. KnowsNames image.at c.args.dir n c.loop-part.names) (before_is image.at c.args.table.now c.args.dir c.kept_of-kept.result directory c.loop-part.part less)
-          (told_of (g.D.Disk.told c.args.disk.now) image _ told c.loop-part.invariant.names keeps from low) in
+      (told_of (g.D.Disk.told c.args.disk.now) image _ told c.loop-part.invariant.names keeps from low) in
       part_passes image.at c.args.table.now c.args.dir c.kept_of-kept.result directory met c.loop-part.part less so
       (told_of (g.D.Disk.told c.loop-part.disk) image _ here c.in_ok-part_slots.ensures.walk met keeps.inodes directory names));
   names = if_told (g.D.Disk.told c.args.disk.now) _ (λ image told keeps from low.
@@ -74,7 +73,7 @@ loop-part-preserved g c = record {
       let inside = c.loop-part-test.true in
       let less : 512 * c.loop-part.part < c.kept_of-kept.result.size = omega (arith, end, inside) in
       let names = subst (λ n. KnowsNames image.at c.args.dir n c.loop-part.names) (before_is image.at c.args.table.now c.args.dir c.kept_of-kept.result directory c.loop-part.part less)
-          (told_of (g.D.Disk.told c.args.disk.now) image _ told c.loop-part.invariant.names keeps from low) in
+      (told_of (g.D.Disk.told c.args.disk.now) image _ told c.loop-part.invariant.names keeps from low) in
       subst (λ n. KnowsNames image.at c.args.dir n c.part_slots.new.names) (next_before image.at c.args.table.now c.args.dir c.kept_of-kept.result directory c.loop-part.part less)
       (told_of (g.D.Disk.told c.loop-part.disk) image _ here c.in_ok-part_slots.ensures.names directory names));
   counts = if_told (g.D.Disk.told c.args.disk.now) _ (λ image told keeps from low counts.
@@ -85,7 +84,7 @@ loop-part-preserved g c = record {
       let inside = c.loop-part-test.true in
       let less : 512 * c.loop-part.part < c.kept_of-kept.result.size = omega (arith, end, inside) in
       let before = subst (λ n. KeepsCounts image.at c.args.dir n c.loop-part.counts) (before_is image.at c.args.table.now c.args.dir c.kept_of-kept.result directory c.loop-part.part less)
-          (told_of (g.D.Disk.told c.args.disk.now) image _ told c.loop-part.invariant.counts keeps from low counts) in
+      (told_of (g.D.Disk.told c.args.disk.now) image _ told c.loop-part.invariant.counts keeps from low counts) in
       subst (λ n. KeepsCounts image.at c.args.dir n c.part_slots.new.counts) (next_before image.at c.args.table.now c.args.dir c.kept_of-kept.result directory c.loop-part.part less)
       (told_of (g.D.Disk.told c.loop-part.disk) image _ here c.in_ok-part_slots.ensures.counts directory before));
 }

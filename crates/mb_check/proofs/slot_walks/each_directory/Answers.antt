@@ -1,4 +1,4 @@
-use Rattle.std.proofs.Common.{◌≡◌, ℕ, List, suc, refl, ap, sym, ◌∙◌, subst, ◌+◌, ◌<◌, ◌≤◌, Ok, Err, arith}
+use Rattle.std.proofs.Common.{◌≡◌, refl, ap, sym, ◌∙◌, subst, ◌+◌, ◌≤◌, arith}
 use Rattle.mb_tree.specs.Volume.{last_inode}
 use Rattle.mb_rules.specs.Items.{each_from, walked}
 use Rattle.mb_rules.specs.Slots.{directory_items}

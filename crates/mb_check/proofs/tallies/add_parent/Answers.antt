@@ -1,4 +1,4 @@
-use Rattle.std.proofs.Common.{◌≡◌, inl, inr, sym, ◌∙◌, subst, ◌≤◌, length}
+use Rattle.std.proofs.Common.{inl, inr, subst, ◌≤◌, length}
 use Rattle.mb_check.proofs.Tallying.{parents_past, parents_same, parents_set}
 use Rattle.mb_check.proofs.tallies.add_parent.Goals as goal
 

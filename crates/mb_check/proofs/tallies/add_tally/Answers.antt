@@ -1,4 +1,4 @@
-use Rattle.std.proofs.Common.{◌≡◌, sym, ◌∙◌}
+use Rattle.std.proofs.Common.{◌∙◌}
 use Rattle.mb_check.proofs.Tallying.{tallies_past, tallies_set}
 use Rattle.mb_check.proofs.tallies.add_tally.Goals as goal
 

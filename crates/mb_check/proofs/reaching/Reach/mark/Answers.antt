@@ -1,4 +1,4 @@
-use Rattle.std.proofs.Common.{◌≡◌, ℕ, ◌+◌, ◌<◌, ◌≤◌, List, Bool, true, false, Some, slice_get, slice_set, slice_index_or, length, sym, ap, subst, ◌∙◌, ◌∷◌, [], ◌++◌, refl, arith}
+use Rattle.std.proofs.Common.{◌≡◌, ◌<◌, List, Bool, true, false, Some, slice_get, slice_set, length, sym, ap, subst, ◌∙◌, arith}
 use Rattle.std.proofs.lemmas.Option.{slice_get-get_or}
 use Rattle.mb_check.proofs.Marking.{marks_new, marks_old}
 use Rattle.mb_check.proofs.reaching.Reach.mark.Goals as goal

@@ -1,5 +1,4 @@
-use Rattle.std.proofs.Common.{◌≡◌, ℕ, ◌+◌, ap, ◌∙◌, arith}
-use Rattle.mb_tree.specs.Volume.{last_inode}
+use Rattle.std.proofs.Common.{◌+◌, arith}
 use Rattle.mb_check.proofs.Marking.{reaching_none}
 use Rattle.mb_check.proofs.reaching.Reach.new.Goals as goal
 

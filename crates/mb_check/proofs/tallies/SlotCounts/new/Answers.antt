@@ -1,4 +1,4 @@
-use Rattle.std.proofs.Common.{◌≡◌, List, ℕ, ◌+◌, sym, ◌∙◌, ap, subst, length, replicate, arith}
+use Rattle.std.proofs.Common.{◌≡◌, List, ℕ, ◌+◌, sym, ◌∙◌, ap, subst, length, arith}
 use Rattle.std.proofs.lemmas.List.{length-replicate}
 use Rattle.mb_check.specs.declared.tallies.Tally.{Tally}
 use Rattle.mb_check.specs.Tallies.{KeepsTallies}
