@@ -1,4 +1,5 @@
 mod Damaging
+mod Enterings
 mod Gatherings
 mod Held
 mod Loggings
