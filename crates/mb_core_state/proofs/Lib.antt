@@ -3,3 +3,5 @@ mod Enterings
 mod Gatherings
 mod Held
 mod Loggings
+mod Missing
+mod Redoings

@@ -16,6 +16,7 @@ mod finishing;
 mod gathering;
 mod logging;
 mod recovering;
+mod redoing;
 mod striking;
 
 pub use answers::{Enter, Fault, Finished, Gathered, Left, Phase};

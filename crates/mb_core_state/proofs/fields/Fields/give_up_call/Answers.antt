@@ -4,9 +4,11 @@ use Rattle.mb_core_state.proofs.fields.Fields.give_up_call.Goals as goal
 
 pub answer_by-requires-clause-flight : goal.answer_by-requires-clause-flight
 answer_by-requires-clause-flight g c =
-    let mine = c.requires.ready.0 in let here = c.requires.ready.1 in let waits = c.in_ok-wait.ensures.ok mine here in
-    (with_call c.args.self.now mine c.args.call.now, call_here c.args.self.now c.wait.new.self c.args.caller mine c.args.call.now here waits,
-      some_is _ _ (call_flies c.args.self.now c.wait.new.self c.args.caller mine c.args.call.now here waits))
+    let mine = c.requires.ready.0 in let here = c.requires.ready.1 in let waits = c.in_ok-wait.ensures.ok mine here in (
+      with_call c.args.self.now mine c.args.call.now,
+      call_here c.args.self.now c.wait.new.self c.args.caller mine c.args.call.now here waits,
+      some_is _ _ (call_flies c.args.self.now c.wait.new.self c.args.caller mine c.args.call.now here waits),
+    )
 
 pub answer_by-requires-clause-pins : goal.answer_by-requires-clause-pins
 answer_by-requires-clause-pins g c =
@@ -18,4 +20,4 @@ returns-clause-ok g c = λ mine here.
     let waits = c.in_ok-wait.ensures.ok mine here in
     given_up c.args.self.now c.wait.new.self c.args.caller mine c.args.call.now here waits c.answer_by.new.self c.args.answer c.wait.ensures.kept c.in_ok-wait.ensures.room c.answer_by.ensures.room
     (c.answer_by.ensures.answered (with_call c.args.self.now mine c.args.call.now) (flight_of c.args.self.now mine c.args.call.now)
-      (call_here c.args.self.now c.wait.new.self c.args.caller mine c.args.call.now here waits) (call_flies c.args.self.now c.wait.new.self c.args.caller mine c.args.call.now here waits))
+    (call_here c.args.self.now c.wait.new.self c.args.caller mine c.args.call.now here waits) (call_flies c.args.self.now c.wait.new.self c.args.caller mine c.args.call.now here waits))

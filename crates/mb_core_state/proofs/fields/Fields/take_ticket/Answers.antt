@@ -1,6 +1,5 @@
 use Rattle.std.proofs.Common.{subst}
 use Rattle.mb_kinds.specs.declared.calls.Call.{Call}
-use Rattle.mb_core_spec.specs.Events.{begins}
 use Rattle.mb_core_state.specs.Entering.{GoesInside, flight_of, with_call}
 use Rattle.mb_core_state.proofs.Enterings.{goes_again, goes_new, if_ok}
 use Rattle.mb_core_state.proofs.fields.Fields.take_ticket.Goals as goal

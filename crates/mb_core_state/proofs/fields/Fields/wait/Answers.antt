@@ -1,6 +1,3 @@
-use Rattle.std.proofs.Common.{◌∙◌, ap, sym}
-use Rattle.mb_core_spec.specs.Events.{with_room}
-use Rattle.mb_core_spec.specs.State.{CoreState}
 use Rattle.mb_core_state.proofs.Enterings.{on_ok_all, waits_on}
 use Rattle.mb_core_state.proofs.fields.Fields.wait.Goals as goal
 
