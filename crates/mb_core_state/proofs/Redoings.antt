@@ -1,5 +1,5 @@
 -- An operation of the log is done again.
-use Rattle.std.proofs.Common.{◌≡◌, ◌∙◌, ℕ, List, false, true, Option, None, Some, IsSome, Result, Ok, Err, OnOk, refl, slice_get, ap, sym, subst, arith}
+use Rattle.std.proofs.Common.{◌≡◌, ◌∙◌, ℕ, List, false, true, Option, None, Some, IsSome, Result, Ok, Err, OnOk, refl, slice_get, ap, sym, subst}
 use Rattle.mb_kinds.specs.Image.{Image}
 use Rattle.mb_tree.specs.Views.{IsPart}
 use Rattle.mb_tree.specs.Volume.{IsVolume}
@@ -10,16 +10,13 @@ use Rattle.mb_iface.specs.Changed.{AreChanges, ChangeList}
 use Rattle.mb_iface.specs.declared.replies.Acted.TheVariants as acted
 use Rattle.mb_oplog.specs.declared.oplogs.Logged.{Logged}
 use Rattle.mb_cache.specs.State.{seen}
-use Rattle.mb_cache.specs.declared.answers.ReadFault.TheVariants as fault
-use Rattle.mb_edge.specs.Causes.{Rose}
 use Rattle.mb_kinds.specs.declared.entries.Flight.{Flight}
 use Rattle.mb_kinds.specs.declared.replies.Reply.TheVariants as reply
-use Rattle.mb_journal.specs.Room.{KeepsRoom}
-use Rattle.mb_core_spec.specs.Events.{GivesBack, Leaves, answered_by, with_room}
+use Rattle.mb_core_spec.specs.Events.{GivesBack, answered_by, with_room}
 use Rattle.mb_core_spec.specs.Numbers.{open_flight}
 use Rattle.mb_core_spec.specs.State.{CallerState, CoreState}
 use Rattle.mb_core_state.specs.Answers.{with_disk}
-use Rattle.mb_core_state.specs.Redoing.{ActsAgain, EndsByDevice, EndsIf, FailsStep, IsReplayed, redoing}
+use Rattle.mb_core_state.specs.Redoing.{ActsAgain, EndsIf, IsReplayed, redoing}
 
 -- what the file system answered over blocks that were gathered
 pub acts_again : {F D : Type 0} (told : D → Option Image) (old now : CoreState F D) (pages : ℕ → Option (List ℕ)) (done : ℕ) (changes : ChangeList) (picked : Option ℕ) (logged : Logged) → now ≡ with_disk old now.cache.disk
@@ -45,7 +42,7 @@ replayed {F} {D} told old mid new done logged changes rest disk are acts event =
   event = event ∙ ap (λ (core : CoreState F D). with_room (redoing core logged changes done) new) (rest ∙ ap (with_disk old) (sym disk));
 }
 
--- ---- the disk fails in a step
+-- ---- the call for which a step was made
 
 module _ {F D : Type 0} (old new : CoreState F D) (caller : ℕ) (mine : CallerState) where
   ends_flying : (flying : Option Flight) → IsSome flying
@@ -56,22 +53,6 @@ module _ {F D : Type 0} (old new : CoreState F D) (caller : ℕ) (mine : CallerS
   pub ends_waiting : open_flight mine.flight ≡ mine.flight → IsSome mine.flight
       → ((flight : Flight) → mine.flight ≡ Some flight → (new ≡ with_room (answered_by old caller mine flight reply.Device new.cache.pins) new) × GivesBack old.cache.pins new.cache.pins mine.undo) → EndsIf old new caller mine (open_flight mine.flight)
   ends_waiting waits some answered = subst (EndsIf old new caller mine) (sym waits) (ends_flying mine.flight some answered)
-
-ends_roomy : {F D : Type 0} (core mid new : CoreState F D) (caller : ℕ) (mine : CallerState) (flying : Option Flight) → EndsIf (with_room core mid) new caller mine flying → EndsIf core new caller mine flying
-ends_roomy core mid new caller mine None ends = ends
-ends_roomy core mid new caller mine (Some flight) ends = ends
-
-ends_by : {F D : Type 0} (core mid new : CoreState F D) (by : Option ℕ) → EndsByDevice (with_room core mid) new by → EndsByDevice core new by
-ends_by core mid new None ends = ends
-ends_by core mid new (Some caller) ends = λ mine here. ends_roomy core mid new caller mine (open_flight mine.flight) (ends mine here)
-
-pub fails_device : {F D : Type 0} (faults : D → ℕ) (old mid new : CoreState F D) (by : Option ℕ) → mid ≡ with_room (with_disk old mid.cache.disk) mid → new.cache.disk ≡ mid.cache.disk → Rose (faults old.cache.disk) (faults mid.cache.disk)
-    → EndsByDevice mid new by → KeepsRoom old.journal.room mid.journal.room → Leaves mid.journal.room new.journal.room 0 1 → FailsStep faults old new by fault.Device
-fails_device {F} {D} faults old mid new by same disk rose ends kept left = (
-  subst (λ (d : D). Rose (faults old.cache.disk) (faults d)) (sym disk) rose,
-  subst (λ (d : D). EndsByDevice (with_disk old d) new by) (sym disk) (ends_by (with_disk old mid.cache.disk) mid new by (subst (λ (core : CoreState F D). EndsByDevice core new by) same ends)),
-  record { trail = omega (arith, kept.trail, left.trail); history = omega (arith, kept.history, left.history); records = omega (arith, kept.records, left.records) },
-)
 
 -- ---- after the room was made
 
