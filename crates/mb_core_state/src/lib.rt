@@ -14,6 +14,7 @@ mod entering;
 mod fields;
 mod finishing;
 mod gathering;
+mod laws;
 mod logging;
 mod recovering;
 mod redoing;
@@ -21,3 +22,4 @@ mod striking;
 
 pub use answers::{Enter, Fault, Finished, Gathered, Left, Phase};
 pub use fields::Fields;
+pub use laws::replayed;
