@@ -1,40 +1,19 @@
 -- An operation of the log is done again.
-use Rattle.std.proofs.Common.{◌≡◌, ◌∙◌, ℕ, List, false, true, Option, None, Some, IsSome, Result, Ok, Err, OnOk, refl, slice_get, ap, sym, subst}
+use Rattle.std.proofs.Common.{◌≡◌, ◌∙◌, ℕ, false, true, Option, None, Some, IsSome, Result, Ok, Err, OnOk, refl, ap, sym, subst}
 use Rattle.mb_kinds.specs.Image.{Image}
-use Rattle.mb_tree.specs.Views.{IsPart}
-use Rattle.mb_tree.specs.Volume.{IsVolume}
-use Rattle.mb_tree.specs.declared.trees.Tree.{Tree}
-use Rattle.mb_edge.specs.Damage.{OpenCounts}
-use Rattle.mb_iface.specs.Acting.{Acts}
 use Rattle.mb_iface.specs.Changed.{AreChanges, ChangeList}
-use Rattle.mb_iface.specs.declared.replies.Acted.TheVariants as acted
 use Rattle.mb_oplog.specs.declared.oplogs.Logged.{Logged}
-use Rattle.mb_cache.specs.State.{seen}
 use Rattle.mb_kinds.specs.declared.entries.Flight.{Flight}
 use Rattle.mb_kinds.specs.declared.replies.Reply.TheVariants as reply
 use Rattle.mb_core_spec.specs.Events.{GivesBack, answered_by, with_room}
 use Rattle.mb_core_spec.specs.Numbers.{open_flight}
 use Rattle.mb_core_spec.specs.State.{CallerState, CoreState}
 use Rattle.mb_core_state.specs.Answers.{with_disk}
-use Rattle.mb_core_state.specs.Redoing.{ActsAgain, EndsIf, IsReplayed, redoing}
+use Rattle.mb_core_state.specs.Redoing.{ActsSeen, EndsIf, IsReplayed, redoing}
 
--- what the file system answered over blocks that were gathered
-pub acts_again : {F D : Type 0} (told : D → Option Image) (old now : CoreState F D) (pages : ℕ → Option (List ℕ)) (done : ℕ) (changes : ChangeList) (picked : Option ℕ) (logged : Logged) → now ≡ with_disk old now.cache.disk
-    → ((view : Image) → seen told old.cache ≡ Some view → IsPart pages view.at)
-    → ((one : Logged) (view : Image) (tree : Tree) → slice_get now.journal.oplog done ≡ Some one → IsPart pages view.at → IsVolume view tree → Acts pages view tree now.tables.opens one.op one.pick (acted.Done changes picked))
-    → slice_get old.journal.oplog done ≡ Some logged → ActsAgain told old.cache old.tables.opens logged changes
-acts_again {F} {D} told old now pages done changes picked logged rest part acts at = record {
-  pages = pages;
-  picked = picked;
-  part = part;
-  acts = λ view tree tells volume.
-      subst (λ (opens : OpenCounts). Acts pages view tree opens logged.op logged.pick (acted.Done changes picked)) (ap (λ (core : CoreState F D). core.tables.opens) rest)
-      (acts logged view tree (ap (λ (core : CoreState F D). slice_get core.journal.oplog done) rest ∙ at) (part view tells) volume);
-}
-
--- and what it made of the core
+-- what the file system answered, and what it made of the core
 pub replayed : {F D : Type 0} (told : D → Option Image) (old mid new : CoreState F D) (done : ℕ) (logged : Logged) (changes : ChangeList) → mid ≡ with_disk old mid.cache.disk → new.cache.disk ≡ mid.cache.disk → AreChanges changes
-    → ActsAgain told old.cache old.tables.opens logged changes → new ≡ with_room (redoing mid logged changes done) new → IsReplayed told old new done logged
+    → ActsSeen told old.cache old.tables.opens logged.op logged.pick changes → new ≡ with_room (redoing mid logged changes done) new → IsReplayed told old new done logged
 replayed {F} {D} told old mid new done logged changes rest disk are acts event = record {
   changes = changes;
   are = are;

@@ -2,12 +2,11 @@
 use Rattle.std.proofs.Common.{◌≡◌, ◌∙◌, ◌≤◌, ◌<◌, ◌+◌, ◌-◌, ◌^◌, ℕ, List, Option, None, Some, IsSome, option_map, slice_get, refl, ap, sym, subst, arith}
 use Rattle.mb_kinds.specs.Image.{Image}
 use Rattle.mb_edge.specs.Damage.{OpenCounts}
-use Rattle.mb_iface.specs.Changed.{ChangeList, changed}
+use Rattle.mb_iface.specs.Changed.{changed}
 use Rattle.mb_oplog.specs.declared.oplogs.Logged.{Logged}
 use Rattle.mb_cache.specs.CacheLaws.{InstallRaises, InstalledReads}
 use Rattle.mb_cache.specs.Pages.{PageList, installed, under}
 use Rattle.mb_cache.specs.Stamps.{Stamps, raised_by, stamp_of}
-use Rattle.mb_cache.specs.State.{CacheState}
 use Rattle.mb_session.specs.OpenFiles.{TellsCounts}
 use Rattle.mb_tables.specs.Follows.{followed}
 use Rattle.mb_tables.specs.TableLaws.{CountsFollowReplay}

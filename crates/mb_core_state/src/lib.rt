@@ -8,6 +8,7 @@
 //! The answers stand in `mb_core` too, under the same names, until the core for one caller goes.
 #![tactic(auto)]
 
+mod acting;
 mod answers;
 mod ending;
 mod entering;
