@@ -41,7 +41,7 @@ counted_next : (crossings next : Crossings) (records : List FaultRecord) → nex
 counted_next crossings next records same more all = all_map (IsCounted crossings) (IsCounted next) records
     (λ fault is mine. elim (is (mine ∙ same)) [ inl earlier ↦ inl (omega (arith, earlier)) | inr here ↦ inl (omega (arith, here.0)) ]) all
 
-no_counts : (crossings : Crossings) → AreCounts (record crossings { counts = 0 ∷ 0 ∷ 0 ∷ 0 ∷ 0 ∷ 0 ∷ [] })
+pub no_counts : (crossings : Crossings) → AreCounts (record crossings { counts = 0 ∷ 0 ∷ 0 ∷ 0 ∷ 0 ∷ 0 ∷ [] })
 no_counts crossings = record {
   six = refl;
   fits = λ kind. elim kind as (λ (k : Kind). slice_index (0 ∷ 0 ∷ 0 ∷ 0 ∷ 0 ∷ 0 ∷ []) (place_of k) ≤ 4294967295) [

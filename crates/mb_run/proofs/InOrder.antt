@@ -15,13 +15,13 @@ use Rattle.mb_run.proofs.Everybody.{find_here, got, may_of, own_calls, put_get, 
 use Rattle.mb_run.proofs.Counting.{same_or_not}
 use Rattle.mb_run.proofs.Lists.{neq}
 
-abbrev as_one : Bool → ℕ
+abbrev pub as_one : Bool → ℕ
 as_one b = cond b 1 0
 
 no_made : (made : JobCall) → None ≡ Some made → ⊥
 no_made made same = cc
 
-counts_more : (calls : List JobCall) (index caller : ℕ) (made : JobCall) → index < length calls → made ≡ get_or calls index made
+pub counts_more : (calls : List JobCall) (index caller : ℕ) (made : JobCall) → index < length calls → made ≡ get_or calls index made
     → length (calls_of (take (index + 1) calls) caller) ≡ length (calls_of (take index calls) caller) + as_one (nat_eq made.caller caller)
 counts_more calls index caller made low is =
     let cut : take (index + 1) calls ≡ take index calls ++ made ∷ [] = take_more calls index made low ∙ ap (λ (m : JobCall). take index calls ++ m ∷ []) (sym is) in
@@ -86,18 +86,19 @@ module _ (calls : List JobCall) (test : Option (Crossing → Bool)) (old : Sight
         ]);
       }
 
-runner_at : (runners : List Runner) (place : ℕ) → place < length runners → (runner : Runner) × (slice_get runners place ≡ Some runner)
+pub runner_at : (runners : List Runner) (place : ℕ) → place < length runners → (runner : Runner) × (slice_get runners place ≡ Some runner)
 runner_at [] place low = absurd (omega arith)
 runner_at (first ∷ runners) zero low = (first, refl)
 runner_at (first ∷ runners) (suc place) low = runner_at runners place (omega arith)
 
-pub order_over : (calls : List JobCall) (test : Option (Crossing → Bool)) (sight : Sight) (runners : List Runner) (index : ℕ) → length calls ≤ index → IsAfter calls test sight runners index → IsRunInOrder calls test sight
+pub order_over : (calls : List JobCall) (test : Option (Crossing → Bool)) (sight : Sight) (runners : List Runner) (index : ℕ) → length calls ≤ index → IsAfter calls test sight runners index → IsRunInOrder calls (length runners) test sight
 order_over calls test sight runners index past after = record {
-  own_calls = λ caller few. (let low : caller < length runners = omega (arith, few, after.underway.callers) in
+  own_calls = λ caller low. (
       let there = runner_at runners caller low in
       let done : there.0.done ≡ length (calls_of (take index calls) caller) = after.done caller there.0 there.1 in
       let all : length (calls_of (take index calls) caller) ≡ length (calls_of calls caller) = ap (λ ms. length (calls_of ms caller)) (take_all index calls past) in
       own_calls calls test sight runners caller there.0 after.underway there.1 (omega (arith, done, all)));
   moments = after.lined.1;
+  begun = after.lined.0;
   sound = after.underway.sound;
 }

@@ -19,3 +19,5 @@ pub mod RunningOut
 pub mod Quiet
 pub mod Waiting
 pub mod InOrder
+pub mod Completing
+pub mod Beginning

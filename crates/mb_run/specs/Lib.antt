@@ -4,4 +4,5 @@ pub mod Events
 pub mod Recovering
 pub mod Served
 pub mod Orders
+pub mod Drives
 pub mod Runs

@@ -89,6 +89,10 @@ pub record HasLetter (callers : List Caller) (letter place : ℕ) : Type 0 where
 abbrev pub IsAnswered : List JobCall → ℕ → List Runner → List Runner → Type 0
 IsAnswered calls caller old new = (done_at old caller + 1 ≤ done_at new caller) ⊎ (length (calls_of calls caller) ≤ done_at new caller)
 
+-- so many calls of a caller were answered, or one more, or its list is done
+abbrev pub IsReached : List JobCall → ℕ → ℕ → List Runner → List Runner → Type 0
+IsReached calls caller count old new = (count ≤ done_at new caller) ⊎ IsAnswered calls caller old new
+
 -- of each caller at least the calls among the first so many of the job were answered
 abbrev pub AreRunOut : List JobCall → List Runner → ℕ → Type 0
 AreRunOut calls runners index = (caller : ℕ) → caller < length runners → length (calls_of (take index calls) caller) ≤ done_at runners caller

@@ -305,9 +305,10 @@ pub record IsAfter (calls : List JobCall) (test : Option (Crossing → Bool)) (s
   pub done : (caller : ℕ) (runner : Runner) → slice_get runners caller ≡ Some runner → runner.done ≡ length (calls_of (take index calls) caller)
 
 -- a job that was run in list order
-pub record IsRunInOrder (calls : List JobCall) (test : Option (Crossing → Bool)) (sight : Sight) : Type 0 where
-  pub own_calls : (caller : ℕ) → caller < sight.config.callers → calls_in sight.history caller ≡ calls_of calls caller
+pub record IsRunInOrder (calls : List JobCall) (callers : ℕ) (test : Option (Crossing → Bool)) (sight : Sight) : Type 0 where
+  pub own_calls : (caller : ℕ) → caller < callers → calls_in sight.history caller ≡ calls_of calls caller
   pub moments : moments_in sight.history ≡ range_with_len (sight.config.start + 1) (length sight.history)
+  pub begun : sight.begun ≡ length sight.history
   pub sound : AreSound test sight.records
 
 -- ---- a call that met want of memory, and a checkpoint

@@ -2,6 +2,7 @@
 #![tactic(auto)]
 
 mod answers;
+mod drives;
 mod event_core;
 mod orders;
 mod progress;
@@ -10,6 +11,7 @@ mod runs;
 mod steps;
 
 pub use answers::{Enter, Stepped};
+pub use drives::{DriveEnd, Driven, drive};
 pub use event_core::EventCore;
 pub use orders::run_order;
 pub use progress::{Next, Turn, Went};

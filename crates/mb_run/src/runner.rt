@@ -1,7 +1,6 @@
-ghost use Rattle.std.specs.Prelude.{◌≡◌, ◌+◌, ◌<◌, ◌∷◌, [], false};
-ghost use Rattle.mb_core_spec.specs.Copies.{no_pages};
+ghost use Rattle.std.specs.Prelude.{◌≡◌, ◌+◌, ◌<◌};
+ghost use Rattle.mb_run.specs.Drives.{new_runner};
 ghost use Rattle.mb_run.specs.Served.{advanced, backed};
-ghost use Rattle.mb_run.specs.declared.runner.At.TheVariants as at;
 
 use mb_callers::Pages;
 use mb_edge::Crossings;
@@ -40,7 +39,7 @@ pub struct Runner {
 impl Runner {
     /// A caller before its first call; needs no memory.
     pub fn new(alloc: Global, caller: u8) -> Runner
-        ensures { result ≡ record { crossings = record { caller = caller; ordinal = 1; counts = 0 ∷ 0 ∷ 0 ∷ 0 ∷ 0 ∷ 0 ∷ [] }; done = 0; at = at.Outside; answered = false; asked = false; pages = no_pages } }
+        ensures { result ≡ new_runner caller }
     {
         Runner {
             crossings: Crossings {

@@ -282,7 +282,8 @@ pub fn run_in_order<C: EventCore, H: Hook>(
 ) -> bool
     requires begins { IsAfter calls.now (H.test hook.old) (C.sight core.old) runners.old 0 }
     requires callers { AllByRecursion (λ (made : JobCall). made.caller < length runners.old) calls.now }
-    ensures done { result ≡ true → IsRunInOrder calls.now (H.test hook.old) (C.sight core.new) }
+    ensures done { result ≡ true → IsRunInOrder calls.now (length runners.old) (H.test hook.old) (C.sight core.new) }
+    ensures config { result ≡ true → (C.sight core.new).config ≡ (C.sight core.old).config }
     ensures test { H.test hook.new ≡ H.test hook.old }
     ensures right { IsOrderly (C.sight core.new) }
 {

@@ -2,10 +2,12 @@ use Rattle.std.proofs.Common.{◌≡◌, ◌<◌, ◌∙◌, ap, sym, arith, len
 use Rattle.std.proofs.Math.ListN.{length-set}
 use Rattle.std.proofs.lemmas.Option.{slice_get-get_or}
 use Rattle.mb_run.proofs.InOrder.{all_callers, order_after, order_may, order_mine, order_over}
+use Rattle.std.proofs.Common.{subst}
+use Rattle.mb_run.specs.Served.{IsRunInOrder}
 use Rattle.mb_run.proofs.runs.run_in_order.Goals as goal
 
 pub returns-clause-done : goal.returns-clause-done
-returns-clause-done g c = λ so. order_over _ _ _ _ _ c.loop-made-test.false c.loop-made.invariant.after
+returns-clause-done g c = λ so. subst (λ n. IsRunInOrder c.args.calls.now n (g.H.Hook.test c.args.hook.now) (g.C.EventCore.sight c.loop-made.core)) c.loop-made.invariant.size (order_over _ _ _ _ _ c.loop-made-test.false c.loop-made.invariant.after)
 
 pub run_holder-requires-clause-may : goal.run_holder-requires-clause-may
 run_holder-requires-clause-may g c =
@@ -29,7 +31,8 @@ loop-made-preserved g c =
     record {
       after = order_after _ _ _ _ _ c.loop-made.invariant.after c.made-item.result here _ low _ _ (rw c.loop-made.invariant.test at c.if-not-run_holder.ensures.ran) c.run_holder.ensures.right;
       size = length-set c.loop-made.runners c.made-item.result.caller c.run_holder.new.runner ∙ c.loop-made.invariant.size;
-      test = c.run_holder.ensures.test ∙ c.loop-made.invariant.test;
+      config = c.if-not-run_holder.ensures.ran.nears.acts.config ∙ c.loop-made.invariant.config;
+    test = c.run_holder.ensures.test ∙ c.loop-made.invariant.test;
     }
 
 pub returns-clause-right : goal.returns-clause-right

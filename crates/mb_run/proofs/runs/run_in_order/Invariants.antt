@@ -5,6 +5,7 @@ use Rattle.mb_run.proofs.runs.run_in_order.Given as goal
 abbrev pub invariant-loop-made : goal.invariant-loop-made
 invariant-loop-made g l = record {
   after : IsAfter l.calls (g.H.Hook.test l.fn.hook) (g.C.EventCore.sight l.core) l.runners l.made-index;
+  config : (g.C.EventCore.sight l.core).config ≡ (g.C.EventCore.sight l.fn.core).config;
   size : length l.runners ≡ length l.fn.runners;
   test : g.H.Hook.test l.hook ≡ g.H.Hook.test l.fn.hook;
 }

@@ -1,0 +1,104 @@
+-- A job at its beginning.
+use Rattle.std.proofs.Common.{◌≡◌, List, [], ◌∷◌, ℕ, zero, suc, ◌+◌, ◌<◌, ◌≤◌, Bool, refl, ap, sym, subst, ◌∙◌, arith, Option, None, Some, length, take, slice_get, slice_index}
+use Rattle.std.proofs.lemmas.List.{length-take-le}
+use Rattle.std.proofs.lemmas.Option.{same_Some, slice_get_within}
+use Rattle.mb_edge.specs.Crossings.{place_of}
+use Rattle.mb_edge.specs.declared.crossings.Crossing.{Crossing}
+use Rattle.mb_jobs.specs.declared.jobs.Job.{Job}
+use Rattle.mb_jobs.specs.declared.jobs.JobCall.{JobCall}
+use Rattle.mb_run.specs.Drives.{AreNew, HasEachMoment, IsBegun, IsComplete, IsDriven, IsLinedUp, IsRunnable, new_runner}
+use Rattle.mb_run.specs.Served.{AreCounts, AreSound, IsAfter, IsBalanced, IsCounted, IsRunInOrder, IsServed, Underway, calls_in, calls_of, moments_in}
+use Rattle.mb_run.specs.Sights.{IsOrderly, Limits, Seat, Sight}
+use Rattle.mb_run.specs.declared.runner.Runner.{Runner}
+use Rattle.mb_run.proofs.Completing.{calls_few, each_moment}
+use Rattle.mb_run.proofs.Entered.{no_counts}
+use Rattle.std.specs.List.{AllByRecursion, range_with_len}
+
+first_served : (job : Job) (sight : Sight) (caller : ℕ) → IsBegun job sight → IsServed (calls_of job.calls caller) sight caller (new_runner caller)
+first_served job sight caller begun = record {
+  caller_is = refl;
+  ordinal = refl;
+  calls = rw (begun.seats caller, begun.history) (refl, refl);
+  stands = rw (begun.seats caller) tt;
+  marked = rw (begun.seats caller) refl;
+  counted = rw begun.records tt;
+}
+
+pub begins_underway : (job : Job) (test : Option (Crossing → Bool)) (sight : Sight) (runners : List Runner) → IsRunnable job → IsBegun job sight → AreNew runners (length job.callers) → Underway job.calls test sight runners
+begins_underway job test sight runners runnable begun new = record {
+  served = λ caller runner here. subst (IsServed (calls_of job.calls caller) sight caller) (sym (new.each caller runner here)) (first_served job sight caller begun);
+  counts = λ caller runner here. subst (λ (r : Runner). AreCounts r.crossings) (sym (new.each caller runner here)) (no_counts (new_runner caller).crossings);
+  sound = rw begun.records (record { holds = tt; apart = tt });
+  callers = new.size ∙ sym begun.callers;
+  most = begun.most;
+  small = λ caller. (let few = calls_few job.calls caller in omega (arith, few, runnable.small));
+  right = begun.right;
+}
+
+pub begins_balanced : (job : Job) (sight : Sight) → IsBegun job sight → IsBalanced sight
+begins_balanced job sight begun = let none = ap length begun.history in omega (arith, begun.begun, begun.open_calls, none)
+
+pub begins_after : (job : Job) (test : Option (Crossing → Bool)) (sight : Sight) (runners : List Runner) → IsRunnable job → IsBegun job sight → AreNew runners (length job.callers) → IsAfter job.calls test sight runners 0
+begins_after job test sight runners runnable begun new = record {
+  underway = begins_underway job test sight runners runnable begun new;
+  free = λ caller few. ap (λ (s : Seat). s.flight) (begun.seats caller);
+  lined = rw (begun.history, begun.begun) (refl, refl);
+  done = λ caller runner here. ap (λ (r : Runner). r.done) (new.each caller runner here);
+}
+
+pub named_below : (job : Job) (runners : List Runner) → IsRunnable job → AreNew runners (length job.callers) → AllByRecursion (λ (made : JobCall). made.caller < length runners) job.calls
+named_below job runners runnable new = subst (λ n. AllByRecursion (λ (made : JobCall). made.caller < n) job.calls) (sym new.size) runnable.named
+
+-- ---- at the end
+
+pub listed : (job : Job) (test : Option (Crossing → Bool)) (old new : Sight) (callers : ℕ) → IsBegun job old → job.order ≡ None → callers ≡ length job.callers → IsRunInOrder job.calls callers test new → new.config ≡ old.config → IsOrderly new
+    → IsDriven job test old new
+listed job test old new callers begun none same ran config right =
+    let start : new.config.start ≡ job.start = ap (λ (l : Limits). l.start) config ∙ begun.start in
+    record {
+      config = config;
+      own_calls = λ caller low. (let few : caller < callers = omega (arith, low, same) in ran.own_calls caller few);
+      moments = subst (λ n. HasEachMoment n new.history) start (each_moment new right ran.begun);
+      lined = subst (λ order. IsLinedUp order job.start new.history) (sym none) (subst (λ n. moments_in new.history ≡ range_with_len (n + 1) (length new.history)) start ran.moments);
+      sound = ran.sound;
+    }
+
+pub ordered : (job : Job) (test : Option (Crossing → Bool)) (old new : Sight) (callers : ℕ) (order : List ℕ) → IsBegun job old → job.order ≡ Some order → callers ≡ length job.callers → IsComplete job.calls callers test new → new.config ≡ old.config → IsOrderly new
+    → IsDriven job test old new
+ordered job test old new callers order begun some same done config right =
+    let start : new.config.start ≡ job.start = ap (λ (l : Limits). l.start) config ∙ begun.start in
+    record {
+      config = config;
+      own_calls = λ caller low. (let few : caller < callers = omega (arith, low, same) in done.own_calls caller few);
+      moments = subst (λ n. HasEachMoment n new.history) start (each_moment new right done.begun);
+      lined = subst (λ given. IsLinedUp given job.start new.history) (sym some) tt;
+      sound = done.sound;
+    }
+
+-- ---- the callers of a job
+
+take_within : (xs : List Runner) (n i : ℕ) (x : Runner) → slice_get (take n xs) i ≡ Some x → slice_get xs i ≡ Some x
+take_within [] n i x here = elim n as (λ m. slice_get (take m []) i ≡ Some x → slice_get [] i ≡ Some x) [ zero ↦ λ h. h | suc k ↦ λ h. h ] here
+take_within (first ∷ xs) zero i x here = absurd (omega (arith, slice_get_within [] i x here))
+take_within (first ∷ xs) (suc n) zero x here = here
+take_within (first ∷ xs) (suc n) (suc i) x here = take_within xs n i x here
+
+abbrev pub eight_runners : List Runner
+eight_runners = new_runner 0 ∷ new_runner 1 ∷ new_runner 2 ∷ new_runner 3 ∷ new_runner 4 ∷ new_runner 5 ∷ new_runner 6 ∷ new_runner 7 ∷ []
+
+one_new : (caller : ℕ) (runner : Runner) → slice_get eight_runners caller ≡ Some runner → runner ≡ new_runner caller
+one_new zero runner here = sym (same_Some (new_runner 0) runner here)
+one_new (suc zero) runner here = sym (same_Some (new_runner 1) runner here)
+one_new (suc (suc zero)) runner here = sym (same_Some (new_runner 2) runner here)
+one_new (suc (suc (suc zero))) runner here = sym (same_Some (new_runner 3) runner here)
+one_new (suc (suc (suc (suc zero)))) runner here = sym (same_Some (new_runner 4) runner here)
+one_new (suc (suc (suc (suc (suc zero))))) runner here = sym (same_Some (new_runner 5) runner here)
+one_new (suc (suc (suc (suc (suc (suc zero)))))) runner here = sym (same_Some (new_runner 6) runner here)
+one_new (suc (suc (suc (suc (suc (suc (suc zero))))))) runner here = sym (same_Some (new_runner 7) runner here)
+one_new (suc (suc (suc (suc (suc (suc (suc (suc n)))))))) runner here = absurd (omega (arith, slice_get_within eight_runners (suc (suc (suc (suc (suc (suc (suc (suc n)))))))) runner here))
+
+pub are_new : (count callers : ℕ) → count ≡ callers → callers ≤ 8 → AreNew (take count eight_runners) callers
+are_new count callers is few = record {
+  size = (let low : count ≤ 8 = omega (arith, is, few) in length-take-le count eight_runners low) ∙ is;
+  each = λ caller runner here. one_new caller runner (take_within eight_runners count caller runner here);
+}

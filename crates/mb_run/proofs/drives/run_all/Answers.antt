@@ -1,0 +1,21 @@
+use Rattle.std.proofs.Common.{◌≡◌, ◌∙◌, ap, refl, sym, length}
+use Rattle.mb_run.proofs.Beginning.{begins_after, begins_balanced, begins_underway, listed, named_below, ordered}
+use Rattle.mb_run.proofs.drives.run_all.Goals as goal
+
+pub run_in_order-requires-clause-begins : goal.run_in_order-requires-clause-begins
+run_in_order-requires-clause-begins g c = rw c.as_slice-calls.ensures (begins_after _ _ _ _ c.requires.runnable c.requires.begun c.requires.runners)
+
+pub run_in_order-requires-clause-callers : goal.run_in_order-requires-clause-callers
+run_in_order-requires-clause-callers g c = rw c.as_slice-calls.ensures (named_below _ _ c.requires.runnable c.requires.runners)
+
+pub returns-in-None-clause-driven : goal.returns-in-None-clause-driven
+returns-in-None-clause-driven g c = λ so. listed _ _ _ _ _ c.requires.begun c.in-None.is c.requires.runners.size (rw c.as_slice-calls.ensures at c.run_in_order.ensures.done so) (c.run_in_order.ensures.config so) c.run_in_order.ensures.right
+
+pub run_by_order-requires-clause-underway : goal.run_by_order-requires-clause-underway
+run_by_order-requires-clause-underway g c = rw c.as_slice-calls.ensures (begins_underway _ _ _ _ c.requires.runnable c.requires.begun c.requires.runners)
+
+pub run_by_order-requires-clause-named : goal.run_by_order-requires-clause-named
+run_by_order-requires-clause-named g c = rw c.as_slice-calls.ensures (named_below _ _ c.requires.runnable c.requires.runners)
+
+pub returns-in-Some-clause-driven : goal.returns-in-Some-clause-driven
+returns-in-Some-clause-driven g c = λ so. ordered _ _ _ _ _ _ c.requires.begun c.in-Some.is c.requires.runners.size (rw c.as_slice-calls.ensures at c.run_by_order.ensures.complete so) (c.run_by_order.ensures.config so) c.run_by_order.ensures.right

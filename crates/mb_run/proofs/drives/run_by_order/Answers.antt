@@ -1,0 +1,14 @@
+use Rattle.std.proofs.Common.{◌≡◌, ◌∙◌, refl, subst, length}
+use Rattle.mb_run.specs.Drives.{IsComplete}
+use Rattle.mb_run.proofs.Completing.{complete}
+use Rattle.mb_run.proofs.drives.run_by_order.Goals as goal
+
+pub returns-clause-complete : goal.returns-clause-complete
+returns-clause-complete g c = λ so.
+    let one = c.if-not-run_order.ensures.whole refl in
+    let two = rw c.run_order.ensures.test at c.run_out.ensures.whole so in
+    subst (λ n. IsComplete c.args.calls.now n (g.H.Hook.test c.args.hook.now) (g.C.EventCore.sight c.run_out.new.core)) (c.run_out.ensures.length ∙ c.run_order.ensures.length)
+    (complete _ _ _ _ two.underway (two.balanced (one.balanced c.requires.balanced)) (c.run_out.ensures.out so))
+
+pub returns-clause-config : goal.returns-clause-config
+returns-clause-config g c = λ so. (c.run_out.ensures.whole so).config ∙ (c.if-not-run_order.ensures.whole refl).config

@@ -1,0 +1,80 @@
+-- What a run of a job over a core has to begin with, and what it leaves.
+use Rattle.std.specs.Prelude.{ℕ, ◌+◌, ◌<◌, ◌≤◌, ◌≡◌, ◌≢◌, List, [], ◌∷◌, length, map, slice_get, Bool, false, Option, Some, None}
+use Rattle.std.specs.List.{AllByRecursion, range_with_len}
+use Rattle.mb_core_spec.specs.declared.stages.Stage.{Stage}
+use Rattle.mb_core_spec.specs.declared.stages.Stage.TheVariants as stage
+use Rattle.mb_edge.specs.declared.crossings.Crossing.{Crossing}
+use Rattle.mb_jobs.specs.declared.jobs.Job.{Job}
+use Rattle.mb_jobs.specs.declared.jobs.JobCall.{JobCall}
+use Rattle.mb_kinds.specs.declared.entries.Entry.{Entry}
+use Rattle.mb_run.specs.Served.{AreSound, calls_in, calls_of, moments_in}
+use Rattle.mb_run.specs.Sights.{AreApart, IsOrderly, Sight}
+use Rattle.mb_core_spec.specs.Copies.{no_pages}
+use Rattle.mb_run.specs.declared.runner.At.TheVariants as at
+use Rattle.mb_run.specs.declared.runner.Runner.{Runner}
+use Rattle.mb_run.specs.declared.drives.DriveEnd.{DriveEnd}
+use Rattle.mb_run.specs.declared.drives.DriveEnd.TheVariants as end
+
+-- each call of a job names one of its callers, of which there are at most eight
+pub record IsRunnable (job : Job) : Type 0 where
+  pub callers : length job.callers ≤ 8
+  pub named : AllByRecursion (λ (made : JobCall). made.caller < length job.callers) job.calls
+  pub small : length job.calls < 4294967290
+
+-- a core as it was begun for a job: nobody called yet
+pub record IsBegun (job : Job) (sight : Sight) : Type 0 where
+  pub history : sight.history ≡ []
+  pub records : sight.records ≡ []
+  pub begun : sight.begun ≡ 0
+  pub open_calls : sight.open_calls ≡ 0
+  pub seats : (caller : ℕ) → sight.seats caller ≡ record { begun = 0; flight = None }
+  pub callers : sight.config.callers ≡ length job.callers
+  pub start : sight.config.start ≡ job.start
+  pub most : (caller : ℕ) → length (calls_of job.calls caller) ≤ sight.config.most
+  pub right : IsOrderly sight
+
+-- every call of the job has its entry, and the fault records are sound
+pub record IsComplete (calls : List JobCall) (callers : ℕ) (test : Option (Crossing → Bool)) (sight : Sight) : Type 0 where
+  pub own_calls : (caller : ℕ) → caller < callers → calls_in sight.history caller ≡ calls_of calls caller
+  pub begun : sight.begun ≡ length sight.history
+  pub sound : AreSound test sight.records
+
+-- the moments of so many entries are the numbers after the start, each once
+pub record HasEachMoment (start : ℕ) (history : List Entry) : Type 0 where
+  pub above : AllByRecursion (λ (entry : Entry). start < entry.moment) history
+  pub below : AllByRecursion (λ (entry : Entry). entry.moment ≤ start + length history) history
+  pub apart : AreApart (moments_in history)
+
+-- in list order entry i has the moment start + i
+abbrev pub IsLinedUp : Option (List ℕ) → ℕ → List Entry → Type 0
+IsLinedUp None start history = moments_in history ≡ range_with_len (start + 1) (length history)
+IsLinedUp (Some order) start history = Unit {0}
+
+-- what a job leaves of a core that was begun for it
+pub record IsDriven (job : Job) (test : Option (Crossing → Bool)) (old new : Sight) : Type 0 where
+  pub config : new.config ≡ old.config
+  pub own_calls : (caller : ℕ) → caller < length job.callers → calls_in new.history caller ≡ calls_of job.calls caller
+  pub moments : HasEachMoment job.start new.history
+  pub lined : IsLinedUp job.order job.start new.history
+  pub sound : AreSound test new.records
+
+-- the end tells whether the volume failed
+abbrev pub Ends : Stage → DriveEnd → Type 0
+Ends now end.AllDone = now ≢ stage.Failed
+Ends now end.VolumeFailed = now ≡ stage.Failed
+Ends now end.NoMemory = Unit {0}
+
+-- a caller before its first call
+abbrev pub new_runner : ℕ → Runner
+new_runner caller = record {
+  crossings = record { caller = caller; ordinal = 1; counts = 0 ∷ 0 ∷ 0 ∷ 0 ∷ 0 ∷ 0 ∷ [] };
+  done = 0;
+  at = at.Outside;
+  answered = false;
+  asked = false;
+  pages = no_pages;
+}
+
+pub record AreNew (runners : List Runner) (callers : ℕ) : Type 0 where
+  pub size : length runners ≡ callers
+  pub each : (caller : ℕ) (runner : Runner) → slice_get runners caller ≡ Some runner → runner ≡ new_runner caller

@@ -1,0 +1,198 @@
+ghost use Rattle.std.specs.Prelude.{◌≡◌, ◌≢◌, ◌<◌, ◌≤◌, true, length};
+ghost use Rattle.std.specs.List.{AllByRecursion};
+ghost use Rattle.mb_jobs.specs.declared.jobs.JobCall.{JobCall};
+ghost use Rattle.mb_run.specs.Drives.{AreNew, Ends, IsBegun, IsComplete, IsDriven, IsRunnable};
+ghost use Rattle.mb_run.specs.Orders.{AreRunOut, IsReached, IsWhole};
+ghost use Rattle.mb_run.specs.Served.{IsBalanced, Underway};
+ghost use Rattle.mb_run.specs.Sights.{IsOrderly};
+ghost use Rattle.mb_run.specs.declared.drives.DriveEnd.TheVariants as end;
+
+use crate::event_core::EventCore;
+use crate::orders::run_order;
+use crate::runner::Runner;
+use crate::runs::{run_call, run_in_order};
+use mb_core_spec::Stage;
+use mb_edge::Hook;
+use mb_jobs::{Caller, Job, JobCall};
+use std::alloc::Global;
+
+/// How a run of a job ended.
+#[derive(Clone, Copy, Debug, PartialEq, Eq, Drop)]
+pub enum DriveEnd {
+    /// Each call of the job has its entry, and the volume has not failed.
+    AllDone,
+    /// Each call of the job has its entry, and the volume has failed.
+    VolumeFailed,
+    /// A call or a step met want of memory. Not every call has its entry.
+    NoMemory,
+}
+
+/// What a run of a job left.
+pub struct Driven<C: EventCore> {
+    pub core: C,
+    pub end: DriveEnd,
+}
+
+/// Runs a caller's next call to its end, where fewer than so many of its calls were answered. False is want of memory.
+fn run_up_to<C: EventCore, H: Hook>(
+    alloc: Global,
+    core: &mut C,
+    hook: &mut H,
+    runners: &mut [Runner],
+    calls: &[JobCall],
+    caller: u8,
+    count: u32,
+) -> bool
+    requires underway { Underway calls.now (H.test hook.old) (C.sight core.old) runners.old }
+    requires within { caller < length runners.old }
+    ensures whole { result ≡ true → IsWhole calls.now (H.test hook.old) (C.sight core.old) (C.sight core.new) runners.old runners.new }
+    ensures reached { result ≡ true → IsReached calls.now caller count runners.old runners.new }
+    ensures length { length runners.new ≡ length runners.old }
+    ensures test { H.test hook.new ≡ H.test hook.old }
+    ensures right { IsOrderly (C.sight core.new) }
+{
+    if runners[caller as usize].done >= count {
+        return true;
+    }
+    run_call(alloc, core, hook, runners, calls, caller)
+}
+
+/// Runs the calls that are not answered to their ends, in the order of their indices. False is want of memory.
+fn run_out<C: EventCore, H: Hook>(
+    alloc: Global,
+    core: &mut C,
+    hook: &mut H,
+    runners: &mut [Runner],
+    calls: &[JobCall],
+) -> bool
+    requires underway { Underway calls.now (H.test hook.old) (C.sight core.old) runners.old }
+    requires callers { AllByRecursion (λ (made : JobCall). made.caller < length runners.old) calls.now }
+    requires few { length runners.old ≤ 8 }
+    requires small { length calls.now < 4294967290 }
+    ensures whole { result ≡ true → IsWhole calls.now (H.test hook.old) (C.sight core.old) (C.sight core.new) runners.old runners.new }
+    ensures out { result ≡ true → AreRunOut calls.now runners.new (length calls.now) }
+    ensures length { length runners.new ≡ length runners.old }
+    ensures test { H.test hook.new ≡ H.test hook.old }
+    ensures right { IsOrderly (C.sight core.new) }
+{
+    let mut passed = [0u32; 8];
+    for made in calls {
+        let caller = made.caller as usize;
+        let count = passed[caller] + 1;
+        passed[caller] = count;
+        if !run_up_to(alloc, core, hook, runners, calls, made.caller, count) {
+            return false;
+        }
+    }
+    true
+}
+
+/// Runs a job by an order, and then what that left. False is want of memory.
+fn run_by_order<C: EventCore, H: Hook>(
+    alloc: Global,
+    core: &mut C,
+    hook: &mut H,
+    runners: &mut [Runner],
+    calls: &[JobCall],
+    callers: &[Caller],
+    order: &[u8],
+) -> bool
+    requires underway { Underway calls.now (H.test hook.old) (C.sight core.old) runners.old }
+    requires named { AllByRecursion (λ (made : JobCall). made.caller < length runners.old) calls.now }
+    requires callers { length callers.now ≡ length runners.old }
+    requires few { length runners.old ≤ 8 }
+    requires small { length calls.now < 4294967290 }
+    requires balanced { IsBalanced (C.sight core.old) }
+    ensures complete { result ≡ true → IsComplete calls.now (length runners.old) (H.test hook.old) (C.sight core.new) }
+    ensures config { result ≡ true → (C.sight core.new).config ≡ (C.sight core.old).config }
+    ensures right { IsOrderly (C.sight core.new) }
+{
+    if !run_order(alloc, core, hook, runners, calls, callers, order) {
+        return false;
+    }
+    run_out(alloc, core, hook, runners, calls)
+}
+
+/// Runs a job, by its order where it has one. False is want of memory.
+fn run_all<C: EventCore, H: Hook>(
+    alloc: Global,
+    core: &mut C,
+    hook: &mut H,
+    runners: &mut [Runner],
+    job: &Job,
+) -> bool
+    requires runnable { IsRunnable job.now }
+    requires begun { IsBegun job.now (C.sight core.old) }
+    requires runners { AreNew runners.old (length job.now.callers) }
+    ensures driven { result ≡ true → IsDriven job.now (H.test hook.old) (C.sight core.old) (C.sight core.new) }
+    ensures right { IsOrderly (C.sight core.new) }
+{
+    let calls = job.calls.as_slice();
+    match &job.order {
+        None => return run_in_order(alloc, core, hook, runners, calls),
+        Some(order) => {
+            return run_by_order(
+                alloc,
+                core,
+                hook,
+                runners,
+                calls,
+                job.callers.as_slice(),
+                order.as_slice(),
+            );
+        }
+    }
+}
+
+fn end_of(stage: Stage, done: bool) -> DriveEnd
+    ensures ends { Ends stage result }
+    ensures done { result ≢ end.NoMemory → done ≡ true }
+{
+    if !done {
+        return DriveEnd::NoMemory;
+    }
+    match stage {
+        Stage::Failed => DriveEnd::VolumeFailed,
+        _ => DriveEnd::AllDone,
+    }
+}
+
+fn drive_core<C: EventCore, H: Hook>(alloc: Global, core: &mut C, job: &Job, hook: &mut H) -> DriveEnd
+    requires runnable { IsRunnable job.now }
+    requires begun { IsBegun job.now (C.sight core.old) }
+    ensures driven { result ≢ end.NoMemory → IsDriven job.now (H.test hook.old) (C.sight core.old) (C.sight core.new) }
+    ensures ends { Ends (C.sight core.new).stage result }
+    ensures right { IsOrderly (C.sight core.new) }
+{
+    let mut all = [
+        Runner::new(alloc, 0),
+        Runner::new(alloc, 1),
+        Runner::new(alloc, 2),
+        Runner::new(alloc, 3),
+        Runner::new(alloc, 4),
+        Runner::new(alloc, 5),
+        Runner::new(alloc, 6),
+        Runner::new(alloc, 7),
+    ];
+    let count = job.callers.len();
+    let done = run_all(alloc, core, hook, &mut all[..count], job);
+    end_of(core.stage(), done)
+}
+
+/// Runs a job over a core that was begun for it: in list order, or by the job's order and then, in the order of their
+/// indices, the calls that are left.
+///
+/// At every end but `NoMemory` each caller's own entries are its calls of the job, in its order; the moments of `n`
+/// entries are `start + 1` to `start + n`, each once, and in list order one after another; and each fault record is at
+/// a crossing where the fault injector faults, no two at one whose `nth` is below 4294967295.
+pub fn drive<C: EventCore, H: Hook>(alloc: Global, core: C, job: &Job, hook: &mut H) -> Driven<C>
+    requires runnable { IsRunnable job.now }
+    requires begun { IsBegun job.now (C.sight core) }
+    ensures driven { result.end ≢ end.NoMemory → IsDriven job.now (H.test hook.old) (C.sight core) (C.sight result.core) }
+    ensures ends { Ends (C.sight result.core).stage result.end }
+    ensures right { IsOrderly (C.sight result.core) }
+{
+    let mut core = core;
+    let end = drive_core(alloc, &mut core, job, hook);
+    Driven { core, end }
+}
