@@ -1,10 +1,10 @@
 -- The free chain followed without a change: each address that is passed is a block of the chain.
-use Rattle.std.proofs.Common.{ℕ, suc, ◌≡◌, ◌⊎◌, inl, inr, ◌+◌, ◌-◌, ◌*◌, ◌<◌, ◌≤◌, true, false, cond, nat_eq, length, Option, Some, List, [], ◌∷◌, refl, sym, ap, subst, ◌∙◌, arith}
+use Rattle.std.proofs.Common.{ℕ, suc, ◌≡◌, inl, inr, ◌+◌, ◌-◌, ◌*◌, ◌<◌, ◌≤◌, true, false, cond, nat_eq, Option, Some, List, [], ◌∷◌, refl, sym, ap, subst, ◌∙◌, arith}
 use Rattle.std.specs.List.{Contains}
 use Rattle.std.proofs.lemmas.Bool.Decides.{nat_tests}
 use Rattle.mb_word.specs.Numbers.{word_at, long_at}
 use Rattle.mb_tree.specs.Blocks.{first_list, list_in, IsFreeChain}
-use Rattle.mb_tree.specs.Chain.{Listed, IsChain, IsNext, after_taking}
+use Rattle.mb_tree.specs.Chain.{Listed, IsChain, after_taking}
 use Rattle.mb_tree.specs.Views.{over, IsPart}
 use Rattle.mb_iface.specs.Changed.{ChangeList, changed}
 use Rattle.mb_iface.specs.Needs.{IsNeed}

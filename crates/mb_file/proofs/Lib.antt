@@ -14,3 +14,4 @@ pub mod PuttingBytes
 pub mod PuttingParts
 pub mod PuttingWhole
 pub mod Reading
+pub mod Reordered

@@ -1,3 +1,5 @@
+ghost use Rattle.std.specs.Prelude.{◌≤◌};
+ghost use Rattle.std.specs.List.Sorted.{IsPermutation};
 ghost use Rattle.mb_file.specs.Freeing.{LacksLists, PutsBack, PutsAllBack};
 
 use mb_alloc::{Hung, free_block};
@@ -26,29 +28,48 @@ fn put_back<V: View>(view: &V, changes: &mut Changes, block: u32) -> Hung
     free_block(view, changes, block)
 }
 
-/// The first block that the view lacks among block 1 and those of a list that get a full list of the
-/// chain, as they are put back one after another: each fiftieth, the first where the super-block's list
-/// is full.
+/// How many blocks are put back before one gets a full list of the chain, where the super-block's list
+/// has so many addresses: an empty one gets address 0 first.
+fn before_full(count: u16) -> usize
+    ensures { result ≤ 49 }
+{
+    50usize.saturating_sub(usize::from(count).max(1))
+}
+
+/// Brings the first blocks of a list to where one gets a full list of the chain, as they are put back:
+/// each fiftieth. The first ones are neighbours in most files, and are asked for in runs then.
+pub(crate) fn arrange<V: View>(view: &V, changes: &Changes, list: &mut Vec<u32>)
+    ensures { IsPermutation list.old.items list.new.items }
+{
+    let Some(first) = seen(view, changes, 1) else {
+        return;
+    };
+    let mut at = before_full(word_at(first, 6));
+    let mut next = 0;
+    while at < list.len() {
+        list.swap(next, at);
+        next += 1;
+        at += 50;
+    }
+}
+
+/// The first run of blocks that the view lacks among block 1 and those of a list that get a full list of
+/// the chain, as they are put back one after another.
 fn lacking_lists<V: View>(view: &V, changes: &Changes, list: &[u32]) -> Option<Need>
     ensures { LacksLists (V.shown view.now) list.now result }
 {
     let Some(first) = seen(view, changes, 1) else {
         return Some(Need::one(1));
     };
-    // an empty list gets address 0 first
-    let count = usize::from(word_at(first, 6)).max(1);
-    if count > 50 {
-        return None;
-    }
-    let mut at = 50 - count;
-    while at < list.len() {
-        let block = list[at];
+    let before = before_full(word_at(first, 6));
+    let full = (list.len() + (49 - before)) / 50;
+    for passed in 0..full {
+        let block = list[before + 50 * (full - 1 - passed)];
         if block > 0 && block < 262_144 {
             let Some(_found) = view.get(block) else {
-                return Some(Need::one(block));
+                return Some(Need::run(view, block, (full - passed).min(32) as u32));
             };
         }
-        at += 50;
     }
     None
 }

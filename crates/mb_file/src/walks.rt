@@ -1,4 +1,4 @@
-ghost use Rattle.mb_file.specs.Walking.{Collects, PushesUnder};
+ghost use Rattle.mb_file.specs.Walking.{Collects, LacksIndex, PushesUnder};
 
 use mb_iface::{Changes, Need, View, seen};
 use mb_layout::Dinode;
@@ -69,7 +69,36 @@ fn push_under<V: View>(
     Walked::Done
 }
 
-/// The blocks that an inode's thirteen addresses lead to, the last first.
+/// The first index block that the view lacks among those to which an address leads, so many levels down.
+fn lacking_index<V: View>(view: &V, changes: &Changes, address: u32, levels: u8) -> Option<Need>
+    ensures { LacksIndex (V.shown view.now) changes.now address levels result }
+{
+    if levels == 0 {
+        return None;
+    }
+    if address == 0 {
+        return None;
+    }
+    if address >= 262_144 {
+        return None;
+    }
+    let Some(index) = seen(view, changes, address) else {
+        return Some(Need::one(address));
+    };
+    if levels == 1 {
+        return None;
+    }
+    for passed in 0..128usize {
+        let child = long_at(index, 4 * (127 - passed));
+        if let Some(need) = lacking_index(view, changes, child, levels - 1) {
+            return Some(need);
+        }
+    }
+    None
+}
+
+/// The blocks that an inode's thirteen addresses lead to, the last first. Its index blocks are asked for
+/// before any block is listed.
 pub(crate) fn collect<V: View>(
     alloc: Global,
     view: &V,
@@ -78,6 +107,11 @@ pub(crate) fn collect<V: View>(
 ) -> Collected
     ensures { Collects (V.shown view.now) changes.now inode.now result }
 {
+    for place in 10..13u8 {
+        if let Some(need) = lacking_index(view, changes, inode.address(place), place - 9) {
+            return Collected::Need(need);
+        }
+    }
     let mut list = Vec::new(alloc);
     for passed in 0..13u8 {
         let place = 12 - passed;
