@@ -17,16 +17,13 @@ fn a_fresh_volume_is_made(rt: HostRuntime) -> Result<(), Fail> {
         b"made 100 blocks 16 inodes\n".as_slice()
     );
     assert_eq!(rt; end.image.len(), 51200);
-    assert_eq!(rt;
-        end.image[512..526],
-        [4, 0, 0, 0, 100, 0, 46, 0, 0, 0, 50, 0, 0, 0],
-        "s_isize, s_fsize, s_nfree and the first address of the free list"
+    assert!(rt;
+        end.image[512..].starts_with(b"\x04\0\0\0\x64\0\x2e\0\0\0\x32\0\0\0\x31\0"),
+        "s_isize, s_fsize, s_nfree and the first two addresses of the free list"
     );
-    assert_eq!(rt; end.image[526..528], [49, 0]);
-    assert_eq!(rt;
-        end.image[1088..1104],
-        [0xff, 0x41, 2, 0, 0, 0, 0, 0, 0, 0, 32, 0, 0, 4, 0, 0][..16],
-        "the inode of the root"
+    assert!(rt;
+        end.image[1088..].starts_with(b"\xff\x41\x02\0\0\0\0\0\0\0\x20\0\0\x04\0"),
+        "the inode of the root, as far as its first address"
     );
     Ok(())
 }
