@@ -5,4 +5,5 @@ pub mod Recovering
 pub mod Served
 pub mod Orders
 pub mod Drives
+pub mod Settling
 pub mod Runs

@@ -8,6 +8,7 @@ mod orders;
 mod progress;
 mod runner;
 mod runs;
+mod settles;
 mod steps;
 
 pub use answers::{Enter, Stepped};
@@ -17,4 +18,5 @@ pub use orders::run_order;
 pub use progress::{Next, Turn, Went};
 pub use runner::{At, Runner};
 pub use runs::{find_call, recover, run_call, run_holder, run_in_order, turn};
+pub use settles::{SettleEnd, Settled, settle};
 pub use steps::step;
