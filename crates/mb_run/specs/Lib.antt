@@ -1,5 +1,6 @@
 pub mod Pages
 pub mod Sights
+pub mod CoreSight
 pub mod Events
 pub mod Recovering
 pub mod Served
@@ -7,3 +8,4 @@ pub mod Orders
 pub mod Drives
 pub mod Settling
 pub mod Runs
+pub mod Examples
