@@ -21,3 +21,4 @@ pub mod Waiting
 pub mod InOrder
 pub mod Completing
 pub mod Beginning
+pub mod Ending

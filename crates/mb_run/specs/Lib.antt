@@ -1,8 +1,11 @@
 pub mod Pages
 pub mod Sights
+pub mod CoreSight
 pub mod Events
 pub mod Recovering
 pub mod Served
 pub mod Orders
 pub mod Drives
+pub mod Settling
 pub mod Runs
+pub mod Examples

@@ -1,11 +1,11 @@
 -- What the steps of an order make of the callers of a job.
-use Rattle.std.specs.Prelude.{ℕ, ◌+◌, ◌<◌, ◌≤◌, ◌≡◌, ◌⊎◌, List, Bool, true, false, Option, Some, None, length, slice_get, slice_index, take}
+use Rattle.std.specs.Prelude.{ℕ, ◌+◌, ◌<◌, ◌≤◌, ◌≡◌, ◌≢◌, ◌⊎◌, List, Bool, true, false, Option, Some, None, length, slice_get, slice_index, take}
 use Rattle.mb_edge.specs.declared.crossings.Crossing.{Crossing}
 use Rattle.mb_core_spec.specs.declared.stages.Stage.TheVariants as stage
 use Rattle.mb_jobs.specs.declared.jobs.Caller.{Caller}
 use Rattle.mb_jobs.specs.declared.jobs.JobCall.{JobCall}
 use Rattle.mb_kinds.specs.declared.faults.Ticket.{Ticket}
-use Rattle.mb_run.specs.Events.{Counts}
+use Rattle.mb_run.specs.Events.{Counts, sealed}
 use Rattle.mb_run.specs.Pages.{HasTablesFor}
 use Rattle.mb_run.specs.Served.{IsBalanced, Nears, Underway, calls_of}
 use Rattle.mb_run.specs.Sights.{Sight}
@@ -100,3 +100,7 @@ AreRunOut calls runners index = (caller : ℕ) → caller < length runners → l
 -- how many calls each caller has among them
 abbrev pub AreCounted : List JobCall → List ℕ → ℕ → Type 0
 AreCounted calls passed index = (caller : ℕ) → caller < 8 → slice_index passed caller ≡ length (calls_of (take index calls) caller)
+
+-- a checkpoint was taken, or the volume does not run
+abbrev pub IsSealedNow : Sight → Sight → Type 0
+IsSealedNow old new = ((old.stage ≡ stage.Running) × (new ≡ sealed old new)) ⊎ ((old.stage ≢ stage.Running) × (new ≡ old))

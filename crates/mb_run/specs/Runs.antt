@@ -1,6 +1,7 @@
 -- What a run of a job over a core was: the clauses of the headline, over the readers of a core and the job alone.
 use Rattle.std.specs.Prelude.{ℕ, ◌+◌, ◌-◌, ◌<◌, ◌≤◌, ◌≡◌, ◌≢◌, ◌⊎◌, List, [], ◌∷◌, ◌++◌, length, map, filter, nat_eq, nat_lt, nat_le, ◌&&◌, ◌||◌, not, slice_get, Bool, true, false, cond, Option, Some, None, IfSome, count_by, option_and_then}
 use Rattle.std.specs.List.{AllByRecursion, list_any, range_with_len}
+use Rattle.mb_core_spec.specs.Faults.{IsTwice}
 use Rattle.mb_kinds.specs.declared.entries.Entry.{Entry}
 use Rattle.mb_kinds.specs.declared.faults.FaultRecord.{FaultRecord}
 use Rattle.mb_kinds.specs.declared.faults.Kind.{Kind}
@@ -15,12 +16,12 @@ use Rattle.mb_jobs.specs.declared.jobs.JobCall.{JobCall}
 use Rattle.mb_core_spec.specs.declared.steps.Step.{Step}
 use Rattle.mb_core_spec.specs.declared.steps.Step.TheVariants as step
 
--- ---- [own calls]
+-- ---- each caller's calls
 
 abbrev pub HasOwnCalls : List JobCall → List Entry → Type 0
 HasOwnCalls calls history = (caller : ℕ) → calls_in history caller ≡ calls_of calls caller
 
--- ---- [moments]
+-- ---- moments
 
 abbrev pub moments : List Entry → List ℕ
 moments history = map (λ (entry : Entry). entry.moment) history
@@ -71,30 +72,23 @@ rises _ _ = true
 abbrev pub pair_rises : List ℕ → List Entry → (ℕ → ℕ) → ℕ → ℕ → Bool
 pair_rises order history letter one other = cond (nat_lt (first_at order (letter one)) (first_at order (letter other))) (rises (first_moment history one) (first_moment history other)) true
 
--- ---- [records]
+-- ---- fault records
 
 abbrev pub AreDistinct : List FaultRecord → Type 0
 AreDistinct [] = Unit {0}
 AreDistinct (fault ∷ later) = AllByRecursion (λ (other : FaultRecord). fault ≢ other) later × AreDistinct later
 
-pub record IsOwnFault (records : List FaultRecord) (caller ordinal number : ℕ) : Type 0 where
-  pub from_one : 1 ≤ number
-  pub fault : FaultRecord
-  pub here : slice_get records (number - 1) ≡ Some fault
-  pub own_caller : fault.caller ≡ caller
-  pub own_ordinal : fault.ordinal ≡ ordinal
-  pub before_leaving : (fault.kind ≡ Enter) ⊎ (fault.kind ≡ Gather) ⊎ (fault.kind ≡ Finish)
-
-abbrev pub IsTwice : List FaultRecord → Entry → Reply → Type 0
-IsTwice records entry (reply.Restart first second) = (first < second) × IsOwnFault records entry.caller entry.ordinal first × IsOwnFault records entry.caller entry.ordinal second
-IsTwice records entry _ = Unit {0}
+-- an entry that is given up for two faults names two of its own call
+abbrev pub NamesTwo : List FaultRecord → Entry → Reply → Type 0
+NamesTwo records entry (reply.Restart first second) = IsTwice records entry.caller entry.ordinal first second
+NamesTwo records entry _ = Unit {0}
 
 pub record HasRecords (plan : List Rule) (history : List Entry) (records : List FaultRecord) : Type 0 where
   pub planned : AllByRecursion (λ (fault : FaultRecord). fires plan (crossing_of fault) ≡ true) records
   pub distinct : AreDistinct records
-  pub twice : AllByRecursion (λ (entry : Entry). IsTwice records entry entry.reply) history
+  pub twice : AllByRecursion (λ (entry : Entry). NamesTwo records entry entry.reply) history
 
--- ---- [faults taken], of list order
+-- ---- in list order: faults that are planned are taken
 
 abbrev pub is_plain : Reply → Bool
 is_plain (reply.Restart first second) = false
@@ -143,7 +137,7 @@ pub record HasTakenFaults (plan : List Rule) (history : List Entry) (records : L
   pub taken : AllByRecursion (λ (entry : Entry). is_plain entry.reply ≡ true → TakesFaults plan records entry) history
   pub near : AreNear 0 records
 
--- ---- [device and failure]
+-- ---- a disk that failed, a volume that failed
 
 abbrev pub HasFailed : ℕ → List FaultRecord → Reply → Type 0
 HasFailed limit records (reply.Failed faults) = (faults ≡ limit + 1) × (length records ≡ limit + 1)
@@ -155,7 +149,7 @@ devices history = count_by (λ (entry : Entry). cond (is_plain entry.reply) fals
   is_device reply.Device = true
   is_device _ = false
 
--- ---- the steps `Sealed` of a trace
+-- ---- checkpoints in a trace
 
 -- what a logged call does to the operation log, and whether a checkpoint comes after it
 pub record Mark : Type 0 where
@@ -190,7 +184,7 @@ equals_signs order = count_by (λ character. nat_eq character 61) order
 abbrev pub IsSealedAsAsked : ℕ → List Mark → List ℕ → List Step → Type 0
 IsSealedAsAsked threshold marks order trail = IfSome (sealings threshold (Some (record { marks = marks; ops = 0; due = false; others = 0 })) trail) (λ end. (end.due ≡ false) × (end.others ≤ equals_signs order))
 
--- ---- [Fault-free promise], first clause
+-- ---- an order without faults: whose calls enter first
 
 -- how far each letter has come: 0, 1 or 2 small letters, or a capital (3)
 abbrev pub used : List ℕ → ℕ → ℕ

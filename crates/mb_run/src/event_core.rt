@@ -1,6 +1,9 @@
 ghost use Rattle.std.specs.Prelude.{◌≡◌, ◌<◌, ◌≤◌, ℕ, Bool, Some, false, true, IfSome, IsOk, OnErr, OnOk};
 ghost use Rattle.mb_core_spec.specs.declared.stages.Stage.TheVariants as stage;
 ghost use Rattle.mb_core_state.specs.declared.answers.Finished.TheVariants as finished;
+ghost use Rattle.mb_cache.specs.declared.answers.Flushed.TheVariants as flushed;
+ghost use Rattle.mb_edge.specs.Causes.{Rose};
+ghost use Rattle.mb_run.specs.declared.answers.Stepped.TheVariants as stepped;
 ghost use Rattle.mb_edge.specs.declared.crossings.Crossings.{Crossings};
 ghost use Rattle.mb_run.specs.Events.{Enters, FaultsWith, Finishes, FlushesWith, Gathers, IsAsked, IsReadyAt, LeavesWith, Quits, sealed};
 ghost use Rattle.mb_run.specs.Pages.{HasTablesFor, Performs, has};
@@ -20,11 +23,13 @@ use mb_kinds::{Call, Kind, Ticket};
 use std::alloc::Global;
 
 /// A core as its driver calls it: each call is one event. `sight` is what a driver sees of it, and `may_seal` whether a
-/// checkpoint can be taken without memory. Every event keeps a sight in order (`IsOrderly`).
+/// checkpoint can be taken without memory, and `faults` the disk's count of faults. Every event keeps a sight in order (`IsOrderly`).
 pub trait EventCore {
     ghost sight: { Self → Sight };
 
     ghost may_seal: { Self → Bool };
+
+    ghost faults: { Self → ℕ };
 
     /// Where the volume stands.
     fn stage(&self) -> Stage
@@ -105,6 +110,8 @@ pub trait EventCore {
         ensures on { GoOn by.old by.new }
         ensures test { H.test hook.new ≡ H.test hook.old }
         ensures steps { Steps (H.test hook.old) by.old by.new (sight self.old) (sight self.new) result }
+        ensures device { result ≡ stepped.Device → Rose (faults self.old) (faults self.new) }
+        ensures later { faults self.old ≤ faults self.new }
         ensures right { IsOrderly (sight self.new) };
 
     /// Ends a call in flight that has no entry, and gives it none.
@@ -121,11 +128,14 @@ pub trait EventCore {
         ensures ok { OnOk result (sight self.new ≡ sealed (sight self.old) (sight self.new)) }
         ensures err { OnErr result (sight self.new ≡ sight self.old) }
         ensures sure { may_seal self.old ≡ true → IsOk result }
+        ensures later { faults self.old ≤ faults self.new }
         ensures right { IsOrderly (sight self.new) };
 
     /// Writes one checkpointed page back.
     fn flush_one(&mut self) -> Flushed
         requires right { IsOrderly (sight self.old) }
         ensures flushes { FlushesWith (sight self.old) (sight self.new) result }
+        ensures device { result ≡ flushed.Device → Rose (faults self.old) (faults self.new) }
+        ensures later { faults self.old ≤ faults self.new }
         ensures right { IsOrderly (sight self.new) };
 }

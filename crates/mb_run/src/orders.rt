@@ -1,5 +1,5 @@
 ghost use Rattle.std.specs.Prelude.{◌≡◌, ◌<◌, ◌≤◌, IfSome, true, length};
-ghost use Rattle.mb_run.specs.Orders.{Ahead, HasLetter, IsOpenAt, IsQuiet, IsWhole, MayLook, Moved};
+ghost use Rattle.mb_run.specs.Orders.{Ahead, HasLetter, IsOpenAt, IsQuiet, IsSealedNow, IsWhole, MayLook, Moved};
 ghost use Rattle.mb_run.specs.Served.{MayStep, Underway};
 ghost use Rattle.mb_run.specs.Sights.{IsOrderly, recovers};
 
@@ -206,17 +206,19 @@ fn recover_once<C: EventCore, H: Hook>(
 }
 
 /// Takes a checkpoint where the volume runs. False is want of memory.
-fn seal_now<C: EventCore>(core: &mut C) -> bool
+pub(crate) fn seal_now<C: EventCore>(core: &mut C) -> bool
     requires right { IsOrderly (C.sight core.old) }
     ensures quiet { IsQuiet (C.sight core.old) (C.sight core.new) }
+    ensures sealed { result ≡ true → IsSealedNow (C.sight core.old) (C.sight core.new) }
+    ensures later { C.faults core.old ≤ C.faults core.new }
     ensures right { IsOrderly (C.sight core.new) }
 {
-    if core.stage() != Stage::Running {
-        return true;
-    }
-    match core.seal() {
-        Ok(()) => return true,
-        Err(_) => return false,
+    match core.stage() {
+        Stage::Running => match core.seal() {
+            Ok(()) => return true,
+            Err(_) => return false,
+        },
+        _ => return true,
     }
 }
 

@@ -1,0 +1,86 @@
+-- The end of a run.
+use Rattle.std.proofs.Common.{◌≡◌, ◌≢◌, ◌⊎◌, ℕ, ◌<◌, ◌≤◌, Bool, true, false, inl, inr, refl, ap, sym, subst, ◌∙◌, arith, Option, None, Some, length}
+use Rattle.mb_core_spec.specs.declared.stages.Stage.{Stage}
+use Rattle.mb_core_spec.specs.declared.stages.Stage.TheVariants as stage
+use Rattle.mb_edge.specs.Causes.{Rose}
+use Rattle.mb_edge.specs.declared.crossings.Crossing.{Crossing}
+use Rattle.mb_edge.specs.declared.crossings.Crossings.{Crossings}
+use Rattle.mb_run.specs.Events.{FlushesWith, sealed}
+use Rattle.mb_run.specs.Orders.{IsQuiet, IsSealedNow}
+use Rattle.mb_run.specs.Recovering.{GoOn, Steps, StrikesBy}
+use Rattle.mb_run.specs.Settling.{IsFlushed, IsSettled, Keeps}
+use Rattle.mb_run.specs.Sights.{IsOrderly, Sight, recovers}
+use Rattle.mb_run.specs.declared.answers.Stepped.{Stepped}
+use Rattle.mb_run.specs.declared.settles.SettleEnd.{SettleEnd}
+use Rattle.mb_run.specs.declared.settles.SettleEnd.TheVariants as end
+use Rattle.mb_cache.specs.declared.answers.Flushed.TheVariants as flushed
+use Rattle.mb_run.proofs.Quiet.{quiet_alone}
+
+quiet_keeps : (old new : Sight) → IsQuiet old new → Keeps old new
+quiet_keeps old new quiet = record { history = quiet.counts.history; records = quiet.records; config = quiet.config }
+
+pub alone_keeps : (test : Option (Crossing → Bool)) (old new : Sight) (by : Option Crossings) (answer : Stepped) → GoOn None by → Steps test None by old new answer → Keeps old new
+alone_keeps test old new by answer on steps = quiet_keeps old new (quiet_alone test old new by answer on steps)
+
+pub never_struck : (test : Option (Crossing → Bool)) (by : Option Crossings) (old new : Sight) → StrikesBy test None by old new → ⊥
+never_struck test None old new strikes = strikes
+never_struck test (Some now) old new strikes = strikes
+
+pub keeps_same : (s : Sight) → Keeps s s
+keeps_same s = record { history = refl; records = refl; config = refl }
+
+pub keeps_then : (a b d : Sight) → Keeps a b → Keeps b d → Keeps a d
+keeps_then a b d one two = record { history = two.history ∙ one.history; records = two.records ∙ one.records; config = two.config ∙ one.config }
+
+pub rose_later : (a b d : ℕ) → a ≤ b → Rose b d → Rose a d
+rose_later a b d less rose = omega (arith, less, rose)
+
+-- one page more
+pub flushed_one : (old mid new : Sight) → mid ≡ record old { sealed = mid.sealed } → FlushesWith mid new flushed.One → new ≡ record old { sealed = new.sealed }
+flushed_one old mid new so_far flushes = flushes.1 ∙ ap (λ (s : Sight). record s { sealed = new.sealed }) so_far
+
+pub flushed_end : (old mid new : Sight) → mid ≡ record old { sealed = mid.sealed } → new ≡ mid → new ≡ record old { sealed = new.sealed }
+flushed_end old mid new so_far same = same ∙ so_far ∙ ap (λ n. record old { sealed = n }) (ap (λ (s : Sight). s.sealed) (sym same))
+
+sealed_keeps : (old new : Sight) → IsSealedNow old new → Keeps old new
+sealed_keeps old new is = elim is [
+  | inl taken ↦ subst (Keeps old) (sym taken.1) (record { history = refl; records = refl; config = refl })
+  | inr none ↦ subst (Keeps old) (sym none.1) (keeps_same old)
+]
+
+pub flushed_keeps : (old new : Sight) (came : SettleEnd) → IsFlushed old new came → Keeps old new
+flushed_keeps old new came is = subst (Keeps old) (sym is.rest) (record { history = refl; records = refl; config = refl })
+
+pub quiet_kept : (old new : Sight) → IsQuiet old new → Keeps old new
+quiet_kept old new quiet = quiet_keeps old new quiet
+
+no_both : true ≡ false → ⊥
+no_both same = cc
+
+stopped_by : (now : Stage) → recovers now ≡ false → now ≢ stage.Running → now ≡ stage.Failed
+stopped_by stage.Running over stopped = absurd (stopped refl)
+stopped_by stage.Struck over stopped = absurd (no_both over)
+stopped_by stage.Again over stopped = absurd (no_both over)
+stopped_by stage.Dropped over stopped = absurd (no_both over)
+stopped_by stage.Remounted over stopped = absurd (no_both over)
+stopped_by (stage.Restored done) over stopped = absurd (no_both over)
+stopped_by stage.Failed over stopped = refl
+
+pub settled : (first a b d : Sight) (came : SettleEnd) → Keeps first a → recovers a.stage ≡ false → IsOrderly a → IsSealedNow a b → IsFlushed b d came → came ≡ end.Clean → IsSettled first d
+settled first a b d came kept over right seal flush clean = record {
+  keeps = keeps_then first b d (keeps_then first a b kept (sealed_keeps a b seal)) (flushed_keeps b d came flush);
+  over = ap (λ (s : Sight). recovers s.stage) flush.rest ∙ elim seal [
+    | inl taken ↦ ap (λ (s : Sight). recovers s.stage) taken.1 ∙ over
+    | inr none ↦ ap (λ (s : Sight). recovers s.stage) none.1 ∙ over
+  ];
+  current = ap (λ (s : Sight). s.current) flush.rest ∙ elim seal [
+    | inl taken ↦ ap (λ (s : Sight). s.current) taken.1
+    | inr none ↦ ap (λ (s : Sight). s.current) none.1 ∙ right.dropped (stopped_by a.stage over none.0)
+  ];
+  sealed = flush.all clean;
+  sealed_at = λ runs. elim seal [
+    | inl taken ↦ (ap (λ (s : Sight). s.sealed_at) flush.rest ∙ ap (λ (s : Sight). s.sealed_at) taken.1
+        ∙ ap length (sym (ap (λ (s : Sight). s.history) flush.rest ∙ ap (λ (s : Sight). s.history) taken.1)))
+    | inr none ↦ absurd (none.0 (sym (ap (λ (s : Sight). s.stage) flush.rest ∙ ap (λ (s : Sight). s.stage) none.1) ∙ runs))
+  ];
+}

@@ -1,0 +1,5 @@
+use Rattle.std.proofs.Common.{arith, refl}
+use Rattle.mb_run.proofs.examples.worked_entering.Goals as goal
+
+pub returns : goal.returns
+returns c = ((refl, refl, (refl, refl, tt)), (refl, refl, (refl, refl, tt)))

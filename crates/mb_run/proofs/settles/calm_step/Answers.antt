@@ -1,0 +1,36 @@
+use Rattle.std.proofs.Common.{ap, Some}
+use Rattle.mb_edge.specs.Hooks.{nowhere}
+use Rattle.mb_run.specs.Sights.{recovers}
+use Rattle.mb_run.specs.declared.answers.Stepped.TheVariants as stepped
+use Rattle.mb_run.proofs.Ending.{alone_keeps, never_struck}
+use Rattle.mb_run.proofs.settles.calm_step.Goals as goal
+
+pub returns-in-Idle-clause-keeps : goal.returns-in-Idle-clause-keeps
+returns-in-Idle-clause-keeps g c = alone_keeps (Some nowhere) _ _ _ stepped.Idle c.recover_step.ensures.on c.in-Idle.ensures.steps
+
+pub returns-in-Failed-clause-keeps : goal.returns-in-Failed-clause-keeps
+returns-in-Failed-clause-keeps g c = alone_keeps (Some nowhere) _ _ _ (stepped.Failed c.in-Failed.faults) c.recover_step.ensures.on c.in-Failed.ensures.steps
+
+pub returns-in-Resumed-clause-keeps : goal.returns-in-Resumed-clause-keeps
+returns-in-Resumed-clause-keeps g c = alone_keeps (Some nowhere) _ _ _ stepped.Resumed c.recover_step.ensures.on c.in-Resumed.ensures.steps
+
+pub returns-in-Device-clause-keeps : goal.returns-in-Device-clause-keeps
+returns-in-Device-clause-keeps g c = alone_keeps (Some nowhere) _ _ _ stepped.Device c.recover_step.ensures.on c.in-Device.ensures.steps
+
+pub returns-in-NoMemory-clause-keeps : goal.returns-in-NoMemory-clause-keeps
+returns-in-NoMemory-clause-keeps g c = alone_keeps (Some nowhere) _ _ _ stepped.NoMemory c.recover_step.ensures.on c.in-NoMemory.ensures.steps
+
+pub returns-in-Unwound-clause-keeps : goal.returns-in-Unwound-clause-keeps
+returns-in-Unwound-clause-keeps g c = alone_keeps (Some nowhere) _ _ _ (stepped.Unwound c.in-Unwound.field-0) c.recover_step.ensures.on c.in-Unwound.ensures.steps
+
+pub returns-in-Dropped-clause-keeps : goal.returns-in-Dropped-clause-keeps
+returns-in-Dropped-clause-keeps g c = alone_keeps (Some nowhere) _ _ _ stepped.Dropped c.recover_step.ensures.on c.in-Dropped.ensures.steps
+
+pub returns-in-Remounted-clause-keeps : goal.returns-in-Remounted-clause-keeps
+returns-in-Remounted-clause-keeps g c = alone_keeps (Some nowhere) _ _ _ stepped.Remounted c.recover_step.ensures.on c.in-Remounted.ensures.steps
+
+pub returns-in-Reopened-clause-keeps : goal.returns-in-Reopened-clause-keeps
+returns-in-Reopened-clause-keeps g c = alone_keeps (Some nowhere) _ _ _ stepped.Reopened c.recover_step.ensures.on c.in-Reopened.ensures.steps
+
+pub returns-in-Replayed-clause-keeps : goal.returns-in-Replayed-clause-keeps
+returns-in-Replayed-clause-keeps g c = alone_keeps (Some nowhere) _ _ _ (stepped.Replayed c.in-Replayed.field-0) c.recover_step.ensures.on c.in-Replayed.ensures.steps

@@ -1,0 +1,13 @@
+use Rattle.std.proofs.Common.{◌≡◌, ◌≤◌}
+use Rattle.mb_run.specs.Sights.{IsOrderly}
+use Rattle.mb_run.proofs.settles.flush_all.Given as goal
+
+abbrev pub invariant-pages : goal.invariant-pages
+invariant-pages g l = record {
+  rest : g.C.EventCore.sight l.core ≡ record (g.C.EventCore.sight l.fn.core) { sealed = (g.C.EventCore.sight l.core).sealed };
+  later : g.C.EventCore.faults l.fn.core ≤ g.C.EventCore.faults l.core;
+  right : IsOrderly (g.C.EventCore.sight l.core);
+}
+
+abbrev pub decreases-pages : goal.decreases-pages
+decreases-pages g l = (g.C.EventCore.sight l.core).sealed

@@ -1,0 +1,14 @@
+use Rattle.std.proofs.Common.{◌≤◌}
+use Rattle.mb_run.specs.Settling.{Keeps}
+use Rattle.mb_run.specs.Sights.{IsOrderly}
+use Rattle.mb_run.proofs.settles.recover_calmly.Given as goal
+
+abbrev pub invariant-steps : goal.invariant-steps
+invariant-steps g l = record {
+  keeps : Keeps (g.C.EventCore.sight l.fn.core) (g.C.EventCore.sight l.core);
+  later : g.C.EventCore.faults l.fn.core ≤ g.C.EventCore.faults l.core;
+  right : IsOrderly (g.C.EventCore.sight l.core);
+}
+
+abbrev pub decreases-steps : goal.decreases-steps
+decreases-steps g l = (g.C.EventCore.sight l.core).left

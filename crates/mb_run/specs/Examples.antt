@@ -1,0 +1,85 @@
+-- Worked examples: the definitions of a run, evaluated.
+use Rattle.std.specs.Prelude.{List, [], ◌∷◌, ℕ, ◌+◌, ◌≡◌, Bool, true, false, Some, None}
+use Rattle.mb_core_spec.specs.declared.steps.Step.{Step}
+use Rattle.mb_core_spec.specs.declared.steps.Step.TheVariants as step
+use Rattle.mb_jobs.specs.declared.jobs.JobCall.{JobCall}
+use Rattle.mb_kinds.specs.declared.calls.Call.TheVariants.{Sync, Exit}
+use Rattle.mb_kinds.specs.declared.entries.Entry.{Entry}
+use Rattle.mb_kinds.specs.declared.faults.FaultRecord.{FaultRecord}
+use Rattle.mb_kinds.specs.declared.faults.Kind.TheVariants.{Finish, Gather}
+use Rattle.mb_kinds.specs.declared.faults.Ticket.{Ticket}
+use Rattle.mb_kinds.specs.declared.replies.Reply.TheVariants as reply
+use Rattle.mb_run.specs.Runs.{AreNear, EntersFirst, IsSealedAsAsked, Mark, begun_from, calm_prefix, is_near, is_struck_first, pair_rises, sealings}
+
+-- callers a and b
+abbrev pub letters : List ℕ
+letters = 97 ∷ 98 ∷ []
+
+abbrev pub letter : ℕ → ℕ
+letter caller = 97 + caller
+
+abbrev pub entry : ℕ → ℕ → ℕ → Entry
+entry caller ordinal moment = record { caller = caller; ordinal = ordinal; call = Sync; pick = None; moment = moment; reply = reply.Num 0 }
+
+abbrev pub ticket : ℕ → ℕ → Ticket
+ticket caller moment = record { caller = caller; ordinal = 1; incarnation = 0; moment = moment }
+
+abbrev pub both : List JobCall
+both = record { caller = 0; text = []; call = Sync } ∷ record { caller = 1; text = []; call = Sync } ∷ record { caller = 0; text = []; call = Exit } ∷ record { caller = 1; text = []; call = Exit } ∷ []
+
+-- the order `bbaa`: b begins first, and a's entry stands first
+abbrev pub bbaa : List ℕ
+bbaa = 98 ∷ 98 ∷ 97 ∷ 97 ∷ []
+
+-- the order `AB`
+abbrev pub capitals : List ℕ
+capitals = 65 ∷ 66 ∷ []
+
+-- the order `A Bbba A B`
+abbrev pub floored : List ℕ
+floored = 65 ∷ 32 ∷ 66 ∷ 98 ∷ 98 ∷ 97 ∷ 32 ∷ 65 ∷ 32 ∷ 66 ∷ []
+
+-- under `bbaa` b's first moment is the lower one, whoever's entry stands first; with the moments changed the test is false
+abbrev pub WorkedMoments : Type 0
+WorkedMoments =
+    (pair_rises bbaa (entry 0 1 2 ∷ entry 1 1 1 ∷ entry 0 2 3 ∷ entry 1 2 4 ∷ []) letter 1 0 ≡ true)
+    × (pair_rises bbaa (entry 0 1 1 ∷ entry 1 1 2 ∷ []) letter 1 0 ≡ false)
+
+-- how far an order tells who enters, and who does: b before a under `bbaa`, a before b under `AB`, and a small letter after its
+-- capital ends it
+abbrev pub WorkedOrders : Type 0
+WorkedOrders =
+    (calm_prefix letters bbaa ≡ bbaa) × (begun_from both letters [] bbaa ≡ 1 ∷ 0 ∷ [])
+    × (calm_prefix letters capitals ≡ capitals) × (begun_from both letters [] capitals ≡ 0 ∷ 1 ∷ [])
+    × (calm_prefix letters floored ≡ 65 ∷ 32 ∷ 66 ∷ [])
+
+-- traces that begin so
+abbrev pub WorkedEntering : Type 0
+WorkedEntering =
+    EntersFirst both letters bbaa (step.Entered (ticket 1 1) ∷ step.Entered (ticket 0 2) ∷ step.Struck 1 ∷ [])
+    × EntersFirst both letters capitals (step.Entered (ticket 0 1) ∷ step.Sealed 0 ∷ step.Entered (ticket 1 2) ∷ step.Logged (ticket 0 1) ∷ [])
+
+-- a call whose gather is struck at its first and its second crossing
+abbrev pub struck : List FaultRecord
+struck = record { caller = 0; ordinal = 2; kind = Gather; nth = 1 } ∷ record { caller = 0; ordinal = 2; kind = Gather; nth = 2 } ∷ []
+
+-- it was struck at the first; a finish struck at its third crossing is no first record
+abbrev pub WorkedFaults : Type 0
+WorkedFaults = AreNear 0 struck × (is_struck_first struck 0 2 Gather ≡ true) × (is_near 0 Finish 3 ≡ false)
+
+abbrev pub grows : Mark
+grows = record { grows = true; syncs = false }
+
+abbrev pub reads : Mark
+reads = record { grows = false; syncs = false }
+
+abbrev pub syncs : Mark
+syncs = record { grows = false; syncs = true }
+
+-- with a threshold of 1: a checkpoint after an operation and after sync(2), none after a call without an operation; one that
+-- is left out is told
+abbrev pub WorkedCheckpoints : Type 0
+WorkedCheckpoints =
+    IsSealedAsAsked 1 (grows ∷ syncs ∷ []) [] (step.Logged (ticket 0 1) ∷ step.Sealed 1 ∷ step.Left (ticket 0 1) ∷ step.Logged (ticket 0 2) ∷ step.Sealed 2 ∷ [])
+    × IsSealedAsAsked 2 (grows ∷ reads ∷ []) [] (step.Logged (ticket 0 1) ∷ step.Left (ticket 0 1) ∷ step.Logged (ticket 0 2) ∷ [])
+    × (sealings 1 (Some (record { marks = grows ∷ []; ops = 0; due = false; others = 0 })) (step.Logged (ticket 0 1) ∷ step.Left (ticket 0 1) ∷ []) ≡ None)

@@ -1,0 +1,31 @@
+-- What the end of a run leaves.
+use Rattle.std.specs.Prelude.{ℕ, ◌<◌, ◌≡◌, false, length, Option, None, Some}
+use Rattle.mb_core_spec.specs.declared.stages.Stage.TheVariants as stage
+use Rattle.mb_run.specs.Sights.{Sight, recovers}
+use Rattle.mb_run.specs.declared.settles.SettleEnd.{SettleEnd}
+use Rattle.mb_run.specs.declared.settles.SettleEnd.TheVariants as end
+
+-- history and fault records stay
+pub record Keeps (old new : Sight) : Type 0 where
+  pub history : new.history ≡ old.history
+  pub records : new.records ≡ old.records
+  pub config : new.config ≡ old.config
+
+-- one step of a recovery that nobody's call runs: the end, or fewer steps are left
+abbrev pub Calms : Sight → Sight → Option SettleEnd → Type 0
+Calms old new None = new.left < old.left
+Calms old new (Some end.Clean) = recovers new.stage ≡ false
+Calms old new (Some _) = Unit {0}
+
+-- pages are written back, and nothing else changes
+pub record IsFlushed (old new : Sight) (came : SettleEnd) : Type 0 where
+  pub rest : new ≡ record old { sealed = new.sealed }
+  pub all : came ≡ end.Clean → new.sealed ≡ 0
+
+-- no recovery is in progress, and no page waits; a running volume has a checkpoint of all entries
+pub record IsSettled (old new : Sight) : Type 0 where
+  pub keeps : Keeps old new
+  pub over : recovers new.stage ≡ false
+  pub current : new.current ≡ 0
+  pub sealed : new.sealed ≡ 0
+  pub sealed_at : new.stage ≡ stage.Running → new.sealed_at ≡ length new.history

@@ -1,0 +1,26 @@
+ghost use Rattle.mb_run.specs.Examples.{WorkedCheckpoints, WorkedEntering, WorkedFaults, WorkedMoments, WorkedOrders};
+
+/// Whose first moment is lower under an order.
+pub fn worked_moments()
+    ensures { WorkedMoments }
+{}
+
+/// How far an order tells who enters first, and who does.
+pub fn worked_orders()
+    ensures { WorkedOrders }
+{}
+
+/// Traces that begin as an order tells.
+pub fn worked_entering()
+    ensures { WorkedEntering }
+{}
+
+/// The fault records of a call that is struck twice.
+pub fn worked_faults()
+    ensures { WorkedFaults }
+{}
+
+/// Traces with the checkpoints that are due.
+pub fn worked_checkpoints()
+    ensures { WorkedCheckpoints }
+{}

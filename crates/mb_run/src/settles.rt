@@ -1,0 +1,121 @@
+ghost use Rattle.std.specs.Prelude.{◌≡◌, ◌≤◌, true, false};
+ghost use Rattle.mb_edge.specs.Causes.{Rose};
+ghost use Rattle.mb_run.specs.Settling.{Calms, IsFlushed, IsSettled, Keeps};
+ghost use Rattle.mb_run.specs.Sights.{IsOrderly, recovers};
+ghost use Rattle.mb_run.specs.declared.settles.SettleEnd.TheVariants as end;
+ghost use Rattle.std.specs.Prelude.{Some};
+
+use crate::answers::Stepped;
+use crate::event_core::EventCore;
+use crate::orders::seal_now;
+use mb_cache::Flushed;
+use mb_edge::Calm;
+use std::alloc::Global;
+
+/// How the end of a run went.
+#[derive(Clone, Copy, Debug, PartialEq, Eq, Drop)]
+pub enum SettleEnd {
+    /// No recovery is in progress and no page waits.
+    Clean,
+    /// The disk failed: its count of faults rose.
+    Device,
+    /// A step met want of memory.
+    NoMemory,
+}
+
+/// What the end of a run left.
+pub struct Settled<C: EventCore> {
+    pub core: C,
+    pub end: SettleEnd,
+}
+
+/// One step of a recovery, without a fault injector; `None` where more may come.
+fn calm_step<C: EventCore>(alloc: Global, core: &mut C) -> Option<SettleEnd>
+    requires right { IsOrderly (C.sight core.old) }
+    ensures keeps { Keeps (C.sight core.old) (C.sight core.new) }
+    ensures calms { Calms (C.sight core.old) (C.sight core.new) result }
+    ensures device { result ≡ Some end.Device → Rose (C.faults core.old) (C.faults core.new) }
+    ensures later { C.faults core.old ≤ C.faults core.new }
+    ensures right { IsOrderly (C.sight core.new) }
+{
+    let mut hook = Calm;
+    let mut by = None;
+    match core.recover_step(alloc, &mut by, &mut hook) {
+        Stepped::Idle => return Some(SettleEnd::Clean),
+        Stepped::Failed { .. } => return Some(SettleEnd::Clean),
+        Stepped::Resumed => return Some(SettleEnd::Clean),
+        Stepped::Device => return Some(SettleEnd::Device),
+        Stepped::NoMemory => return Some(SettleEnd::NoMemory),
+        Stepped::Unwound(_) => return None,
+        Stepped::Dropped => return None,
+        Stepped::Remounted => return None,
+        Stepped::Reopened => return None,
+        Stepped::Replayed(_) => return None,
+        Stepped::Again { .. } => unreachable!(),
+    }
+}
+
+/// The steps of a recovery that is in progress, without a fault injector.
+fn recover_calmly<C: EventCore>(alloc: Global, core: &mut C) -> SettleEnd
+    requires right { IsOrderly (C.sight core.old) }
+    ensures keeps { Keeps (C.sight core.old) (C.sight core.new) }
+    ensures over { result ≡ end.Clean → recovers (C.sight core.new).stage ≡ false }
+    ensures device { result ≡ end.Device → Rose (C.faults core.old) (C.faults core.new) }
+    ensures later { C.faults core.old ≤ C.faults core.new }
+    ensures right { IsOrderly (C.sight core.new) }
+{
+    'steps: loop {
+        if let Some(end) = calm_step(alloc, core) {
+            return end;
+        }
+    }
+}
+
+/// Writes the checkpointed pages back, one after another.
+fn flush_all<C: EventCore>(core: &mut C) -> SettleEnd
+    requires right { IsOrderly (C.sight core.old) }
+    ensures flushed { IsFlushed (C.sight core.old) (C.sight core.new) result }
+    ensures device { result ≡ end.Device → Rose (C.faults core.old) (C.faults core.new) }
+    ensures later { C.faults core.old ≤ C.faults core.new }
+    ensures right { IsOrderly (C.sight core.new) }
+{
+    'pages: loop {
+        match core.flush_one() {
+            Flushed::One => {}
+            Flushed::Clean => return SettleEnd::Clean,
+            Flushed::Device => return SettleEnd::Device,
+        }
+    }
+}
+
+fn settle_core<C: EventCore>(alloc: Global, core: &mut C) -> SettleEnd
+    requires right { IsOrderly (C.sight core.old) }
+    ensures settled { result ≡ end.Clean → IsSettled (C.sight core.old) (C.sight core.new) }
+    ensures keeps { Keeps (C.sight core.old) (C.sight core.new) }
+    ensures device { result ≡ end.Device → Rose (C.faults core.old) (C.faults core.new) }
+    ensures right { IsOrderly (C.sight core.new) }
+{
+    match recover_calmly(alloc, core) {
+        SettleEnd::Clean => {}
+        SettleEnd::Device => return SettleEnd::Device,
+        SettleEnd::NoMemory => return SettleEnd::NoMemory,
+    }
+    if !seal_now(core) {
+        return SettleEnd::NoMemory;
+    }
+    flush_all(core)
+}
+
+/// Ends a run: a recovery in progress is made without a fault injector, a running volume gets a checkpoint, and the
+/// checkpointed pages are written back. The first fault of the disk ends this. History and fault records stay.
+pub fn settle<C: EventCore>(alloc: Global, core: C) -> Settled<C>
+    requires right { IsOrderly (C.sight core) }
+    ensures settled { result.end ≡ end.Clean → IsSettled (C.sight core) (C.sight result.core) }
+    ensures keeps { Keeps (C.sight core) (C.sight result.core) }
+    ensures device { result.end ≡ end.Device → Rose (C.faults core) (C.faults result.core) }
+    ensures right { IsOrderly (C.sight result.core) }
+{
+    let mut core = core;
+    let end = settle_core(alloc, &mut core);
+    Settled { core, end }
+}
