@@ -1,5 +1,5 @@
 -- The blocks that an inode's addresses lead to, listed (V7 filsys(5)).
-use Rattle.std.specs.Prelude.{List, [], ◌++◌, ℕ, ◌+◌, ◌-◌, ◌<◌, ◌≤◌, ◌≡◌, cond, nat_lt, Option, IfSome, length}
+use Rattle.std.specs.Prelude.{List, [], ◌∷◌, ◌++◌, ℕ, ◌+◌, ◌-◌, ◌<◌, ◌≤◌, ◌≡◌, cond, nat_lt, Option, IfSome, length}
 use Rattle.std.specs.List.{Contains}
 use Rattle.mb_layout.specs.Inode.{address_in}
 use Rattle.mb_layout.specs.declared.dinodes.Dinode.{Dinode}
@@ -27,6 +27,10 @@ under_dinode ps d = under_each (λ place. under_block ps (place - 9)) (address_i
 pub record IsListable (before more : List ℕ) : Type 0 where
   pub small : (block : ℕ) → Contains more block → block < 262144
   pub few : length before + length more ≤ 262144
+
+-- the block alone to which an address leads
+abbrev pub PushesOne : ℕ → List ℕ → List ℕ → Type 0
+PushesOne address before after = IsListable before (cond (nat_lt 0 address) (address ∷ []) []) → after ≡ before ++ cond (nat_lt 0 address) (address ∷ []) []
 
 abbrev pub PushesUnder : (ℕ → Option (List ℕ)) → ChangeList → ℕ → ℕ → List ℕ → List ℕ → Walked → Type 0
 PushesUnder shown changes address levels before after walked.Done = (blocks : ℕ → List ℕ) → IsPart shown blocks
