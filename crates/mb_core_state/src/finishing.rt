@@ -35,7 +35,7 @@ impl<F: FileSys, D: Disk> Fields<F, D> {
         Some(self.ticket_of(holder))
     }
 
-    fn ticket_of(&self, caller: u8) -> Ticket
+    pub(crate) fn ticket_of(&self, caller: u8) -> Ticket
         requires { (ticket : Ticket) × HasTicketOf self.now.callers caller ticket }
         ensures { HasTicketOf self.now.callers caller result }
     {

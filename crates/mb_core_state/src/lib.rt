@@ -14,6 +14,7 @@ mod fields;
 mod finishing;
 mod gathering;
 mod logging;
+mod readers;
 mod recovering;
 mod striking;
 
