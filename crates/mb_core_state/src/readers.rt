@@ -1,4 +1,5 @@
-ghost use Rattle.std.specs.Prelude.{◌≡◌, ◌<◌, ◌≤◌, ℕ, Some, length, slice_get, option_map, IfSome, IfNone, OnOk, true, false};
+ghost use Rattle.std.specs.Prelude.{◌≡◌, ◌<◌, ◌≤◌, ℕ, Some, length, slice_get, option_map, IfSome, IfNone, IsSome, OnOk, true, false};
+ghost use Rattle.mb_kinds.specs.declared.entries.Flight.{Flight};
 ghost use Rattle.mb_kinds.specs.declared.faults.Ticket.{Ticket};
 ghost use Rattle.mb_core_spec.specs.Callers.{EachCaller};
 ghost use Rattle.mb_core_spec.specs.Events.{with_room};
@@ -113,6 +114,15 @@ impl<F: FileSys, D: Disk> Fields<F, D> {
         ensures { HasTicketOf self.now.callers caller result }
     {
         self.ticket_of(caller)
+    }
+
+    /// The ordinal of a caller's call in flight.
+    pub fn ordinal(&self, caller: u8) -> u32
+        requires { (mine : CallerState) × (slice_get self.now.callers caller ≡ Some mine) × IsSome mine.flight }
+        ensures { (mine : CallerState) (flight : Flight) → slice_get self.now.callers caller ≡ Some mine → mine.flight ≡ Some flight → result ≡ flight.ordinal }
+    {
+        let (ordinal, _) = self.numbers(caller);
+        ordinal
     }
 
     /// Makes room for a fault in a recovery: its record, its step of the trace and the step that follows. Nothing else
