@@ -1,0 +1,5 @@
+mod Kept
+mod Knowing
+mod Phases
+mod RightsOfCalls
+mod RightsOfRecovery
