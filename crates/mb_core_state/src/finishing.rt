@@ -6,6 +6,8 @@ ghost use Rattle.mb_core_spec.specs.Events.{GivesBack, Leaves, floor_after, stal
 ghost use Rattle.mb_core_spec.specs.Flights.{IsMine};
 ghost use Rattle.mb_core_spec.specs.State.{CallerState};
 ghost use Rattle.mb_journal.specs.Room.{HasEntryRoom, KeepsRoom};
+ghost use Rattle.mb_iface.specs.Changed.{AreChanges};
+ghost use Rattle.mb_core_state.specs.Answers.{IsPresent};
 ghost use Rattle.mb_core_state.specs.Finishing.{Finishes, HasTicketOf, HolderFlies, IsBusy, IsLogged};
 ghost use Rattle.mb_core_state.specs.Rooms.{FinishLeaves, HasPins, LeavesEntry};
 
@@ -63,6 +65,7 @@ impl<F: FileSys, D: Disk> Fields<F, D> {
         ensures ok { OnOk result ((mine : CallerState) (flight : Flight) → slice_get self.old.callers ticket.now.caller ≡ Some mine → mine.flight ≡ Some flight → IsLogged self.old self.new ticket.now.caller mine flight ticket.now ready) }
         ensures err { OnErr result (self.new ≡ with_room self.old self.new) }
         ensures marks { OnOk result (LeavesEntry self.old.journal.room self.new.journal.room) }
+        ensures changes { OnOk result (AreChanges ready.changes) }
         ensures kept { OnErr result (KeepsRoom self.old.journal.room self.new.journal.room) }
     {
         let reply = ready.reply.copied(alloc)?;
@@ -123,7 +126,8 @@ impl<F: FileSys, D: Disk> Fields<F, D> {
         pages: &Pages,
         ready: Ready,
     ) -> Finished
-        requires inside { (mine : CallerState) × (slice_get self.old.callers ticket.now.caller ≡ Some mine) × (mine.inside ≡ true) × IsSome mine.flight }
+        requires flight { (mine : CallerState) × (slice_get self.old.callers ticket.now.caller ≡ Some mine) × IsSome mine.flight }
+        requires inside { IsPresent self.old ticket.now → (mine : CallerState) × (slice_get self.old.callers ticket.now.caller ≡ Some mine) × (mine.inside ≡ true) }
         requires pins { HasPins self.old ticket.now.caller }
         requires holder { HolderFlies self.old.floor self.old.callers }
         requires seats { ticket.now.caller < length self.old.tables.sessions }
@@ -131,6 +135,7 @@ impl<F: FileSys, D: Disk> Fields<F, D> {
         requires stamps { self.old.tables.stamp < 2 ^ 64 - 1 }
         ensures finishes { (mine : CallerState) (flight : Flight) → slice_get self.old.callers ticket.now.caller ≡ Some mine → mine.flight ≡ Some flight → Finishes self.old self.new ticket.now mine flight pages.now ready result }
         ensures room { FinishLeaves self.old.journal.room self.new.journal.room result }
+        ensures changes { result ≡ Finished.Logged → AreChanges ready.changes }
     {
         if ticket.incarnation != self.incarnation {
             return Finished::Skip {
