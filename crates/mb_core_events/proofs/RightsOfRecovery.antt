@@ -90,7 +90,7 @@ module _ {F D : Type 0} (told : D → Option Image) (faults : D → ℕ) (core :
   pub some_now : phase_now core ≡ phase.Unwind → 1 ≤ insiders core.callers
   some_now is = let test = (unwinds_at core.stage here log is).1 in grind (arith, nat_tests, test)
 
-  flies_inside : (caller : ℕ) (mine : CallerState) → slice_get core.callers caller ≡ Some mine → mine.inside ≡ true → FliesInside caller (runs core.stage) core.incarnation mine.flight
+  pub flies_inside : (caller : ℕ) (mine : CallerState) → slice_get core.callers caller ≡ Some mine → mine.inside ≡ true → FliesInside caller (runs core.stage) core.incarnation mine.flight
   flies_inside caller mine is inside = flying_inside caller (runs core.stage) core.incarnation mine.answer mine.flight
       (subst (λ (b : Bool). IsFlying caller b (runs core.stage) core.incarnation mine.answer mine.flight) inside (r.orderly.flying caller mine is))
 

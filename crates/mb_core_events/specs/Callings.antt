@@ -1,12 +1,18 @@
 -- What a caller knows when it makes an event, and what an answer is.
-use Rattle.std.specs.Prelude.{ℕ, ◌≡◌, ◌≤◌, ◌⊎◌, true, false, Some, nat_lt, slice_get, length}
+use Rattle.std.specs.Prelude.{ℕ, ◌≡◌, ◌<◌, ◌≤◌, ◌⊎◌, true, false, Some, nat_lt, slice_get, length}
 use Rattle.mb_kinds.specs.declared.entries.Flight.{Flight}
 use Rattle.mb_kinds.specs.declared.faults.Ticket.{Ticket}
+use Rattle.mb_tree.specs.Sessions.{HasDescriptorInRange}
+use Rattle.mb_iface.specs.declared.replies.Need.{Need}
 use Rattle.mb_core_spec.specs.Callers.{EachCaller, insiders}
 use Rattle.mb_core_spec.specs.Conditions.{IsInside}
+use Rattle.mb_core_spec.specs.Copies.{PagesState, TableCopy, shown}
 use Rattle.mb_core_spec.specs.Events.{GivesBack, with_room}
+use Rattle.mb_core_spec.specs.Owed.{IsPlain}
+use Rattle.mb_core_spec.specs.Performed.{IsReadyFor}
 use Rattle.mb_core_spec.specs.Recovery.{unwinding}
 use Rattle.mb_core_spec.specs.State.{CallerState, CoreState}
+use Rattle.mb_core_spec.specs.declared.ready.Ready.{Ready}
 use Rattle.mb_core_spec.specs.declared.stages.Stage.{Stage}
 use Rattle.mb_core_spec.specs.declared.stages.Stage.TheVariants as stage
 use Rattle.mb_core_state.specs.Answers.{phase_of}
@@ -40,6 +46,23 @@ pub record HasCall {F D : Type 0} (core : CoreState F D) (caller : ℕ) : Type 0
 -- and it has no entry
 abbrev pub HasOpenCall : {F D : Type 0} → CoreState F D → ℕ → Type 0
 HasOpenCall core caller = (of : HasCall core caller) × (of.flight.answered ≡ false)
+
+-- what a call may gather: block 0, which stands for the tables, or up to 32 blocks
+pub record IsAsked (need : Need) : Type 0 where
+  pub first : need.first < 262144
+  pub some : 1 ≤ need.count
+  pub count : need.count ≤ 32
+
+-- a call without its entry was performed over its pages, which have the tables: what it came to is the model's step over
+-- every volume of which the pages are a part
+pub record MayFinish {F D : Type 0} (core : CoreState F D) (ticket : Ticket) (pages : PagesState) (ready : Ready) : Type 0 where
+  pub of : HoldsTicket core ticket
+  pub unanswered : of.flight.answered ≡ false
+  pub given : TableCopy
+  pub tables : pages.tables ≡ Some given
+  pub ready_for : IsReadyFor (shown pages.blocks) given.sessions given.opens ticket.caller of.flight.call of.flight.moment ready
+  pub plain : IsPlain ready.reply
+  pub session : HasDescriptorInRange ready.session
 
 -- ---- a recovery
 

@@ -1,14 +1,20 @@
-ghost use Rattle.std.specs.Prelude.{◌≡◌, Some, slice_get};
+ghost use Rattle.std.specs.Prelude.{◌≡◌, ◌≤◌, Some, slice_get};
+ghost use Rattle.mb_kinds.specs.declared.entries.Flight.{Flight};
 ghost use Rattle.mb_core_spec.specs.Events.{GivesBack, ended, with_room};
 ghost use Rattle.mb_core_spec.specs.Right.{Right};
 ghost use Rattle.mb_core_spec.specs.State.{CallerState};
-ghost use Rattle.mb_core_state.specs.Answers.{Leaving, Strikes};
-ghost use Rattle.mb_core_events.specs.Callings.{HasEntry, HasOpenCall, HoldsTicket};
+ghost use Rattle.mb_core_state.specs.Answers.{Gathering, Leaving, Strikes};
+ghost use Rattle.mb_core_state.specs.Finishing.{Finishes};
+ghost use Rattle.mb_core_events.specs.Callings.{HasEntry, HasOpenCall, HoldsTicket, IsAsked, IsUnanswered, MayFinish};
 
-use mb_core_state::{Fault, Fields, Left};
+use mb_callers::Pages;
+use mb_core_spec::Ready;
+use mb_core_state::{Fault, Fields, Finished, Gathered, Left};
 use mb_edge::{Disk, Hook};
-use mb_iface::FileSys;
+use mb_iface::{FileSys, Need};
 use mb_kinds::{Kind, Ticket};
+use mb_tables::{counts_follow_operations, tables_move};
+use std::alloc::Global;
 use std::marker::Model;
 
 /// The event core of the restart layer, for up to eight callers in any interleaving. It holds the disk, the pages over it,
@@ -36,6 +42,46 @@ impl<F: FileSys, D: Disk> Model for Core<F, D> {
 }
 
 impl<F: FileSys, D: Disk> Core<F, D> {
+    /// A call without its entry gathers blocks, or at block 0 the tables: they are pinned, kept with the call and in its pages.
+    /// `Skip` exactly where the ticket is of an earlier incarnation; `Device` only where the disk's count of faults rose, and
+    /// the call has the entry `Device` then.
+    pub fn gather(
+        &mut self,
+        alloc: Global,
+        ticket: &Ticket,
+        need: Need,
+        pages: &mut Pages,
+    ) -> Gathered
+        requires ticket { IsUnanswered self.old ticket.now }
+        requires need { IsAsked need }
+        ensures gathers { (mine : CallerState) (flight : Flight) → slice_get self.old.callers ticket.now.caller ≡ Some mine → mine.flight ≡ Some flight → Gathering D.told D.faults self.old self.new ticket.now need mine flight pages.old pages.new result }
+        ensures told { D.told self.new.cache.disk ≡ D.told self.old.cache.disk }
+        ensures later { D.faults self.old.cache.disk ≤ D.faults self.new.cache.disk }
+        ensures right { Right D.told D.faults self.new }
+    {
+        self.fields.gather(alloc, ticket, need, pages)
+    }
+
+    /// A call without its entry finishes over its pages. The answers come in the order `Skip`, `Busy`, `Stale`, `Logged`;
+    /// `NoMemory` may come in the place of the last two, and nothing has changed then. After `Logged` a checkpoint is not
+    /// refused.
+    pub fn finish(
+        &mut self,
+        alloc: Global,
+        ticket: &Ticket,
+        pages: &Pages,
+        ready: Ready,
+    ) -> Finished
+        requires { MayFinish self.old ticket.now pages.now ready }
+        ensures finishes { (mine : CallerState) (flight : Flight) → slice_get self.old.callers ticket.now.caller ≡ Some mine → mine.flight ≡ Some flight → Finishes self.old self.new ticket.now mine flight pages.now ready result }
+        ensures sealable { result ≡ Finished.Logged → 11 ≤ self.new.journal.room.trail }
+        ensures right { Right D.told D.faults self.new }
+    {
+        counts_follow_operations();
+        tables_move();
+        self.fields.finish(alloc, ticket, pages, ready)
+    }
+
     /// A call that has its entry leaves with the entry's reply, and its flight ends. `Skip` exactly where the ticket is of an
     /// earlier incarnation. Needs no memory.
     pub fn leave(&mut self, ticket: &Ticket) -> Left
