@@ -164,6 +164,36 @@ impl CallerState {
         Ok(())
     }
 
+    /// A call begins, with the next ordinal and that moment, and enters at once with a ticket and the descriptor that it
+    /// reserved. The only error is want of memory, and nothing has changed then.
+    pub fn begin_inside(
+        &mut self,
+        call: Call,
+        moment: u32,
+        ticket: Ticket,
+        reserved: Option<u16>,
+    ) -> Result<(), NoMemory>
+        requires few { self.old.begun < 4294967295 }
+        requires empty { self.old.undo ≡ [] }
+        ensures ok { OnOk result (self.new ≡ goes_in (record self.old { begun = self.old.begun + 1 }) (record { call = call; ordinal = self.old.begun + 1; moment = moment; ticket = None; answered = false }) ticket reserved) }
+        ensures err { OnErr result (self.new ≡ self.old) }
+    {
+        self.undo.reserve(3)?;
+        note_entered(&mut self.undo, reserved);
+        self.begun += 1;
+        self.flight = Some(Flight {
+            call,
+            ordinal: self.begun,
+            moment,
+            ticket: Some(ticket),
+            answered: false,
+        });
+        self.inside = true;
+        self.reserved = reserved;
+        self.stales = 0;
+        Ok(())
+    }
+
     /// Gathers what a call needs into its pages and into what is kept of it, both alike: at block 0 copies of the
     /// tables, else blocks as they are seen, with their stamps. All of it is pinned. `Device` comes only where the disk's
     /// count of faults rose; on an error nothing has changed but the disk and room.

@@ -1,4 +1,7 @@
 mod Damaging
+mod Enterings
 mod Gatherings
 mod Held
 mod Loggings
+mod Missing
+mod Redoings

@@ -1,3 +1,5 @@
 pub mod Answers
+pub mod Entering
 pub mod Finishing
+pub mod Redoing
 pub mod Rooms
