@@ -127,7 +127,7 @@ impl<F: FileSys, D: Disk> Core<F, D> {
             unreachable!()
         };
         self.fields.reserve_fault()?;
-        let ordinal = self.fields.ordinal(caller);
+        let ordinal = self.fields.ordinal_of(caller);
         Ok(self.fields.strike_again(caller, ordinal, kind, nth, damage))
     }
 }

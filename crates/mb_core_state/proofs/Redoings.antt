@@ -1,5 +1,5 @@
 -- An operation of the log is done again.
-use Rattle.std.proofs.Common.{◌≡◌, ◌∙◌, ℕ, List, false, true, Option, None, Some, IsSome, Result, Ok, Err, OnOk, refl, slice_get, ap, sym, subst, arith}
+use Rattle.std.proofs.Common.{◌<◌, ◌≡◌, ◌∙◌, ℕ, List, false, true, Option, None, Some, IfSome, IsSome, Result, Ok, Err, OnOk, refl, slice_get, ap, sym, subst, arith}
 use Rattle.mb_kinds.specs.Image.{Image}
 use Rattle.mb_tree.specs.Views.{IsPart}
 use Rattle.mb_tree.specs.Volume.{IsVolume}
@@ -19,7 +19,7 @@ use Rattle.mb_core_spec.specs.Events.{GivesBack, Leaves, answered_by, with_room}
 use Rattle.mb_core_spec.specs.Numbers.{open_flight}
 use Rattle.mb_core_spec.specs.State.{CallerState, CoreState}
 use Rattle.mb_core_state.specs.Answers.{with_disk}
-use Rattle.mb_core_state.specs.Redoing.{ActsAgain, EndsByDevice, EndsIf, FailsStep, IsReplayed, redoing}
+use Rattle.mb_core_state.specs.Redoing.{ActsAgain, EndsByDevice, EndsIf, FailsStep, HasOpenRoom, IsReplayed, redoing}
 
 -- what the file system answered over blocks that were gathered
 pub acts_again : {F D : Type 0} (told : D → Option Image) (old now : CoreState F D) (pages : ℕ → Option (List ℕ)) (done : ℕ) (changes : ChangeList) (picked : Option ℕ) (logged : Logged) → now ≡ with_disk old now.cache.disk
@@ -72,6 +72,21 @@ fails_device {F} {D} faults old mid new by same disk rose ends kept left = (
   subst (λ (d : D). EndsByDevice (with_disk old d) new by) (sym disk) (ends_by (with_disk old mid.cache.disk) mid new by (subst (λ (core : CoreState F D). EndsByDevice core new by) same ends)),
   record { trail = omega (arith, kept.trail, left.trail); history = omega (arith, kept.history, left.history); records = omega (arith, kept.records, left.records) },
 )
+
+-- ---- the room for that entry
+
+open_room_if : {F D : Type 0} (core : CoreState F D) (caller : ℕ) (mine : CallerState) (flying : Option Flight) → mine.flight ≡ flying → HasOpenRoom core caller → slice_get core.callers caller ≡ Some mine → IsSome flying → open_flight mine.flight ≡ mine.flight
+    → 0 < core.journal.room.history
+open_room_if core caller mine None is has here some waits = absurd (let wrong : false ≡ true = some in cc)
+open_room_if core caller mine (Some flight) is has here some waits = has mine flight here (waits ∙ is)
+
+pub has_open_room : {F D : Type 0} (core : CoreState F D) (caller : ℕ) (mine : CallerState) → HasOpenRoom core caller → slice_get core.callers caller ≡ Some mine → IsSome mine.flight → open_flight mine.flight ≡ mine.flight → 0 < core.journal.room.history
+has_open_room core caller mine has here some waits = open_room_if core caller mine mine.flight refl has here some waits
+
+pub keeps_open_room : {F D : Type 0} (old mid : CoreState F D) (by : Option ℕ) → mid ≡ with_room (with_disk old mid.cache.disk) mid → KeepsRoom old.journal.room mid.journal.room → IfSome by (HasOpenRoom old) → IfSome by (HasOpenRoom mid)
+keeps_open_room old mid None same kept has = tt
+keeps_open_room {F} {D} old mid (Some caller) same kept has = λ mine flight here waits.
+    (let low = has mine flight (sym (ap (λ (core : CoreState F D). slice_get core.callers caller) same) ∙ here) waits in omega (arith, low, kept.history))
 
 -- ---- after the room was made
 

@@ -1,5 +1,5 @@
 -- What the steps of a recovery that read come to: the start of the file system, and an operation of the log that is done again.
-use Rattle.std.specs.Prelude.{List, ℕ, ◌≡◌, Option, None, Some, slice_get}
+use Rattle.std.specs.Prelude.{List, ℕ, ◌<◌, ◌≡◌, Option, None, Some, slice_get}
 use Rattle.mb_kinds.specs.Image.{Image}
 use Rattle.mb_kinds.specs.declared.entries.Flight.{Flight}
 use Rattle.mb_kinds.specs.declared.replies.Reply.TheVariants as reply
@@ -26,6 +26,10 @@ use Rattle.mb_core_spec.specs.State.{CallerState, CoreState}
 use Rattle.mb_core_state.specs.Answers.{with_disk}
 
 -- ---- the disk fails in a step
+
+-- there is room for the entry of a caller's call in flight, where it has none
+abbrev pub HasOpenRoom : {F D : Type 0} → CoreState F D → ℕ → Type 0
+HasOpenRoom core caller = (mine : CallerState) (flight : Flight) → slice_get core.callers caller ≡ Some mine → open_flight mine.flight ≡ Some flight → 0 < core.journal.room.history
 
 abbrev pub EndsIf : {F D : Type 0} → CoreState F D → CoreState F D → ℕ → CallerState → Option Flight → Type 0
 EndsIf old new caller mine None = new ≡ with_room old new

@@ -117,7 +117,7 @@ impl<F: FileSys, D: Disk> Fields<F, D> {
     }
 
     /// The ordinal of a caller's call in flight.
-    pub fn ordinal(&self, caller: u8) -> u32
+    pub fn ordinal_of(&self, caller: u8) -> u32
         requires { (mine : CallerState) × (slice_get self.now.callers caller ≡ Some mine) × IsSome mine.flight }
         ensures { (mine : CallerState) (flight : Flight) → slice_get self.now.callers caller ≡ Some mine → mine.flight ≡ Some flight → result ≡ flight.ordinal }
     {
