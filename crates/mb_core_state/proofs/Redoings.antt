@@ -17,7 +17,7 @@ use Rattle.mb_kinds.specs.declared.replies.Reply.TheVariants as reply
 use Rattle.mb_journal.specs.Room.{KeepsRoom}
 use Rattle.mb_core_spec.specs.Events.{GivesBack, Leaves, answered_by, with_room}
 use Rattle.mb_core_spec.specs.Numbers.{open_flight}
-use Rattle.mb_core_spec.specs.State.{CallerState, CoreState}
+use Rattle.mb_core_spec.specs.State.{CallerState, CoreState, JournalRoom}
 use Rattle.mb_core_state.specs.Answers.{with_disk}
 use Rattle.mb_core_state.specs.Redoing.{ActsAgain, EndsByDevice, EndsIf, FailsStep, HasOpenRoom, IsReplayed, redoing}
 
@@ -49,28 +49,37 @@ replayed {F} {D} told old mid new done logged changes rest disk are acts event =
 
 module _ {F D : Type 0} (old new : CoreState F D) (caller : ℕ) (mine : CallerState) where
   ends_flying : (flying : Option Flight) → IsSome flying
-      → ((flight : Flight) → flying ≡ Some flight → (new ≡ with_room (answered_by old caller mine flight reply.Device new.cache.pins) new) × GivesBack old.cache.pins new.cache.pins mine.undo) → EndsIf old new caller mine flying
+      → ((flight : Flight) → flying ≡ Some flight → (new ≡ with_room (answered_by old caller mine flight reply.Device new.cache.pins) new) × GivesBack old.cache.pins new.cache.pins mine.undo × Leaves old.journal.room new.journal.room 0 1) → EndsIf old new caller mine flying
   ends_flying None some answered = absurd (let wrong : false ≡ true = some in cc)
   ends_flying (Some flight) some answered = answered flight refl
 
   pub ends_waiting : open_flight mine.flight ≡ mine.flight → IsSome mine.flight
-      → ((flight : Flight) → mine.flight ≡ Some flight → (new ≡ with_room (answered_by old caller mine flight reply.Device new.cache.pins) new) × GivesBack old.cache.pins new.cache.pins mine.undo) → EndsIf old new caller mine (open_flight mine.flight)
+      → ((flight : Flight) → mine.flight ≡ Some flight → (new ≡ with_room (answered_by old caller mine flight reply.Device new.cache.pins) new) × GivesBack old.cache.pins new.cache.pins mine.undo × Leaves old.journal.room new.journal.room 0 1) → EndsIf old new caller mine (open_flight mine.flight)
   ends_waiting waits some answered = subst (EndsIf old new caller mine) (sym waits) (ends_flying mine.flight some answered)
 
-ends_roomy : {F D : Type 0} (core mid new : CoreState F D) (caller : ℕ) (mine : CallerState) (flying : Option Flight) → EndsIf (with_room core mid) new caller mine flying → EndsIf core new caller mine flying
-ends_roomy core mid new caller mine None ends = ends
-ends_roomy core mid new caller mine (Some flight) ends = ends
+keeps_both : (old mid new : JournalRoom) → KeepsRoom old mid → KeepsRoom mid new → KeepsRoom old new
+keeps_both old mid new one two = record {
+  oplog = omega (arith, one.oplog, two.oplog);
+  history = omega (arith, one.history, two.history);
+  records = omega (arith, one.records, two.records);
+  trail = omega (arith, one.trail, two.trail);
+}
 
-ends_by : {F D : Type 0} (core mid new : CoreState F D) (by : Option ℕ) → EndsByDevice (with_room core mid) new by → EndsByDevice core new by
-ends_by core mid new None ends = ends
-ends_by core mid new (Some caller) ends = λ mine here. ends_roomy core mid new caller mine (open_flight mine.flight) (ends mine here)
+ends_roomy : {F D : Type 0} (core mid new : CoreState F D) (caller : ℕ) (mine : CallerState) (flying : Option Flight) → KeepsRoom core.journal.room mid.journal.room → EndsIf (with_room core mid) new caller mine flying → EndsIf core new caller mine flying
+ends_roomy core mid new caller mine None kept ends = (ends.0, keeps_both core.journal.room mid.journal.room new.journal.room kept ends.1)
+ends_roomy core mid new caller mine (Some flight) kept ends =
+    let left = ends.2 in
+    (ends.0, ends.1, record { trail = omega (arith, kept.trail, left.trail); history = omega (arith, kept.history, left.history); records = omega (arith, kept.records, left.records) })
+
+ends_by : {F D : Type 0} (core mid new : CoreState F D) (by : Option ℕ) → KeepsRoom core.journal.room mid.journal.room → EndsByDevice (with_room core mid) new by → EndsByDevice core new by
+ends_by core mid new None kept ends = (ends.0, keeps_both core.journal.room mid.journal.room new.journal.room kept ends.1)
+ends_by core mid new (Some caller) kept ends = λ mine here. ends_roomy core mid new caller mine (open_flight mine.flight) kept (ends mine here)
 
 pub fails_device : {F D : Type 0} (faults : D → ℕ) (old mid new : CoreState F D) (by : Option ℕ) → mid ≡ with_room (with_disk old mid.cache.disk) mid → new.cache.disk ≡ mid.cache.disk → Rose (faults old.cache.disk) (faults mid.cache.disk)
-    → EndsByDevice mid new by → KeepsRoom old.journal.room mid.journal.room → Leaves mid.journal.room new.journal.room 0 1 → FailsStep faults old new by fault.Device
-fails_device {F} {D} faults old mid new by same disk rose ends kept left = (
+    → EndsByDevice mid new by → KeepsRoom old.journal.room mid.journal.room → FailsStep faults old new by fault.Device
+fails_device {F} {D} faults old mid new by same disk rose ends kept = (
   subst (λ (d : D). Rose (faults old.cache.disk) (faults d)) (sym disk) rose,
-  subst (λ (d : D). EndsByDevice (with_disk old d) new by) (sym disk) (ends_by (with_disk old mid.cache.disk) mid new by (subst (λ (core : CoreState F D). EndsByDevice core new by) same ends)),
-  record { trail = omega (arith, kept.trail, left.trail); history = omega (arith, kept.history, left.history); records = omega (arith, kept.records, left.records) },
+  subst (λ (d : D). EndsByDevice (with_disk old d) new by) (sym disk) (ends_by (with_disk old mid.cache.disk) mid new by kept (subst (λ (core : CoreState F D). EndsByDevice core new by) same ends)),
 )
 
 -- ---- the room for that entry

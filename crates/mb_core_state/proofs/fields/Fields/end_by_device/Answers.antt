@@ -16,4 +16,4 @@ returns-then-awaits-clause-ends g c =
     let there = c.awaits.ensures.there c.if-awaits.true in
     subst (λ (by : Option ℕ). EndsByDevice c.args.self.now c.answer_by.new.self by) (sym c.in-Some.is) (λ mine here.
     ends_waiting c.args.self.now c.answer_by.new.self c.in-Some.caller mine (c.awaits.ensures.waits c.if-awaits.true mine here)
-    (some_flight c.args.self.now.callers c.in-Some.caller there.0 mine there.1 here there.2) (λ flight flies. c.answer_by.ensures.answered mine flight here flies))
+    (some_flight c.args.self.now.callers c.in-Some.caller there.0 mine there.1 here there.2) (λ flight flies. (let done = c.answer_by.ensures.answered mine flight here flies in (done.0, done.1, c.answer_by.ensures.room))))
