@@ -21,14 +21,21 @@ use Rattle.mb_core_state.specs.Finishing.{HasTicketOf}
 use Rattle.mb_core_state.specs.Rooms.{HasPins}
 use Rattle.mb_core_events.specs.Callings.{HoldsTicket}
 
+-- ---- what stands at a place
+
+pub slice_get_some : {X : Type 0} (xs : List X) (at : ℕ) → at < length xs → (x : X) × (slice_get xs at ≡ Some x)
+slice_get_some [] at low = absurd (omega (arith, low))
+slice_get_some (x ∷ xs) zero low = (x, refl)
+slice_get_some (x ∷ xs) (suc at) low = slice_get_some xs at (omega (arith, low))
+
 -- ---- sums
 
-part_of_total : {X : Type 0} (f : X → ℕ) (xs : List X) (at : ℕ) (x : X) → slice_get xs at ≡ Some x → f x ≤ total f xs
+pub part_of_total : {X : Type 0} (f : X → ℕ) (xs : List X) (at : ℕ) (x : X) → slice_get xs at ≡ Some x → f x ≤ total f xs
 part_of_total f [] at x has = absurd (let wrong : None ≡ Some x = has in cc)
 part_of_total f (y ∷ xs) zero x has = let same : f y ≡ f x = ap f (same_Some y x has) in omega (arith, same)
 part_of_total f (y ∷ xs) (suc at) x has = let rest = part_of_total f xs at x has in omega (arith, rest)
 
-at_most_one : (b : Bool) → one_if b ≤ 1
+pub at_most_one : (b : Bool) → one_if b ≤ 1
 at_most_one true = omega arith
 at_most_one false = omega arith
 
@@ -36,7 +43,7 @@ few_inside : (callers : List CallerState) → insiders callers ≤ length caller
 few_inside [] = omega arith
 few_inside (d ∷ callers) = let one = at_most_one d.inside in let rest = few_inside callers in omega (arith, one, rest)
 
-most_begun : (callers : List CallerState) (most : ℕ) → EachCaller (λ caller d. d.begun ≤ most) callers → total (λ (d : CallerState). d.begun) callers ≤ most * length callers
+pub most_begun : (callers : List CallerState) (most : ℕ) → EachCaller (λ caller d. d.begun ≤ most) callers → total (λ (d : CallerState). d.begun) callers ≤ most * length callers
 most_begun [] most each = omega arith
 most_begun (d ∷ callers) most each =
     let first : d.begun ≤ most = each 0 d refl in
@@ -92,6 +99,10 @@ module _ {F D : Type 0} (told : D → Option Image) (faults : D → ℕ) (core :
 
   pub caller_within : (caller : ℕ) (mine : CallerState) → slice_get core.callers caller ≡ Some mine → caller < length core.callers
   caller_within caller mine here = slice_get_within core.callers caller mine here
+
+  -- a declared caller's state
+  pub state_of : (caller : ℕ) → caller < length core.config.callers → (mine : CallerState) × (slice_get core.callers caller ≡ Some mine)
+  state_of caller low = let same = o.numbered.callers_are in slice_get_some core.callers caller (omega (arith, low, same))
 
   pub is_declared : (caller : ℕ) (mine : CallerState) → slice_get core.callers caller ≡ Some mine → caller < length core.config.callers
   is_declared caller mine here = let low = caller_within caller mine here in let same = o.numbered.callers_are in omega (arith, low, same)

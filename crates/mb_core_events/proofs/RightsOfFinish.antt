@@ -40,7 +40,7 @@ use Rattle.mb_core_events.proofs.RightsOfRecovery.{flies_inside}
 
 -- ---- what an install does
 
-rises_if : (old new : Stamps) (changes : ChangeList) (block : ℕ) → new ≡ raised_by old changes → AreChanges changes → stamp_of old block < 2 ^ 64 - 1 → (stamp_of old block ≤ stamp_of new block) × (stamp_of new block ≤ stamp_of old block + 1)
+pub rises_if : (old new : Stamps) (changes : ChangeList) (block : ℕ) → new ≡ raised_by old changes → AreChanges changes → stamp_of old block < 2 ^ 64 - 1 → (stamp_of old block ≤ stamp_of new block) × (stamp_of new block ≤ stamp_of old block + 1)
 rises_if old new changes block is are few = elim (changed changes block) as (λ o. changed changes block ≡ o → (stamp_of old block ≤ stamp_of new block) × (stamp_of new block ≤ stamp_of old block + 1)) [
   | None ↦ λ none. (let same = ap (λ (s : Stamps). stamp_of s block) is ∙ stamp_stays old changes block none in (omega (arith, same), omega (arith, same)))
   | Some bytes ↦ λ some. (

@@ -28,7 +28,7 @@ use Rattle.mb_core_events.proofs.Kept.{carries}
 use Rattle.mb_core_events.proofs.Knowing.{runs_now, within}
 
 -- the disk ended one call more
-few_device : (before mid now : ℕ) (history : List Entry) (entry : Entry) → FewDevices before mid history → mid ≤ now → Rose mid now → is_device entry.reply ≡ true → FewDevices before now (history ++ entry ∷ [])
+pub few_device : (before mid now : ℕ) (history : List Entry) (entry : Entry) → FewDevices before mid history → mid ≤ now → Rose mid now → is_device entry.reply ≡ true → FewDevices before now (history ++ entry ∷ [])
 few_device before mid now history entry so_far later rose ended = λ below.
     (let counted = sum_by-append (λ (e : Entry). cond (is_device e.reply) 1 0) history (entry ∷ []) in
     let earlier = so_far (omega arith) in
@@ -37,7 +37,7 @@ few_device before mid now history entry so_far later rose ended = λ below.
 
 module _ {F D : Type 0} (told : D → Option Image) (faults : D → ℕ) (core : CoreState F D) (r : Right told faults core) where
   -- the disk was read
-  read_right : (disk : D) → told disk ≡ told core.cache.disk → faults core.cache.disk ≤ faults disk → Right told faults (with_disk core disk)
+  pub read_right : (disk : D) → told disk ≡ told core.cache.disk → faults core.cache.disk ≤ faults disk → Right told faults (with_disk core disk)
   read_right disk same later = right_flushes told faults core r disk core.cache.sealed (λ first image began now. (image, sym same ∙ now, refl)) (λ tells. subst (λ (t : Option Image). IsSome t) (sym same) tells) later
 
   gathers_by : (new : CoreState F D) (caller : ℕ) (need : Need) (mine : CallerState) (pages got : PagesState) → IsAsked need → (by : KeepsGathered told core new caller need mine pages got)

@@ -1,5 +1,6 @@
 -- What a caller knows when it makes an event, and what an answer is.
-use Rattle.std.specs.Prelude.{ℕ, ◌≡◌, ◌<◌, ◌≤◌, ◌⊎◌, true, false, Some, nat_lt, slice_get, length}
+use Rattle.std.specs.Prelude.{ℕ, ◌≡◌, ◌<◌, ◌≤◌, ◌⊎◌, true, false, None, Some, nat_lt, slice_get, length}
+use Rattle.mb_kinds.specs.declared.calls.Call.{Call}
 use Rattle.mb_kinds.specs.declared.entries.Flight.{Flight}
 use Rattle.mb_kinds.specs.declared.faults.Ticket.{Ticket}
 use Rattle.mb_tree.specs.Sessions.{HasDescriptorInRange}
@@ -47,6 +48,12 @@ pub record HasCall {F D : Type 0} (core : CoreState F D) (caller : ℕ) : Type 0
 abbrev pub HasOpenCall : {F D : Type 0} → CoreState F D → ℕ → Type 0
 HasOpenCall core caller = (of : HasCall core caller) × (of.flight.answered ≡ false)
 
+-- a declared caller enters with its call in flight, or with a new one, where it began fewer than it may
+pub record MayCall {F D : Type 0} (core : CoreState F D) (caller : ℕ) (call : Call) : Type 0 where
+  pub declared : caller < length core.config.callers
+  pub same : (mine : CallerState) (flight : Flight) → slice_get core.callers caller ≡ Some mine → mine.flight ≡ Some flight → flight.call ≡ call
+  pub few : (mine : CallerState) → slice_get core.callers caller ≡ Some mine → mine.flight ≡ None → mine.begun < core.config.most
+
 -- what a call may gather: block 0, which stands for the tables, or up to 32 blocks
 pub record IsAsked (need : Need) : Type 0 where
   pub first : need.first < 262144
@@ -73,6 +80,10 @@ phase_now core = phase_of core.stage (nat_lt 0 (insiders core.callers)) (length 
 -- a recovery meets a fault at its start of the file system, or at an operation that is done again
 abbrev pub MayMeetFault : Phase → Type 0
 MayMeetFault now = (now ≡ phase.Remount) ⊎ ((number : ℕ) × (now ≡ phase.Replay number))
+
+-- an operation is done again next
+abbrev pub MayReplayNow : Phase → Type 0
+MayReplayNow now = (number : ℕ) × (now ≡ phase.Replay number)
 
 -- the call with this ticket, of the least caller inside, was unwound
 pub record Unwinds {F D : Type 0} (old new : CoreState F D) (ticket : Ticket) : Type 0 where

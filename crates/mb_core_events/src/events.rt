@@ -4,16 +4,18 @@ ghost use Rattle.mb_core_spec.specs.Events.{GivesBack, ended, with_room};
 ghost use Rattle.mb_core_spec.specs.Right.{Right};
 ghost use Rattle.mb_core_spec.specs.State.{CallerState};
 ghost use Rattle.mb_core_state.specs.Answers.{Gathering, Leaving, Strikes};
+ghost use Rattle.mb_core_state.specs.Entering.{Enters};
 ghost use Rattle.mb_core_state.specs.Finishing.{Finishes};
-ghost use Rattle.mb_core_events.specs.Callings.{HasEntry, HasOpenCall, HoldsTicket, IsAsked, IsUnanswered, MayFinish};
+ghost use Rattle.mb_core_events.specs.Callings.{HasEntry, HasOpenCall, HoldsTicket, IsAsked, IsUnanswered, MayCall, MayFinish};
 
 use mb_callers::Pages;
 use mb_core_spec::Ready;
-use mb_core_state::{Fault, Fields, Finished, Gathered, Left};
+use mb_core_state::{Enter, Fault, Fields, Finished, Gathered, Left};
 use mb_edge::{Disk, Hook};
 use mb_iface::{FileSys, Need};
-use mb_kinds::{Kind, Ticket};
+use mb_kinds::{Call, Kind, Ticket};
 use mb_tables::{counts_follow_operations, tables_move};
+use mb_tree::call_allowed;
 use std::alloc::Global;
 use std::marker::Model;
 
@@ -42,6 +44,18 @@ impl<F: FileSys, D: Disk> Model for Core<F, D> {
 }
 
 impl<F: FileSys, D: Disk> Core<F, D> {
+    /// A call begins, or goes on, and goes inside where the volume runs. The answers come in the order `Done` of a call that
+    /// has its entry, `Shut`, `Done` of a volume that failed or of a call that met two faults of its own, `Inside`;
+    /// `NoMemory` may come in the place of any but the first, and nothing has changed then.
+    pub fn enter(&mut self, alloc: Global, caller: u8, call: &Call) -> Enter
+        requires { MayCall self.old caller call.now }
+        ensures enters { (mine : CallerState) → slice_get self.old.callers caller ≡ Some mine → Enters self.old self.new caller mine call.now result }
+        ensures right { Right D.told D.faults self.new }
+    {
+        call_allowed(call);
+        self.fields.enter(alloc, caller, call)
+    }
+
     /// A call without its entry gathers blocks, or at block 0 the tables: they are pinned, kept with the call and in its pages.
     /// `Skip` exactly where the ticket is of an earlier incarnation; `Device` only where the disk's count of faults rose, and
     /// the call has the entry `Device` then.

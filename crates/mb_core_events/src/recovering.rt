@@ -1,4 +1,4 @@
-ghost use Rattle.std.specs.Prelude.{◌≡◌, ◌<◌, ◌≤◌, ◌+◌, ℕ, length, Some, slice_get, IfOk, OnOk, OnErr, IsOk};
+ghost use Rattle.std.specs.Prelude.{◌≡◌, ◌<◌, ◌≤◌, ◌+◌, ℕ, length, Some, slice_get, IfErr, IfOk, IfSome, OnOk, OnErr, IsOk};
 ghost use Rattle.mb_kinds.specs.Image.{Image};
 ghost use Rattle.mb_kinds.specs.declared.entries.Flight.{Flight};
 ghost use Rattle.mb_tree.specs.Sessions.{counts};
@@ -6,18 +6,21 @@ ghost use Rattle.mb_cache.specs.Pages.{under};
 ghost use Rattle.mb_cache.specs.State.{Flushes};
 ghost use Rattle.mb_session.specs.OpenFiles.{TellsCounts};
 ghost use Rattle.mb_core_spec.specs.Events.{with_room};
-ghost use Rattle.mb_core_spec.specs.Recovery.{dropping, failing, flushing, reopening, resuming, sealing, striking_again};
+ghost use Rattle.mb_core_spec.specs.Recovery.{dropping, failing, flushing, remounting, reopening, resuming, sealing, striking_again};
 ghost use Rattle.mb_core_spec.specs.Right.{Right};
 ghost use Rattle.mb_core_spec.specs.State.{CallerState};
-ghost use Rattle.mb_core_events.specs.Callings.{HasCall, MayMeetFault, Unwinds, phase_now};
+ghost use Rattle.mb_core_state.specs.Redoing.{FailsStep, IsReplayed};
+ghost use Rattle.mb_oplog.specs.declared.oplogs.Logged.{Logged};
+ghost use Rattle.mb_core_events.specs.Callings.{HasCall, MayMeetFault, MayReplayNow, Unwinds, phase_now};
 
 use crate::events::Core;
-use mb_cache::Flushed;
+use mb_cache::{Flushed, ReadFault};
 use mb_core_spec::Stage;
 use mb_core_state::Phase;
 use mb_edge::{Disk, Hook, NoMemory};
 use mb_iface::FileSys;
 use mb_kinds::{Kind, Ticket};
+use mb_tables::counts_follow_operations;
 use std::alloc::Global;
 
 impl<F: FileSys, D: Disk> Core<F, D> {
@@ -83,6 +86,35 @@ impl<F: FileSys, D: Disk> Core<F, D> {
         ensures right { Right D.told D.faults self.new }
     {
         self.fields.give_up();
+    }
+
+    /// The file system is started anew, and block 1 is read. `Device` comes only where the disk's count of faults rose; the call
+    /// in flight of the caller `by` gets the entry `Device` then, where it has none.
+    pub fn remount(&mut self, by: Option<u8>) -> Result<(), ReadFault>
+        requires phase { phase_now self.old ≡ Phase.Remount }
+        requires by { IfSome by (λ caller. caller < length self.old.config.callers) }
+        ensures ok { OnOk result (self.new ≡ with_room (remounting self.old self.new.cache.disk) self.new) }
+        ensures err { IfErr result (FailsStep D.faults self.old self.new by) }
+        ensures told { D.told self.new.cache.disk ≡ D.told self.old.cache.disk }
+        ensures later { D.faults self.old.cache.disk ≤ D.faults self.new.cache.disk }
+        ensures right { Right D.told D.faults self.new }
+    {
+        self.fields.remount(by)
+    }
+
+    /// The next operation of the log is done again. `Device` comes only where the disk's count of faults rose; the call in flight
+    /// of the caller `by` gets the entry `Device` then, where it has none.
+    pub fn replay_one(&mut self, alloc: Global, by: Option<u8>) -> Result<(), ReadFault>
+        requires phase { MayReplayNow (phase_now self.old) }
+        requires by { IfSome by (λ caller. caller < length self.old.config.callers) }
+        ensures ok { OnOk result ((done : ℕ) (logged : Logged) → self.old.stage ≡ Stage.Restored done → slice_get self.old.journal.oplog done ≡ Some logged → IsReplayed D.told self.old self.new done logged) }
+        ensures err { IfErr result (FailsStep D.faults self.old self.new by) }
+        ensures told { D.told self.new.cache.disk ≡ D.told self.old.cache.disk }
+        ensures later { D.faults self.old.cache.disk ≤ D.faults self.new.cache.disk }
+        ensures right { Right D.told D.faults self.new }
+    {
+        counts_follow_operations();
+        self.fields.replay_one(alloc, by)
     }
 
     /// The open files become those of the last checkpoint's sessions. The only error is want of memory, and nothing has changed
