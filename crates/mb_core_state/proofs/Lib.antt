@@ -5,3 +5,4 @@ mod Held
 mod Loggings
 mod Missing
 mod Redoings
+mod Replays

@@ -3,3 +3,4 @@ pub mod Entering
 pub mod Finishing
 pub mod Redoing
 pub mod Rooms
+pub mod StateLaws

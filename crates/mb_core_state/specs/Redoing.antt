@@ -7,6 +7,7 @@ use Rattle.mb_edge.specs.Causes.{Rose}
 use Rattle.mb_edge.specs.Damage.{OpenCounts}
 use Rattle.mb_tree.specs.Views.{IsPart}
 use Rattle.mb_tree.specs.Volume.{IsVolume}
+use Rattle.mb_tree.specs.declared.operations.FsOp.{FsOp}
 use Rattle.mb_tree.specs.declared.trees.Tree.{Tree}
 use Rattle.mb_iface.specs.Acting.{Acts}
 use Rattle.mb_iface.specs.Changed.{AreChanges, ChangeList}
@@ -48,12 +49,12 @@ FailsStep faults old new by fault.Device = Rose (faults old.cache.disk) (faults 
 
 -- ---- an operation is done again
 
--- what a file system answers over blocks of what is seen
-pub record ActsAgain {D : Type 0} (told : D → Option Image) (cache : CacheState D) (opens : OpenCounts) (logged : Logged) (changes : ChangeList) : Type 0 where
+-- what a file system makes of an operation, over blocks of what is seen
+pub record ActsSeen {D : Type 0} (told : D → Option Image) (cache : CacheState D) (opens : OpenCounts) (op : FsOp) (pick : Option ℕ) (changes : ChangeList) : Type 0 where
   pub pages : ℕ → Option (List ℕ)
   pub picked : Option ℕ
   pub part : (view : Image) → seen told cache ≡ Some view → IsPart pages view.at
-  pub acts : (view : Image) (tree : Tree) → seen told cache ≡ Some view → IsVolume view tree → Acts pages view tree opens logged.op logged.pick (acted.Done changes picked)
+  pub acts : (view : Image) (tree : Tree) → seen told cache ≡ Some view → IsVolume view tree → Acts pages view tree opens op pick (acted.Done changes picked)
 
 -- the cache with the changes installed
 abbrev pub with_changes : {D : Type 0} → CacheState D → ChangeList → CacheState D
@@ -67,5 +68,5 @@ redoing core logged changes done = replaying core (with_changes core.cache chang
 pub record IsReplayed {F D : Type 0} (told : D → Option Image) (old new : CoreState F D) (done : ℕ) (logged : Logged) : Type 0 where
   pub changes : ChangeList
   pub are : AreChanges changes
-  pub acts : ActsAgain told old.cache old.tables.opens logged changes
+  pub acts : ActsSeen told old.cache old.tables.opens logged.op logged.pick changes
   pub event : new ≡ with_room (redoing (with_disk old new.cache.disk) logged changes done) new

@@ -1,14 +1,19 @@
--- What events ask of the pins, and what a fault leaves.
-use Rattle.std.specs.Prelude.{List, ℕ, ◌+◌, ◌≡◌, ◌≤◌, Some, slice_get}
+-- The cache of a core that begins, what events ask of the pins, and what a fault and a call that finishes leave.
+use Rattle.std.specs.Prelude.{List, [], ℕ, ◌+◌, ◌≡◌, ◌≤◌, Some, slice_get}
 use Rattle.mb_edge.specs.Damage.{Volatile, damaged}
 use Rattle.mb_edge.specs.declared.strokes.Stroke.{Stroke}
 use Rattle.mb_cache.specs.Stamps.{stamp_of}
+use Rattle.mb_cache.specs.State.{CacheRoom, CacheState}
 use Rattle.mb_core_spec.specs.Callers.{total}
 use Rattle.mb_core_spec.specs.Flights.{is_pin}
 use Rattle.mb_core_spec.specs.State.{CallerState, CoreState, JournalRoom}
 use Rattle.mb_journal.specs.Room.{KeepsRoom}
 use Rattle.mb_core_state.specs.declared.answers.Finished.{Finished}
 use Rattle.mb_core_state.specs.declared.answers.Finished.TheVariants as finished
+
+-- a disk with no page and no pin, of which nothing was installed
+abbrev pub fresh_cache : {D : Type 0} → D → CacheRoom → CacheState D
+fresh_cache disk room = record { disk = disk; sealed = []; current = []; stamps = []; pins = []; room = room }
 
 -- the pins that a caller's steps took are there to be given back
 abbrev pub HasPins : {F D : Type 0} → CoreState F D → ℕ → Type 0

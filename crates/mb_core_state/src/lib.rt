@@ -8,12 +8,14 @@
 //! The answers stand in `mb_core` too, under the same names, until the core for one caller goes.
 #![tactic(auto)]
 
+mod acting;
 mod answers;
 mod ending;
 mod entering;
 mod fields;
 mod finishing;
 mod gathering;
+mod laws;
 mod logging;
 mod readers;
 mod recovering;
@@ -22,3 +24,4 @@ mod striking;
 
 pub use answers::{Enter, Fault, Finished, Gathered, Left, Phase};
 pub use fields::Fields;
+pub use laws::replayed;

@@ -1,30 +1,22 @@
 ghost use Rattle.std.specs.Prelude.{◌≡◌, ◌<◌, ◌≤◌, ◌+◌, ℕ, true, false, None, Some, length, slice_get, OnOk, OnErr, IfOk, IfErr, IfSome, IsSome};
-ghost use Rattle.mb_kinds.specs.Image.{Image};
-ghost use Rattle.mb_tree.specs.Views.{IsPart};
-ghost use Rattle.mb_tree.specs.Volume.{IsVolume};
-ghost use Rattle.mb_tree.specs.declared.trees.Tree.{Tree};
-ghost use Rattle.mb_iface.specs.Acting.{Acts};
 ghost use Rattle.mb_iface.specs.Changed.{AreChanges};
-ghost use Rattle.mb_iface.specs.Needs.{ActsFor};
 ghost use Rattle.mb_oplog.specs.declared.oplogs.Logged.{Logged};
-ghost use Rattle.mb_cache.specs.State.{ReadHasCause, seen};
-ghost use Rattle.mb_callers.specs.Reads.{GathersSeen};
+ghost use Rattle.mb_cache.specs.State.{ReadHasCause};
 ghost use Rattle.mb_journal.specs.Room.{KeepsRoom};
-ghost use Rattle.mb_core_spec.specs.Copies.{shown};
 ghost use Rattle.mb_core_spec.specs.Events.{Leaves, with_room};
 ghost use Rattle.mb_core_spec.specs.Numbers.{open_flight};
 ghost use Rattle.mb_core_spec.specs.Recovery.{remounting};
 ghost use Rattle.mb_core_spec.specs.State.{CallerState};
 ghost use Rattle.mb_core_state.specs.Answers.{with_disk};
-ghost use Rattle.mb_core_state.specs.Redoing.{ActsAgain, EndsByDevice, FailsStep, HasOpenRoom, IsReplayed, redoing};
+ghost use Rattle.mb_core_state.specs.Redoing.{ActsSeen, EndsByDevice, FailsStep, HasOpenRoom, IsReplayed, redoing};
 ghost use Rattle.mb_core_state.specs.Rooms.{HasPins};
 
+use crate::acting::act_seen;
 use crate::fields::Fields;
 use mb_cache::ReadFault;
-use mb_callers::Blocks;
 use mb_core_spec::{Stage, Step};
 use mb_edge::{Disk, NoMemory};
-use mb_iface::{Acted, Changes, FileSys, Need};
+use mb_iface::{Changes, FileSys};
 use mb_kinds::Reply;
 use std::alloc::Global;
 
@@ -108,45 +100,24 @@ impl<F: FileSys, D: Disk> Fields<F, D> {
 // ---- an operation is done again
 
 impl<F: FileSys, D: Disk> Fields<F, D> {
-    /// What the file system answers to the operation at a place of the log, over these blocks.
-    fn act_over(&self, alloc: Global, blocks: &Blocks, done: u32) -> Acted
-        requires { done < length self.now.journal.oplog }
-        ensures need { ActsFor (shown blocks.now) result }
-        ensures acts { (logged : Logged) (image : Image) (tree : Tree) → slice_get self.now.journal.oplog done ≡ Some logged → IsPart (shown blocks.now) image.at → IsVolume image tree → Acts (shown blocks.now) image tree self.now.tables.opens logged.op logged.pick result }
-    {
-        let logged = self.journal.operation(done);
-        self.fs.act(alloc, blocks, self.tables.opens(), &logged.op, logged.pick)
-    }
-
-    /// Blocks that the file system lacks are gathered, as they are seen.
-    fn gather_again(&mut self, blocks: &mut Blocks, need: Need) -> Result<(), ReadFault>
-        requires first { need.first < 262144 }
-        requires count { need.count ≤ 32 }
-        ensures ok { OnOk result (GathersSeen (seen D.told self.old.cache) need.first need.count blocks.old blocks.new) }
-        ensures rest { self.new ≡ with_disk self.old self.new.cache.disk }
-        ensures told { D.told self.new.cache.disk ≡ D.told self.old.cache.disk }
-        ensures cause { ReadHasCause (D.faults self.old.cache.disk) (D.faults self.new.cache.disk) result }
-    {
-        blocks.gather(&mut self.cache, need)
-    }
-
     /// What the file system makes of the operation at a place of the log, over blocks as they are seen. An operation that
     /// it refuses, which comes on no disk that tells a volume, is answered as want of memory.
     fn act_again(&mut self, alloc: Global, done: u32) -> Result<Changes, ReadFault>
         requires { done < length self.old.journal.oplog }
-        ensures ok { IfOk result (λ changes. (logged : Logged) → slice_get self.old.journal.oplog done ≡ Some logged → ActsAgain D.told self.old.cache self.old.tables.opens logged changes) }
+        ensures ok { IfOk result (λ changes. (logged : Logged) → slice_get self.old.journal.oplog done ≡ Some logged → ActsSeen D.told self.old.cache self.old.tables.opens logged.op logged.pick changes) }
         ensures rest { self.new ≡ with_disk self.old self.new.cache.disk }
         ensures told { D.told self.new.cache.disk ≡ D.told self.old.cache.disk }
         ensures cause { ReadHasCause (D.faults self.old.cache.disk) (D.faults self.new.cache.disk) result }
     {
-        let mut blocks = Blocks::new(alloc);
-        'asks: loop {
-            match self.act_over(alloc, &blocks, done) {
-                Acted::Done { changes, pick: _ } => return Ok(changes),
-                Acted::Refused(_) | Acted::NoMemory => return Err(ReadFault::NoMemory),
-                Acted::Need(need) => self.gather_again(&mut blocks, need)?,
-            }
-        }
+        let logged = self.journal.operation(done);
+        act_seen(
+            alloc,
+            &self.fs,
+            &mut self.cache,
+            self.tables.opens(),
+            &logged.op,
+            logged.pick,
+        )
     }
 }
 
