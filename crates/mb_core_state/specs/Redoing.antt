@@ -1,5 +1,5 @@
 -- What the steps of a recovery that read come to: the start of the file system, and an operation of the log that is done again.
-use Rattle.std.specs.Prelude.{List, ℕ, ◌≡◌, Option, None, Some, slice_get}
+use Rattle.std.specs.Prelude.{List, ℕ, ◌<◌, ◌≡◌, Option, None, Some, slice_get}
 use Rattle.mb_kinds.specs.Image.{Image}
 use Rattle.mb_kinds.specs.declared.entries.Flight.{Flight}
 use Rattle.mb_kinds.specs.declared.replies.Reply.TheVariants as reply
@@ -28,19 +28,24 @@ use Rattle.mb_core_state.specs.Answers.{with_disk}
 
 -- ---- the disk fails in a step
 
+-- there is room for the entry of a caller's call in flight, where it has none
+abbrev pub HasOpenRoom : {F D : Type 0} → CoreState F D → ℕ → Type 0
+HasOpenRoom core caller = (mine : CallerState) (flight : Flight) → slice_get core.callers caller ≡ Some mine → open_flight mine.flight ≡ Some flight → 0 < core.journal.room.history
+
 abbrev pub EndsIf : {F D : Type 0} → CoreState F D → CoreState F D → ℕ → CallerState → Option Flight → Type 0
-EndsIf old new caller mine None = new ≡ with_room old new
+EndsIf old new caller mine None = (new ≡ with_room old new) × KeepsRoom old.journal.room new.journal.room
 EndsIf old new caller mine (Some flight) = (new ≡ with_room (answered_by old caller mine flight reply.Device new.cache.pins) new) × GivesBack old.cache.pins new.cache.pins mine.undo
+    × Leaves old.journal.room new.journal.room 0 1
 
 -- the call for which the step was made, where it has no entry, ends with the entry `Device`
 abbrev pub EndsByDevice : {F D : Type 0} → CoreState F D → CoreState F D → Option ℕ → Type 0
-EndsByDevice old new None = new ≡ with_room old new
+EndsByDevice old new None = (new ≡ with_room old new) × KeepsRoom old.journal.room new.journal.room
 EndsByDevice old new (Some caller) = (mine : CallerState) → slice_get old.callers caller ≡ Some mine → EndsIf old new caller mine (open_flight mine.flight)
 
 -- the recovery stands where it stood; where the disk failed its count of faults rose
 abbrev pub FailsStep : {F D : Type 0} → (D → ℕ) → CoreState F D → CoreState F D → Option ℕ → ReadFault → Type 0
 FailsStep faults old new by fault.NoMemory = (new ≡ with_room (with_disk old new.cache.disk) new) × KeepsRoom old.journal.room new.journal.room
-FailsStep faults old new by fault.Device = Rose (faults old.cache.disk) (faults new.cache.disk) × EndsByDevice (with_disk old new.cache.disk) new by × Leaves old.journal.room new.journal.room 0 1
+FailsStep faults old new by fault.Device = Rose (faults old.cache.disk) (faults new.cache.disk) × EndsByDevice (with_disk old new.cache.disk) new by
 
 -- ---- an operation is done again
 

@@ -35,6 +35,7 @@ impl<F: FileSys, D: Disk> Fields<F, D> {
         ensures told { D.told self.new.cache.disk ≡ D.told self.old.cache.disk }
         ensures later { D.faults self.old.cache.disk ≤ D.faults self.new.cache.disk }
         ensures room { Leaves self.old.journal.room self.new.journal.room 0 1 }
+        ensures kept { (result ≡ Gathered.Device → ⊥) → self.new.journal.room ≡ self.old.journal.room }
     {
         if ticket.incarnation != self.incarnation {
             return Gathered::Skip {

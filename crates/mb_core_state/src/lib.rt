@@ -17,6 +17,7 @@ mod finishing;
 mod gathering;
 mod laws;
 mod logging;
+mod readers;
 mod recovering;
 mod redoing;
 mod striking;

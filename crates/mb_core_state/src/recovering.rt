@@ -8,6 +8,7 @@ ghost use Rattle.mb_cache.specs.State.{Flushes};
 ghost use Rattle.mb_kinds.specs.Image.{Image};
 ghost use Rattle.mb_core_spec.specs.Callers.{insiders};
 ghost use Rattle.mb_core_state.specs.Answers.{phase_of};
+ghost use Rattle.mb_journal.specs.Room.{KeepsRoom};
 
 use crate::answers::Phase;
 use crate::fields::Fields;
@@ -102,6 +103,7 @@ impl<F: FileSys, D: Disk> Fields<F, D> {
         ensures err { OnErr result (self.new ≡ with_room self.old self.new) }
         ensures sure { 11 ≤ self.old.journal.room.trail → IsOk result }
         ensures marks { OnOk result ((10 ≤ self.new.journal.room.trail) × (self.old.journal.room.records ≤ self.new.journal.room.records)) }
+        ensures kept { OnErr result (KeepsRoom self.old.journal.room self.new.journal.room) }
         ensures room { self.old.journal.room.history ≤ self.new.journal.room.history }
     {
         self.journal.reserve_steps(11)?;

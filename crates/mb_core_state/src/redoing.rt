@@ -8,7 +8,7 @@ ghost use Rattle.mb_core_spec.specs.Numbers.{open_flight};
 ghost use Rattle.mb_core_spec.specs.Recovery.{remounting};
 ghost use Rattle.mb_core_spec.specs.State.{CallerState};
 ghost use Rattle.mb_core_state.specs.Answers.{with_disk};
-ghost use Rattle.mb_core_state.specs.Redoing.{ActsSeen, EndsByDevice, FailsStep, IsReplayed, redoing};
+ghost use Rattle.mb_core_state.specs.Redoing.{ActsSeen, EndsByDevice, FailsStep, HasOpenRoom, IsReplayed, redoing};
 ghost use Rattle.mb_core_state.specs.Rooms.{HasPins};
 
 use crate::acting::act_seen;
@@ -40,7 +40,7 @@ impl<F: FileSys, D: Disk> Fields<F, D> {
     fn end_by_device(&mut self, by: Option<u8>)
         requires caller { IfSome by (λ caller. caller < length self.old.callers) }
         requires pins { IfSome by (HasPins self.old) }
-        requires room { 0 < self.old.journal.room.history }
+        requires room { IfSome by (HasOpenRoom self.old) }
         ensures ends { EndsByDevice self.old self.new by }
         ensures disk { self.new.cache.disk ≡ self.old.cache.disk }
         ensures room { Leaves self.old.journal.room self.new.journal.room 0 1 }
@@ -79,7 +79,7 @@ impl<F: FileSys, D: Disk> Fields<F, D> {
     pub fn remount(&mut self, by: Option<u8>) -> Result<(), ReadFault>
         requires caller { IfSome by (λ caller. caller < length self.old.callers) }
         requires pins { IfSome by (HasPins self.old) }
-        requires room { 0 < self.old.journal.room.history }
+        requires room { IfSome by (HasOpenRoom self.old) }
         ensures ok { OnOk result (self.new ≡ with_room (remounting self.old self.new.cache.disk) self.new) }
         ensures err { IfErr result (FailsStep D.faults self.old self.new by) }
         ensures told { D.told self.new.cache.disk ≡ D.told self.old.cache.disk }
@@ -193,7 +193,7 @@ impl<F: FileSys, D: Disk> Fields<F, D> {
         requires few { length self.old.journal.oplog < 4294967296 }
         requires caller { IfSome by (λ caller. caller < length self.old.callers) }
         requires pins { IfSome by (HasPins self.old) }
-        requires room { 0 < self.old.journal.room.history }
+        requires room { IfSome by (HasOpenRoom self.old) }
         ensures ok { OnOk result ((done : ℕ) (logged : Logged) → self.old.stage ≡ Stage.Restored done → slice_get self.old.journal.oplog done ≡ Some logged → IsReplayed D.told self.old self.new done logged) }
         ensures err { IfErr result (FailsStep D.faults self.old self.new by) }
         ensures told { D.told self.new.cache.disk ≡ D.told self.old.cache.disk }
