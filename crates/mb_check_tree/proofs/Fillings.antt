@@ -1,6 +1,8 @@
 -- A map that is filled in the order of its numbers: holes, one value more, and a level of index blocks.
 use Rattle.std.proofs.Common.{◌≡◌, ◌⊎◌, inl, inr, ℕ, zero, suc, ◌+◌, ◌-◌, ◌*◌, ◌/◌, ◌%◌, ◌<◌, ◌≤◌, List, Option, Some, None, refl, sym, ap, subst, ◌∙◌, arith}
 use Rattle.std.specs.FinMap as fin
+use Rattle.std.specs.FinMap.{get-empty}
+use Rattle.std.specs.Ordering.{nat_cmp}
 use Rattle.std.proofs.lemmas.Bool.{cases_lt}
 use Rattle.std.proofs.lemmas.Bool.Decides.{eqb_tells}
 use Rattle.mb_word.specs.Fields.{index_entry}
@@ -78,3 +80,6 @@ module _ (blocks : ℕ → List ℕ) where
       ∙ ap (λ p. entry_in blocks (entry_in blocks (entry_in blocks address p) (k / 128)) (k % 128)) (let e : place ≡ part / 16384 = omega (arith, here, low) in e)
       ∙ ap (λ p. entry_in blocks (entry_in blocks (entry_in blocks address (part / 16384)) p) (k % 128)) (let e : k / 128 ≡ part / 128 % 128 = omega (arith, here, low) in e)
       ∙ ap (λ p. entry_in blocks (entry_in blocks (entry_in blocks address (part / 16384)) (part / 128 % 128)) p) (let e : k % 128 ≡ part % 128 = omega (arith, here, low) in e)
+
+pub none_below : {X : Type 0} (value : ℕ → Option X) → HasBelow fin.empty 0 value
+none_below {X} value = record { below = λ p low. absurd (omega (arith, low)); past = λ p far. get-empty {X = X} nat_cmp p }

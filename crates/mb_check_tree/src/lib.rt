@@ -2,6 +2,6 @@
 //! So far the parts of one file.
 #![tactic(auto)]
 
-mod file_parts;
+mod parts;
 
-
+pub use parts::file_parts;

@@ -6,7 +6,7 @@ use Rattle.mb_check_files.proofs.UnderIndexes.{hole_single}
 use Rattle.mb_check_files.proofs.Underways.{told_of}
 use Rattle.mb_check_tree.specs.Filling.{HasBelow}
 use Rattle.mb_check_tree.proofs.Fillings.{entry_read, hole_fills, inner_double, inner_single, level_more}
-use Rattle.mb_check_tree.proofs.file_parts.single.Goals as goal
+use Rattle.mb_check_tree.proofs.parts.single.Goals as goal
 
 pub returns-then-address-eq0-clause-fills : goal.returns-then-address-eq0-clause-fills
 returns-then-address-eq0-clause-fills g c = if_told (g.D.Disk.told c.args.disk.now) _ (λ image told.

@@ -41,7 +41,7 @@ fn single<D: Disk>(
     number: u32,
     address: u32,
 ) -> Result<(), Stop>
-    requires { number ≤ 2113674 }
+    requires { number ≤ 4000000 }
     ensures fills { OnOk result (IfSome (D.told disk.old) (λ image. Fills image.at parts.old parts.new number 128 (under_single image.at address))) }
     ensures unbroken { IsBroken result → ⊥ }
     ensures told { D.told disk.new ≡ D.told disk.old }
@@ -99,7 +99,7 @@ fn triple<D: Disk>(
     number: u32,
     address: u32,
 ) -> Result<(), Stop>
-    requires { number ≤ 2113674 }
+    requires { number ≤ 16522 }
     ensures fills { OnOk result (IfSome (D.told disk.old) (λ image. Fills image.at parts.old parts.new number 2097152 (under_triple image.at address))) }
     ensures unbroken { IsBroken result → ⊥ }
     ensures told { D.told disk.new ≡ D.told disk.old }

@@ -3,7 +3,7 @@ use Rattle.mb_tree.specs.Blocks.{bytes_at}
 use Rattle.mb_check.specs.SlotTests.{IsBroken}
 use Rattle.mb_check_files.specs.Indexes.{under_triple}
 use Rattle.mb_check_tree.specs.Filling.{HasBelow}
-use Rattle.mb_check_tree.proofs.file_parts.triple.Given as goal
+use Rattle.mb_check_tree.proofs.parts.triple.Given as goal
 
 -- what the addresses so far lead to stands in the map
 abbrev pub invariant-loop-place : goal.invariant-loop-place
