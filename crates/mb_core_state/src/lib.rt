@@ -25,4 +25,4 @@ mod striking;
 
 pub use answers::{Enter, Fault, Finished, Gathered, Left, Phase};
 pub use fields::Fields;
-pub use laws::replayed;
+pub use laws::{entered, replayed};
