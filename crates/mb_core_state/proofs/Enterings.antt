@@ -28,7 +28,7 @@ waiting_begins core caller mine given none = ap (waiting_if core caller mine giv
 
 -- ---- what waiting leaves of a caller
 
-set_here : (callers : List CallerState) (at : ℕ) (old new : CallerState) → slice_get callers at ≡ Some old → slice_get (slice_set callers at new) at ≡ Some new
+pub set_here : (callers : List CallerState) (at : ℕ) (old new : CallerState) → slice_get callers at ≡ Some old → slice_get (slice_set callers at new) at ≡ Some new
 set_here [] at old new has = absurd (let no : None ≡ Some old = has in cc)
 set_here (one ∷ callers) zero old new has = refl
 set_here (one ∷ callers) (suc at) old new has = set_here callers at old new has

@@ -1,4 +1,5 @@
 mod Damaging
+mod GoneIn
 mod Enterings
 mod Gatherings
 mod Held

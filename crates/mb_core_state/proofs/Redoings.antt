@@ -1,6 +1,10 @@
 -- An operation of the log is done again.
 use Rattle.std.proofs.Common.{◌<◌, ◌≡◌, ◌∙◌, ℕ, List, false, true, Option, None, Some, IfSome, IsSome, Result, Ok, Err, OnOk, refl, slice_get, ap, sym, subst, arith}
 use Rattle.mb_kinds.specs.Image.{Image}
+use Rattle.mb_edge.specs.Damage.{OpenCounts}
+use Rattle.mb_tree.specs.Sweep.{opens_of_list}
+use Rattle.mb_tree.specs.declared.operations.FsOp.TheVariants.{Release}
+use Rattle.mb_session.specs.OpenFiles.{TellsCounts}
 use Rattle.mb_iface.specs.Changed.{AreChanges, ChangeList}
 use Rattle.mb_oplog.specs.declared.oplogs.Logged.{Logged}
 use Rattle.mb_kinds.specs.declared.entries.Flight.{Flight}
@@ -10,6 +14,7 @@ use Rattle.mb_core_spec.specs.Events.{GivesBack, Leaves, answered_by, with_room}
 use Rattle.mb_core_spec.specs.Numbers.{open_flight}
 use Rattle.mb_core_spec.specs.State.{CallerState, CoreState}
 use Rattle.mb_core_state.specs.Answers.{with_disk}
+use Rattle.mb_core_state.specs.Opening.{ActsOnNameless}
 use Rattle.mb_core_state.specs.Redoing.{ActsSeen, EndsIf, HasOpenRoom, IsReplayed, redoing}
 
 -- what the file system answered, and what it made of the core
@@ -57,3 +62,13 @@ on_ok (Err e) P Q then_q h = h
 
 pub redoing_after : {F D : Type 0} (old mid new : CoreState F D) (logged : Logged) (changes : ChangeList) (done : ℕ) → mid ≡ with_room old mid → new ≡ with_room (redoing mid logged changes done) new → new ≡ with_room (redoing old logged changes done) new
 redoing_after {F} {D} old mid new logged changes done same event = event ∙ ap (λ (core : CoreState F D). with_room (redoing core logged changes done) new) same
+
+-- ---- the nameless files
+
+pub nameless_acts : {F D : Type 0} (told : D → Option Image) (held old : CoreState F D) (given inos : List ℕ) (opens : OpenCounts) (changes : ChangeList) → held ≡ old → given ≡ inos → TellsCounts opens (opens_of_list given)
+    → ActsSeen told held.cache opens (Release inos) None changes → ActsOnNameless told old.cache inos changes
+nameless_acts {F} {D} told held old given inos opens changes same is counted acts = record {
+  opens = opens;
+  counted = subst (λ list. TellsCounts opens (opens_of_list list)) is counted;
+  acts = subst (λ (core : CoreState F D). ActsSeen told core.cache opens (Release inos) None changes) same acts;
+}

@@ -1,4 +1,4 @@
-ghost use Rattle.mb_core_state.specs.StateLaws.{OperationReplayed};
+ghost use Rattle.mb_core_state.specs.StateLaws.{CallEnteredAgain, CallEnteredNew, OperationReplayed};
 
 use mb_cache::installs;
 use mb_edge::Disk;
@@ -12,3 +12,10 @@ pub fn replayed<F, D: Disk>()
     installs();
     counts_follow_operations();
 }
+
+/// A call that went inside is the core's event, with what that event asks: one that was in flight entered, and a new one
+/// began and entered.
+pub fn entered<F, D: Disk>()
+    ensures again { CallEnteredAgain F D }
+    ensures new { CallEnteredNew F D }
+{}

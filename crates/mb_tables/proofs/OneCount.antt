@@ -1,10 +1,12 @@
 -- One count set, one open file more or less, against the counts of the reference model.
-use Rattle.std.proofs.Common.{◌≡◌, ◌≢◌, inl, inr, ℕ, ◌+◌, ◌-◌, ◌^◌, ◌<◌, min, Bool, true, false, cond, if◌then◌else◌, List, [], ◌∷◌, Option, Some, None, unwrap_or, nat_eq, refl, sym, ap, ◌∙◌, arith}
+use Rattle.std.proofs.Common.{◌≡◌, ◌≢◌, inl, inr, ℕ, ◌+◌, ◌-◌, ◌^◌, ◌<◌, ◌≤◌, min, Bool, true, false, cond, if◌then◌else◌, List, [], ◌∷◌, drop, length, slice_get, Option, Some, None, unwrap_or, nat_eq, refl, sym, ap, ◌∙◌, arith}
 use Rattle.std.proofs.lemmas.Bool.Decides.{nat_tests}
-use Rattle.std.proofs.lemmas.List.Sums.{sum_by-cons}
+use Rattle.std.proofs.lemmas.List.Sums.{count_by-le-length, sum_by-cons}
 use Rattle.std.specs.Prelude.{count_by}
 use Rattle.std.specs.FinMap as fin
+use Rattle.std.specs.Ordering.{nat_cmp}
 use Rattle.mb_edge.specs.Damage.{OpenCounts}
+use Rattle.mb_cache.proofs.PageLoops.{next_first}
 use Rattle.mb_iface.proofs.CountMaps.{with_none, with_some}
 use Rattle.mb_iface.specs.OpenCounts.{AreCounts, count_of, with_count}
 use Rattle.mb_tree.proofs.FiniteMaps.{one_or_not, same, get_here, get_there, gone_here, gone_there}
@@ -79,3 +81,25 @@ none_less opens ino count above is none =
       | inl here ↦ ap (fin.get opens) here ∙ absent ∙ sym (gone_here opens ino) ∙ ap (fin.get (fin.remove opens ino)) (sym here)
       | inr apart ↦ sym (gone_there opens ino other apart)
     ]) ∙ sym gone
+
+-- ---- an open file for each of a list
+
+count_first : (ino x : ℕ) (rest : List ℕ) (test : Bool) → nat_eq ino x ≡ test → count_by (nat_eq ino) (x ∷ rest) ≡ cond test 1 0 + count_by (nat_eq ino) rest
+count_first ino x rest test is = sum_by-cons (λ y. cond (nat_eq ino y) 1 0) x rest ∙ ap (λ b. cond b 1 0 + count_by (nat_eq ino) rest) is
+
+pub counted_more : (opens new : OpenCounts) (inos : List ℕ) (at x : ℕ) → ((ino : ℕ) → count_of opens ino + count_by (nat_eq ino) (drop at inos) ≡ count_by (nat_eq ino) inos) → slice_get inos at ≡ Some x → length inos < 4294967296
+    → new ≡ held_once_more opens x → (ino : ℕ) → count_of new ino + count_by (nat_eq ino) (drop (at + 1) inos) ≡ count_by (nat_eq ino) inos
+counted_more opens new inos at x so_far here few one ino =
+    let rest = drop (at + 1) inos in
+    let first : drop at inos ≡ x ∷ rest = next_first inos at x here in
+    let own : count_by (nat_eq x) (drop at inos) ≡ 1 + count_by (nat_eq x) rest = ap (count_by (nat_eq x)) first ∙ count_first x x rest true (grind (arith, nat_tests)) in
+    let most : count_by (nat_eq x) inos ≤ length inos = count_by-le-length (nat_eq x) inos in
+    let low : count_of opens x < 4294967295 = (let sum = so_far x in omega (arith, sum, own, most, few)) in
+    let held : count_of new ino ≡ hold (count_of opens) x ino = ap (λ o. count_of o ino) one ∙ hold_counts opens (count_of opens) x (λ other. refl) low ino in
+    elim (one_or_not ino x) [
+      | inl is ↦ (let more = hold_here (count_of opens) x ino is in let count = ap (count_by (nat_eq ino)) first ∙ count_first ino x rest true (grind (arith, nat_tests, is)) in let sum = so_far ino in omega (arith, held, more, count, sum))
+      | inr apart ↦ (let same = hold_there (count_of opens) x ino apart in let count = ap (count_by (nat_eq ino)) first ∙ count_first ino x rest false (grind (arith, nat_tests, apart)) in let sum = so_far ino in omega (arith, held, same, count, sum))
+    ]
+
+pub nothing_counted : (ino : ℕ) → count_of fin.empty ino ≡ 0
+nothing_counted ino = ap (λ (o : Option ℕ). unwrap_or o 0) (fin.get-empty {X = ℕ} nat_cmp ino)
