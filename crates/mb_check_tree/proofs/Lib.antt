@@ -1,3 +1,4 @@
 pub mod Fillings
+pub mod NodesRead
 pub mod SlotListings
 pub mod WholeFiles

@@ -1,10 +1,12 @@
 //! The reference model's machine of a volume, read from its disk: the tree that the bytes show, and a session of each caller.
-//! So far the parts of one file,
-//! and the slots of one directory.
+//! So far one inode
+//! with all that it holds.
 #![tactic(auto)]
 
 mod listings;
+mod nodes;
 mod parts;
 
 pub use listings::directory_slots;
+pub use nodes::node;
 pub use parts::file_parts;
