@@ -8,5 +8,5 @@ mod nodes;
 mod parts;
 
 pub use listings::directory_slots;
-pub use nodes::node;
+pub use nodes::{node, swept_nodes};
 pub use parts::file_parts;
