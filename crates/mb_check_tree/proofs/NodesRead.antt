@@ -1,7 +1,7 @@
 -- An inode that was read, with all that it holds.
-use Rattle.std.proofs.Common.{◌≡◌, ℕ, zero, suc, ◌+◌, ◌-◌, ◌*◌, ◌/◌, ◌%◌, ◌<◌, ◌≤◌, List, Bool, true, false, nat_eq, if◌then◌else◌, Option, Some, None, length, refl, sym, ap, subst, ◌∙◌, arith}
+use Rattle.std.proofs.Common.{◌≡◌, ℕ, ◌≤◌, List, Bool, true, false, nat_eq, if◌then◌else◌, Some, None, length, refl, sym, ap, subst, ◌∙◌, arith}
 use Rattle.std.proofs.lemmas.Bool.Decides.{nat_tests}
-use Rattle.mb_word.specs.Fields.{inode_block, inode_place, mode_of, size_of, area_of}
+use Rattle.mb_word.specs.Fields.{inode_block, inode_place, area_of}
 use Rattle.mb_layout.specs.Inode.{dinode_at}
 use Rattle.mb_layout.specs.declared.dinodes.Dinode.{Dinode}
 use Rattle.mb_tree.specs.Inodes.{is_directory, is_regular}

@@ -1,5 +1,5 @@
 -- The slots of a directory, one more and all.
-use Rattle.std.proofs.Common.{◌≡◌, ℕ, ◌+◌, ◌*◌, ◌/◌, ◌<◌, ◌≤◌, List, [], ◌∷◌, ◌++◌, true, map, if◌then◌else◌, refl, sym, ap, subst, ◌∙◌, arith}
+use Rattle.std.proofs.Common.{◌≡◌, ℕ, ◌+◌, ◌*◌, ◌/◌, ◌<◌, ◌≤◌, List, [], ◌∷◌, ◌++◌, true, map, refl, sym, ap, ◌∙◌, arith}
 use Rattle.std.specs.List.{range_with_len}
 use Rattle.std.proofs.lemmas.List.FromFn.{map-range_with_len_more}
 use Rattle.mb_layout.specs.SlotEntry.{slot_at}
@@ -7,7 +7,6 @@ use Rattle.mb_layout.specs.declared.slots.Slot.{Slot}
 use Rattle.mb_tree.specs.Blocks.{part_bytes, slot_in}
 use Rattle.mb_tree.specs.Inodes.{is_directory}
 use Rattle.mb_tree.specs.declared.nodes.PlainSlot.{PlainSlot}
-use Rattle.mb_rules.specs.Files.{mode_at, size_at}
 use Rattle.mb_rules.specs.Slots.{slots_at}
 use Rattle.mb_scan_laws.proofs.ShownTrees.{slots_by}
 use Rattle.mb_check_files.specs.declared.inodes.InodeKept.{InodeKept}

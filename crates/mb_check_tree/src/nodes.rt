@@ -17,8 +17,8 @@ use crate::parts::file_parts;
 use mb_check::kept_of;
 use mb_check_files::{InodeTable, Stop};
 use mb_edge::Disk;
-use mb_layout::{Dinode, inode_block, inode_place};
 use mb_kinds::NoMemory;
+use mb_layout::{Dinode, inode_block, inode_place};
 use mb_tree::{Body, Node, Nodes, is_directory, is_regular};
 use std::alloc::Global;
 

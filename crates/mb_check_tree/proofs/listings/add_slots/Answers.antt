@@ -1,4 +1,4 @@
-use Rattle.std.proofs.Common.{◌≡◌, ℕ, ◌+◌, ◌*◌, ◌<◌, ap, sym, ◌∙◌, arith}
+use Rattle.std.proofs.Common.{◌≡◌, ◌+◌, ◌*◌, ◌<◌, ap, ◌∙◌, arith}
 use Rattle.mb_check_tree.specs.Listings.{first_slots}
 use Rattle.mb_check_tree.proofs.SlotListings.{first_read}
 use Rattle.mb_check_tree.proofs.listings.add_slots.Goals as goal

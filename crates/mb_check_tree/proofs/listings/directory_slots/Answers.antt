@@ -1,5 +1,5 @@
-use Rattle.std.proofs.Common.{◌≡◌, ℕ, ◌+◌, ◌*◌, ◌/◌, ◌<◌, ◌≤◌, refl, ap, sym, ◌∙◌, arith}
-use Rattle.mb_check.specs.Directories.{slots_before, slots_in_part}
+use Rattle.std.proofs.Common.{◌+◌, ◌*◌, ◌/◌, ◌<◌, ◌≤◌, refl, ap, sym, ◌∙◌, arith}
+use Rattle.mb_check.specs.Directories.{slots_before}
 use Rattle.mb_check_files.proofs.Listing.{if_told}
 use Rattle.mb_check_files.proofs.Underways.{told_of}
 use Rattle.mb_check.proofs.PartReads.{before_is, next_before}

@@ -1,5 +1,4 @@
-use Rattle.std.proofs.Common.{◌≡◌, ℕ, ◌+◌, Some, ap, sym, subst, ◌∙◌}
-use Rattle.mb_check_tree.specs.Filling.{HasBelow}
+use Rattle.std.proofs.Common.{ap, sym, ◌∙◌}
 use Rattle.mb_check_tree.specs.Sweeping.{kept_node}
 use Rattle.mb_check_tree.proofs.SweptNodes.{kept_added}
 use Rattle.mb_check_tree.proofs.nodes.add_node.Goals as goal

@@ -1,5 +1,4 @@
-use Rattle.std.proofs.Common.{◌≡◌, ℕ, List, ap, sym, ◌∙◌}
-use Rattle.mb_layout.specs.Inode.{dinode_at}
+use Rattle.std.proofs.Common.{◌∙◌}
 use Rattle.mb_check_files.proofs.Listing.{if_told, given}
 use Rattle.mb_check_files.proofs.Underways.{told_of}
 use Rattle.mb_check_tree.proofs.NodesRead.{free_node, read_as, used_node}

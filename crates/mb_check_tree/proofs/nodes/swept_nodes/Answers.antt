@@ -1,4 +1,4 @@
-use Rattle.std.proofs.Common.{◌≡◌, ℕ, ◌+◌, ◌≤◌, refl, ap, sym, ◌∙◌, arith}
+use Rattle.std.proofs.Common.{◌≡◌, ◌+◌, refl, ap, sym, ◌∙◌, arith}
 use Rattle.mb_tree.specs.Volume.{last_inode}
 use Rattle.mb_check_files.proofs.Listing.{if_told}
 use Rattle.mb_check_files.proofs.Underways.{told_of}

@@ -1,4 +1,4 @@
-use Rattle.std.proofs.Common.{ℕ, ◌≡◌, ◌≤◌, ◌+◌, IfSome}
+use Rattle.std.proofs.Common.{◌≡◌, ◌≤◌, ◌+◌, IfSome}
 use Rattle.mb_tree.specs.Volume.{last_inode}
 use Rattle.mb_check.specs.Directories.{KeepsAll}
 use Rattle.mb_check_tree.specs.Filling.{HasBelow}
