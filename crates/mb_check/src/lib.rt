@@ -20,6 +20,7 @@ mod slots;
 mod tallies;
 
 pub use names::NameSet;
+pub use parts::{kept_of, parts_of, read_part, slots_of_part};
 pub use reaching::Reach;
 pub use scans::{OpenFault, Scan, sound};
 pub use tallies::{Late, SlotCounts, Tally};

@@ -1,5 +1,5 @@
 -- A map that is filled in the order of its numbers: holes, one value more, and a level of index blocks.
-use Rattle.std.proofs.Common.{◌≡◌, ◌⊎◌, inl, inr, ℕ, zero, suc, ◌+◌, ◌-◌, ◌*◌, ◌/◌, ◌%◌, ◌<◌, ◌≤◌, List, Option, Some, None, refl, sym, ap, subst, ◌∙◌, arith}
+use Rattle.std.proofs.Common.{◌≡◌, inl, inr, ℕ, zero, suc, ◌+◌, ◌-◌, ◌*◌, ◌/◌, ◌%◌, ◌<◌, ◌≤◌, List, Option, Some, None, refl, sym, ap, subst, ◌∙◌, arith}
 use Rattle.std.specs.FinMap as fin
 use Rattle.std.specs.FinMap.{get-empty}
 use Rattle.std.specs.Ordering.{nat_cmp}
@@ -64,8 +64,8 @@ module _ (blocks : ℕ → List ℕ) where
       → HasBelow new next value
   level_more m mid new number here next width size inner outer value step from room has fills same each =
       subst (λ n. HasBelow new n value) step (fills value has (λ k low.
-          (let e : here + k ≡ number + (here - number + k) = omega (arith, from) in ap value e)
-          ∙ each (here - number + k) (omega (arith, low, step, from, room)) ∙ ap (bytes_at blocks) (sym (same k low))))
+      (let e : here + k ≡ number + (here - number + k) = omega (arith, from) in ap value e)
+      ∙ each (here - number + k) (omega (arith, low, step, from, room)) ∙ ap (bytes_at blocks) (sym (same k low))))
 
   -- an address under a double and a triple index block, by the index block below
   pub inner_single : (address next place k part : ℕ) → next ≡ entry_in blocks address place → k < 128 → part ≡ 128 * place + k → under_single blocks next k ≡ under_double blocks address part

@@ -1,5 +1,5 @@
 -- The parts of a file, by their addresses; a map that has them all is the one that the bytes show.
-use Rattle.std.proofs.Common.{◌≡◌, ◌⊎◌, inl, inr, ℕ, ◌+◌, ◌-◌, ◌*◌, ◌/◌, ◌%◌, ◌<◌, ◌≤◌, List, true, false, nat_lt, cond, map, Option, Some, None, refl, sym, ap, subst, ◌∙◌, arith}
+use Rattle.std.proofs.Common.{◌≡◌, inl, inr, ℕ, ◌+◌, ◌<◌, ◌≤◌, List, true, false, nat_lt, cond, map, None, sym, ap, ◌∙◌, arith}
 use Rattle.std.specs.FinMap as fin
 use Rattle.std.specs.List.{range_with_len}
 use Rattle.std.proofs.lemmas.Bool.{cases_lt}
@@ -11,7 +11,7 @@ use Rattle.mb_tree.specs.Cost.{most_parts}
 use Rattle.mb_tree.specs.Maps.{Numbered}
 use Rattle.mb_tree.proofs.CellMaps.{get_cells}
 use Rattle.mb_tree.proofs.FiniteMaps.{same}
-use Rattle.mb_rules.specs.TreeOf.{parts_at, parts_below}
+use Rattle.mb_rules.specs.TreeOf.{parts_below}
 use Rattle.mb_scan_laws.proofs.RowsOf.{cell_past, cell_row}
 use Rattle.mb_check_files.specs.Indexes.{under_double, under_single, under_triple}
 use Rattle.mb_check_files.specs.InodeTables.{ReadsInode}

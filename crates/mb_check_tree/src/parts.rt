@@ -14,12 +14,7 @@ use mb_tree::Parts;
 use std::alloc::Global;
 
 /// The part of that number, at an address; address 0 is a hole.
-fn part<D: Disk>(
-    disk: &mut D,
-    parts: &mut Parts,
-    number: u32,
-    address: u32,
-) -> Result<(), Stop>
+fn part<D: Disk>(disk: &mut D, parts: &mut Parts, number: u32, address: u32) -> Result<(), Stop>
     ensures fills { OnOk result (IfSome (D.told disk.old) (λ image. Fills image.at parts.old parts.new number 1 (λ _. address))) }
     ensures unbroken { IsBroken result → ⊥ }
     ensures told { D.told disk.new ≡ D.told disk.old }
@@ -35,12 +30,7 @@ fn part<D: Disk>(
 }
 
 /// The parts from that number on under the address of a single index block, which may be a hole.
-fn single<D: Disk>(
-    disk: &mut D,
-    parts: &mut Parts,
-    number: u32,
-    address: u32,
-) -> Result<(), Stop>
+fn single<D: Disk>(disk: &mut D, parts: &mut Parts, number: u32, address: u32) -> Result<(), Stop>
     requires { number ≤ 4000000 }
     ensures fills { OnOk result (IfSome (D.told disk.old) (λ image. Fills image.at parts.old parts.new number 128 (under_single image.at address))) }
     ensures unbroken { IsBroken result → ⊥ }
@@ -64,12 +54,7 @@ fn single<D: Disk>(
 }
 
 /// The parts from that number on under the address of a double index block, which may be a hole.
-fn double<D: Disk>(
-    disk: &mut D,
-    parts: &mut Parts,
-    number: u32,
-    address: u32,
-) -> Result<(), Stop>
+fn double<D: Disk>(disk: &mut D, parts: &mut Parts, number: u32, address: u32) -> Result<(), Stop>
     requires { number ≤ 2113674 }
     ensures fills { OnOk result (IfSome (D.told disk.old) (λ image. Fills image.at parts.old parts.new number 16384 (under_double image.at address))) }
     ensures unbroken { IsBroken result → ⊥ }
@@ -93,12 +78,7 @@ fn double<D: Disk>(
 }
 
 /// The parts from that number on under the address of a triple index block, which may be a hole.
-fn triple<D: Disk>(
-    disk: &mut D,
-    parts: &mut Parts,
-    number: u32,
-    address: u32,
-) -> Result<(), Stop>
+fn triple<D: Disk>(disk: &mut D, parts: &mut Parts, number: u32, address: u32) -> Result<(), Stop>
     requires { number ≤ 16522 }
     ensures fills { OnOk result (IfSome (D.told disk.old) (λ image. Fills image.at parts.old parts.new number 2097152 (under_triple image.at address))) }
     ensures unbroken { IsBroken result → ⊥ }

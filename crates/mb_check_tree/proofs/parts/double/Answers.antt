@@ -1,11 +1,10 @@
-use Rattle.std.proofs.Common.{◌≡◌, ℕ, List, Option, refl, ap, sym, subst, ◌∙◌, ◌+◌, ◌-◌, ◌*◌, ◌<◌, ◌≤◌, arith}
-use Rattle.mb_tree.specs.Blocks.{entry_in}
-use Rattle.mb_check_files.specs.Indexes.{under_double, under_single, under_triple}
+use Rattle.std.proofs.Common.{◌≡◌, subst, ◌∙◌, ◌+◌, ◌*◌, arith}
+use Rattle.mb_check_files.specs.Indexes.{under_double, under_single}
 use Rattle.mb_check_files.proofs.Listing.{if_told, given}
 use Rattle.mb_check_files.proofs.UnderIndexes.{hole_double}
 use Rattle.mb_check_files.proofs.Underways.{told_of}
 use Rattle.mb_check_tree.specs.Filling.{HasBelow}
-use Rattle.mb_check_tree.proofs.Fillings.{entry_read, hole_fills, inner_double, inner_single, level_more}
+use Rattle.mb_check_tree.proofs.Fillings.{entry_read, hole_fills, inner_single, level_more}
 use Rattle.mb_check_tree.proofs.parts.double.Goals as goal
 
 pub returns-then-address-eq0-clause-fills : goal.returns-then-address-eq0-clause-fills

@@ -1,7 +1,7 @@
-use Rattle.std.proofs.Common.{◌≡◌, ℕ, List, Option, refl, ap, sym, subst, ◌∙◌, ◌+◌, ◌<◌, ◌≤◌, arith}
+use Rattle.std.proofs.Common.{◌≡◌, ℕ, List, Option, refl, ap, sym, subst, ◌∙◌, ◌+◌, arith}
 use Rattle.mb_tree.specs.Blocks.{bytes_at, part_in}
 use Rattle.mb_tree.specs.Cost.{most_parts}
-use Rattle.mb_check_files.proofs.Listing.{if_told, given}
+use Rattle.mb_check_files.proofs.Listing.{if_told}
 use Rattle.mb_check_files.proofs.Underways.{told_of}
 use Rattle.mb_check_tree.specs.Filling.{HasBelow}
 use Rattle.mb_check_tree.proofs.Fillings.{none_below}
@@ -25,7 +25,7 @@ loop-place-preserved g c = record {
       let so = subst (λ n. HasBelow c.loop-place.parts n value) (sym w) (told_of (g.D.Disk.told c.args.disk.now) image _ told c.loop-place.invariant.fills value each) in
       subst (λ n. HasBelow c.part.new.parts (n + 1) value) w
       (told_of (g.D.Disk.told c.loop-place.disk) image _ (c.loop-place.invariant.told ∙ told) c.in_ok-part.ensures.fills value so (λ k low.
-          (let e : c.from.result + k ≡ c.loop-place.place = omega (arith, w, low) in ap value e) ∙ each c.loop-place.place inside ∙ ap (bytes_at image.at) (sym c.address.ensures))));
+      (let e : c.from.result + k ≡ c.loop-place.place = omega (arith, w, low) in ap value e) ∙ each c.loop-place.place inside ∙ ap (bytes_at image.at) (sym c.address.ensures))));
 }
 
 pub returns-clause-parts : goal.returns-clause-parts

@@ -1,6 +1,5 @@
 use Rattle.std.proofs.Common.{ℕ, List, ◌≡◌, ◌≤◌, ◌<◌, ◌+◌, ◌*◌, Option, IfSome}
 use Rattle.mb_tree.specs.Blocks.{bytes_at}
-use Rattle.mb_check.specs.SlotTests.{IsBroken}
 use Rattle.mb_check_files.specs.Indexes.{under_triple}
 use Rattle.mb_check_tree.specs.Filling.{HasBelow}
 use Rattle.mb_check_tree.proofs.parts.triple.Given as goal
