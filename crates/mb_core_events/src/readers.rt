@@ -64,11 +64,8 @@ impl<F: FileSys, D: Disk> Core<F, D> {
         match self.fields.stage() {
             Stage::Running => State::Running,
             Stage::Failed => State::Failed,
-            Stage::Struck
-            | Stage::Again
-            | Stage::Dropped
-            | Stage::Remounted
-            | Stage::Restored(_) => State::Recovering,
+            Stage::Struck | Stage::Again | Stage::Dropped | Stage::Remounted | Stage::Restored(_) =>
+                State::Recovering,
         }
     }
 
