@@ -1,11 +1,11 @@
 -- A core in order stays one where an event's equation does, and where only room was taken.
-use Rattle.std.proofs.Common.{ℕ, ◌+◌, ◌≤◌, ◌≡◌, Option, length, sym, subst, arith}
+use Rattle.std.proofs.Common.{ℕ, ◌≤◌, ◌≡◌, Option, sym, subst, arith}
 use Rattle.mb_kinds.specs.Image.{Image}
 use Rattle.mb_cache.specs.Pages.{under}
 use Rattle.mb_core_spec.specs.Bounds.{HasMarks}
 use Rattle.mb_core_spec.specs.Callers.{insiders}
 use Rattle.mb_core_spec.specs.Events.{roomy, with_room}
-use Rattle.mb_core_spec.specs.Right.{IsOrderly, Right}
+use Rattle.mb_core_spec.specs.Right.{Right}
 use Rattle.mb_core_spec.specs.State.{CoreState, JournalRoom}
 use Rattle.mb_core_spec.specs.declared.stages.Stage.{Stage}
 use Rattle.mb_core_spec.specs.declared.stages.Stage.TheVariants as stage

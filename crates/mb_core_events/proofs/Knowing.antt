@@ -1,5 +1,5 @@
 -- What an event asks of the fields, read off a core in order.
-use Rattle.std.proofs.Common.{List, [], ◌∷◌, ℕ, zero, suc, ◌+◌, ◌*◌, ◌<◌, ◌≤◌, ◌≡◌, Bool, true, false, Option, Some, None, IsSome, length, slice_get, refl, ap, sym, subst, arith}
+use Rattle.std.proofs.Common.{List, [], ◌∷◌, ℕ, zero, suc, ◌+◌, ◌*◌, ◌<◌, ◌≤◌, ◌≡◌, Bool, true, false, Option, Some, None, IsSome, length, slice_get, refl, ap, subst, arith}
 use Rattle.std.proofs.lemmas.Option.{same_Some, slice_get_within}
 use native.Mathlib.Numerals.{unary_clauses}
 use Rattle.mb_kinds.specs.Image.{Image}
@@ -10,7 +10,7 @@ use Rattle.mb_core_spec.specs.Callers.{EachCaller, insiders, one_if, total}
 use Rattle.mb_core_spec.specs.Conditions.{IsInside}
 use Rattle.mb_core_spec.specs.Faults.{MayNumber}
 use Rattle.mb_core_spec.specs.Flights.{HasTicket, IsFlying, IsTicket, is_pin, runs}
-use Rattle.mb_core_spec.specs.Numbers.{is_open, open_calls, open_flight}
+use Rattle.mb_core_spec.specs.Numbers.{is_open, open_flight}
 use Rattle.mb_core_spec.specs.Right.{IsOrderly, Right}
 use Rattle.mb_core_spec.specs.State.{CallerState, CoreState}
 use Rattle.mb_core_spec.specs.declared.stages.Stage.{Stage}

@@ -1,5 +1,5 @@
 -- Where the volume stands, by the next step of a recovery.
-use Rattle.std.proofs.Common.{List, ℕ, zero, suc, ◌+◌, ◌<◌, ◌≤◌, ◌≡◌, inl, inr, Bool, true, false, Some, Option, None, length, slice_get, refl, sym, arith}
+use Rattle.std.proofs.Common.{List, ℕ, ◌+◌, ◌<◌, ◌≤◌, ◌≡◌, inl, inr, Bool, true, false, refl, sym, arith}
 use Rattle.std.proofs.lemmas.Bool.Decides.{nat_tests}
 use Rattle.std.specs.Prelude.{nat_lt, if◌then◌else◌, ◌⊎◌}
 use Rattle.mb_core_spec.specs.Callers.{EachCaller, insiders}

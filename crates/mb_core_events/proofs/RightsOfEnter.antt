@@ -1,5 +1,5 @@
 -- A call that enters: the core is in order after it.
-use Rattle.std.proofs.Common.{List, [], ◌∷◌, ◌++◌, ℕ, zero, suc, ◌+◌, ◌*◌, ◌<◌, ◌≤◌, ◌≡◌, ◌≢◌, ◌∙◌, ◌⊎◌, inl, inr, true, false, Bool, cond, Option, Some, None, IsSome, count_by, length, slice_get, slice_set, refl, ap, sym, subst, arith}
+use Rattle.std.proofs.Common.{List, [], ◌∷◌, ◌++◌, ℕ, zero, suc, ◌+◌, ◌*◌, ◌<◌, ◌≤◌, ◌≡◌, ◌∙◌, inl, inr, true, false, cond, Option, Some, None, IsSome, count_by, length, slice_get, refl, ap, sym, subst, arith}
 use Rattle.std.proofs.lemmas.List.Sums.{sum_by-append}
 use Rattle.std.proofs.lemmas.Option.{same_Some}
 use native.Mathlib.Numerals.{unary_clauses}
@@ -7,23 +7,20 @@ use Rattle.mb_kinds.specs.Image.{Image}
 use Rattle.mb_kinds.specs.declared.calls.Call.{Call}
 use Rattle.mb_kinds.specs.declared.entries.Entry.{Entry}
 use Rattle.mb_kinds.specs.declared.entries.Flight.{Flight}
-use Rattle.mb_kinds.specs.declared.faults.FaultRecord.{FaultRecord}
 use Rattle.mb_kinds.specs.declared.faults.Ticket.{Ticket}
 use Rattle.mb_kinds.specs.declared.replies.Reply.{Reply}
 use Rattle.mb_kinds.specs.declared.replies.Reply.TheVariants as reply
 use Rattle.mb_tree.specs.History.{IsFailed}
 use Rattle.mb_tree.specs.SessionLaws.{IsCall}
-use Rattle.mb_journal.specs.Faults.{TellsTwice}
 use Rattle.mb_journal.specs.Room.{KeepsRoom}
-use Rattle.mb_core_spec.specs.Callers.{EachCaller, begun, insiders, one_if, total}
+use Rattle.mb_core_spec.specs.Callers.{EachCaller, begun, insiders, one_if}
 use Rattle.mb_core_spec.specs.Events.{GivesBack, Leaves, answered_by, beginning, begins, ended, entering, entry_for, roomy, with_room}
-use Rattle.mb_core_spec.specs.Faults.{FewDevices, IsTwice, MayNumber, Says, is_device}
+use Rattle.mb_core_spec.specs.Faults.{FewDevices, MayNumber, Says, is_device}
 use Rattle.mb_core_spec.specs.Flights.{IsFlying, runs}
 use Rattle.mb_core_spec.specs.Numbers.{is_open, open_calls, open_flight}
 use Rattle.mb_core_spec.specs.Owed.{IsIdle}
 use Rattle.mb_core_spec.specs.Right.{Right}
 use Rattle.mb_core_spec.specs.State.{CallerState, CoreState, JournalRoom}
-use Rattle.mb_core_spec.specs.declared.stages.Stage.{Stage}
 use Rattle.mb_core_spec.specs.declared.stages.Stage.TheVariants as stage
 use Rattle.mb_core_order.proofs.Beginning.{set_here}
 use Rattle.mb_core_order.proofs.Enterings.{entering_begins}

@@ -1,5 +1,5 @@
 -- A call that finishes: the core is in order after it.
-use Rattle.std.proofs.Common.{List, ℕ, ◌+◌, ◌-◌, ◌^◌, ◌<◌, ◌≤◌, ◌≡◌, ◌∙◌, inl, inr, Bool, true, false, Option, Some, None, IsSome, length, slice_get, refl, ap, sym, subst, arith}
+use Rattle.std.proofs.Common.{ℕ, ◌+◌, ◌-◌, ◌^◌, ◌<◌, ◌≤◌, ◌≡◌, ◌∙◌, Bool, true, Option, Some, None, IsSome, length, slice_get, refl, ap, sym, subst, arith}
 use Rattle.mb_kinds.specs.Image.{Image}
 use Rattle.mb_kinds.specs.declared.entries.Flight.{Flight}
 use Rattle.mb_kinds.specs.declared.faults.Ticket.{Ticket}
@@ -9,14 +9,12 @@ use Rattle.mb_cache.specs.Pages.{PageList, installed, under}
 use Rattle.mb_cache.specs.Stamps.{Stamps, raised_by, stamp_of}
 use Rattle.mb_cache.proofs.Layers.{under_installed}
 use Rattle.mb_cache.proofs.Raising.{installs_move, stamp_rises, stamp_stays}
-use Rattle.mb_tables.specs.Follows.{tables_after}
 use Rattle.mb_tables.specs.TableLaws.{CountsFollowEffect, LoggedTablesMove, StampRisesByOne}
 use Rattle.mb_tree.specs.Sessions.{with_change}
 use Rattle.mb_session.specs.OpenFiles.{TellsCounts}
 use Rattle.mb_callers.specs.Stale.{AllFresh}
 use Rattle.mb_callers.specs.Tables.{AreTablesFresh}
 use Rattle.mb_core_spec.specs.Bounds.{StampsAreFew, replayed}
-use Rattle.mb_core_spec.specs.Callers.{insiders}
 use Rattle.mb_core_spec.specs.Copies.{LiveTables, PagesState, TableCopy, TablesAreFresh}
 use Rattle.mb_core_spec.specs.Events.{logging, staling}
 use Rattle.mb_core_spec.specs.Flights.{IsFloor, IsMine, runs}

@@ -1,5 +1,5 @@
 -- A call that gathers: the core is in order after it.
-use Rattle.std.proofs.Common.{List, [], ◌∷◌, ◌++◌, ℕ, ◌+◌, ◌≤◌, ◌≡◌, ◌∙◌, inl, inr, true, false, cond, Option, Some, IsSome, count_by, slice_get, refl, sym, subst, arith}
+use Rattle.std.proofs.Common.{List, [], ◌∷◌, ◌++◌, ℕ, ◌≤◌, ◌≡◌, ◌∙◌, inl, inr, true, cond, Option, Some, IsSome, count_by, slice_get, refl, sym, subst, arith}
 use Rattle.std.proofs.lemmas.Bool.{cases_lt}
 use Rattle.std.proofs.lemmas.List.Sums.{sum_by-append}
 use Rattle.mb_kinds.specs.Image.{Image}
@@ -14,7 +14,6 @@ use Rattle.mb_callers.proofs.Gatherings.{blocks_gathered, tables_gathered}
 use Rattle.mb_core_spec.specs.Copies.{PagesState}
 use Rattle.mb_core_spec.specs.Events.{Leaves, answered_by, entry_for, gathering, roomy}
 use Rattle.mb_core_spec.specs.Faults.{FewDevices, is_device}
-use Rattle.mb_core_spec.specs.Numbers.{open_flight}
 use Rattle.mb_core_spec.specs.Right.{Right}
 use Rattle.mb_core_spec.specs.State.{CallerState, CoreState, JournalRoom}
 use Rattle.mb_core_spec.specs.declared.stages.Stage.TheVariants as stage

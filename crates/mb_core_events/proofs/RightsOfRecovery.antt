@@ -1,10 +1,9 @@
 -- A checkpoint, a page written back, and each step of a recovery: the core is in order after it.
-use Rattle.std.proofs.Common.{List, ℕ, ◌+◌, ◌<◌, ◌≤◌, ◌≡◌, ◌∙◌, inl, inr, Bool, true, false, Option, Some, None, IsSome, Result, Ok, Err, OnOk, OnErr, length, option_map, slice_get, refl, ap, sym, subst, arith}
+use Rattle.std.proofs.Common.{List, ℕ, ◌<◌, ◌≤◌, ◌≡◌, ◌∙◌, inl, inr, Bool, true, Option, Some, None, Result, Ok, Err, OnOk, OnErr, length, option_map, slice_get, refl, ap, sym, subst, arith}
 use Rattle.std.specs.Prelude.{nat_lt}
 use Rattle.std.proofs.lemmas.Bool.Decides.{nat_tests}
 use Rattle.std.proofs.lemmas.Option.{same_Some}
 use Rattle.mb_kinds.specs.Image.{Image}
-use Rattle.mb_kinds.specs.declared.entries.Flight.{Flight}
 use Rattle.mb_kinds.specs.declared.faults.Kind.{Kind}
 use Rattle.mb_kinds.specs.declared.faults.Ticket.{Ticket}
 use Rattle.mb_edge.specs.declared.strokes.Stroke.{Stroke}
@@ -17,9 +16,9 @@ use Rattle.mb_session.specs.OpenFiles.{TellsCounts}
 use Rattle.mb_journal.specs.Room.{KeepsRoom, LeavesFault}
 use Rattle.mb_core_spec.specs.Bounds.{HasMarks, replayed}
 use Rattle.mb_core_spec.specs.Callers.{EachCaller, insiders}
-use Rattle.mb_core_spec.specs.Conditions.{AreUnwound, IsInside}
+use Rattle.mb_core_spec.specs.Conditions.{AreUnwound}
 use Rattle.mb_core_spec.specs.Events.{GivesBack, Leaves, roomy, with_room}
-use Rattle.mb_core_spec.specs.Flights.{IsFlying, IsTicket, runs}
+use Rattle.mb_core_spec.specs.Flights.{IsFlying, runs}
 use Rattle.mb_core_spec.specs.Recovery.{dropping, failing, flushing, reopening, resuming, sealing, striking_again, unwinding}
 use Rattle.mb_core_spec.specs.Right.{Right}
 use Rattle.mb_core_spec.specs.State.{CallerState, CoreState}
@@ -32,7 +31,7 @@ use Rattle.mb_core_order.specs.Readings.{FliesInside}
 use Rattle.mb_core_order.proofs.Readings.{flying_inside}
 use Rattle.mb_core_state.specs.Finishing.{HasTicketOf}
 use Rattle.mb_core_state.specs.declared.answers.Phase.TheVariants as phase
-use Rattle.mb_core_events.specs.Callings.{HasCall, MayMeetFault, Unwinds, phase_now}
+use Rattle.mb_core_events.specs.Callings.{MayMeetFault, Unwinds, phase_now}
 use Rattle.mb_core_events.proofs.Kept.{carries, right_more, right_room}
 use Rattle.mb_core_events.proofs.Knowing.{few_insiders, marks_at, ticket_is, ticket_of_is}
 use Rattle.mb_core_events.proofs.Phases.{drops_at, meets_at, nobody_inside, reopens_at, resumes_at, unwinds_at}

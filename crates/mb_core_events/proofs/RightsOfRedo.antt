@@ -1,6 +1,6 @@
 -- The steps of a recovery that read: the core is in order after them.
-use Rattle.std.proofs.Common.{List, [], ◌∷◌, ℕ, zero, suc, ◌+◌, ◌-◌, ◌^◌, ◌<◌, ◌≤◌, ◌≡◌, ◌∙◌, true, false, Bool, Option, Some, None, IfErr, IfSome, IsSome, Result, Ok, Err, OnOk, length, option_map, slice_get, refl, ap, sym, subst, arith}
-use Rattle.std.specs.Prelude.{nat_lt, if◌then◌else◌}
+use Rattle.std.proofs.Common.{ℕ, ◌-◌, ◌^◌, ◌<◌, ◌≤◌, ◌≡◌, ◌∙◌, false, Bool, Option, Some, None, IfErr, IfSome, Result, Ok, Err, OnOk, length, option_map, slice_get, refl, ap, sym, subst, arith}
+use Rattle.std.specs.Prelude.{nat_lt}
 use Rattle.mb_kinds.specs.Image.{Image}
 use Rattle.mb_kinds.specs.declared.entries.Flight.{Flight}
 use Rattle.mb_kinds.specs.declared.replies.Reply.TheVariants as reply
@@ -14,9 +14,9 @@ use Rattle.mb_cache.proofs.Layers.{under_installed}
 use Rattle.mb_tables.specs.Follows.{followed}
 use Rattle.mb_tables.specs.TableLaws.{CountsFollowReplay}
 use Rattle.mb_journal.specs.Room.{KeepsRoom}
-use Rattle.mb_core_spec.specs.Bounds.{HasMarks, StampsAreFew, replayed}
-use Rattle.mb_core_spec.specs.Callers.{insiders, one_if, total}
-use Rattle.mb_core_spec.specs.Events.{answered_by, entry_for, roomy, with_room}
+use Rattle.mb_core_spec.specs.Bounds.{StampsAreFew, replayed}
+use Rattle.mb_core_spec.specs.Callers.{insiders, one_if}
+use Rattle.mb_core_spec.specs.Events.{answered_by, entry_for, with_room}
 use Rattle.mb_core_spec.specs.Flights.{runs}
 use Rattle.mb_core_spec.specs.Numbers.{is_open, open_flight}
 use Rattle.mb_core_spec.specs.Recovery.{remounting}

@@ -1,4 +1,4 @@
-ghost use Rattle.std.specs.Prelude.{◌≡◌, ◌<◌, length, Some, slice_get};
+ghost use Rattle.std.specs.Prelude.{◌≡◌, ◌<◌, ◌≤◌, length, Some, slice_get};
 ghost use Rattle.mb_core_spec.specs.Right.{Right};
 ghost use Rattle.mb_core_spec.specs.State.{CallerState};
 ghost use Rattle.mb_core_spec.specs.Trail.{IsDisciplined};
@@ -22,7 +22,8 @@ impl<F: FileSys, D: Disk> Core<F, D> {
 
     /// The faults that were taken, in order; they are numbered from 1.
     pub fn records(&self) -> &[FaultRecord]
-        ensures { result.now ≡ self.now.journal.records }
+        ensures records { result.now ≡ self.now.journal.records }
+        ensures few { length result.now ≤ 256 }
     {
         self.fields.records()
     }
@@ -64,11 +65,8 @@ impl<F: FileSys, D: Disk> Core<F, D> {
         match self.fields.stage() {
             Stage::Running => State::Running,
             Stage::Failed => State::Failed,
-            Stage::Struck
-            | Stage::Again
-            | Stage::Dropped
-            | Stage::Remounted
-            | Stage::Restored(_) => State::Recovering,
+            Stage::Struck | Stage::Again | Stage::Dropped | Stage::Remounted | Stage::Restored(_) =>
+                State::Recovering,
         }
     }
 

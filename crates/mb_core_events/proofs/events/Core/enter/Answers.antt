@@ -1,4 +1,4 @@
-use Rattle.std.proofs.Common.{◌≡◌, ◌<◌, ◌≤◌, ℕ, Some, length, slice_get, arith, subst, sym}
+use Rattle.std.proofs.Common.{◌≡◌, Some, slice_get, arith, subst, sym}
 use Rattle.mb_core_spec.specs.State.{CallerState, CoreState}
 use Rattle.mb_core_state.specs.Entering.{Enters}
 use Rattle.mb_core_events.specs.Callings.{MayCall}

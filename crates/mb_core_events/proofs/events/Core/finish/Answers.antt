@@ -1,4 +1,4 @@
-use Rattle.std.proofs.Common.{◌≡◌, ◌<◌, length, arith, IsSome, Option, Some, slice_get, refl, subst, sym}
+use Rattle.std.proofs.Common.{◌≡◌, arith, IsSome, Option, Some, slice_get, refl, subst, sym}
 use Rattle.mb_kinds.specs.declared.entries.Flight.{Flight}
 use Rattle.mb_core_spec.specs.State.{CallerState, CoreState}
 use Rattle.mb_core_state.specs.Finishing.{Finishes}

@@ -1,7 +1,7 @@
 use Rattle.std.proofs.Common.{subst, sym}
 use Rattle.mb_core_spec.specs.State.{CoreState}
 use Rattle.mb_core_events.specs.Callings.{HasEntry}
-use Rattle.mb_core_events.proofs.Knowing.{has_answer, has_pins, marks_now}
+use Rattle.mb_core_events.proofs.Knowing.{has_answer, has_pins}
 use Rattle.mb_core_events.proofs.RightsOfCalls.{has_fault_room, left_right}
 use Rattle.mb_core_events.proofs.events.Core.leave.Goals as goal
 

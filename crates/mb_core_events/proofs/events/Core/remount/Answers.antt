@@ -1,5 +1,4 @@
-use Rattle.std.proofs.Common.{◌≡◌, ◌<◌, ℕ, IfErr, IfSome, length, subst, sym}
-use Rattle.mb_cache.specs.declared.answers.ReadFault.{ReadFault}
+use Rattle.std.proofs.Common.{◌≡◌, ◌<◌, IfErr, IfSome, length, subst, sym}
 use Rattle.mb_core_spec.specs.State.{CoreState}
 use Rattle.mb_core_state.specs.Redoing.{FailsStep}
 use Rattle.mb_core_state.specs.declared.answers.Phase.TheVariants as phase

@@ -1,4 +1,4 @@
-use Rattle.std.proofs.Common.{◌≡◌, ◌<◌, length, arith, subst, sym}
+use Rattle.std.proofs.Common.{◌≡◌, arith, subst, sym}
 use Rattle.mb_core_spec.specs.State.{CoreState}
 use Rattle.mb_core_state.specs.declared.answers.Phase.TheVariants as phase
 use Rattle.mb_core_order.proofs.Keepings.{none_inside}
