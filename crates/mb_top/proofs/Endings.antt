@@ -15,7 +15,7 @@ use Rattle.mb_top.specs.declared.outcomes.Outcome.{Outcome}
 use Rattle.mb_top.specs.declared.outcomes.Outcome.TheVariants.{WordsRefused, CommandNotBuilt, InputFault, JobRefused, JobNotBuilt, DiskFault, NoBlocks, BadSizes, ImageNotBuilt, OutOfMemory, Made, Unsettled, Ran}
 use Rattle.mb_tree.specs.Volume.{HasSizes}
 
--- a status that is left for a good job on a simple image
+-- a status that is left for a job of the form that is run, on a simple image
 abbrev pub IsLeftOver : ℕ → Type 0
 IsLeftOver status = (status ≡ 0) ⊎ (status ≡ 6) ⊎ (status ≡ 5) ⊎ (status ≡ 8)
 

@@ -1,4 +1,4 @@
--- Each call of a small job, performed over a plain volume, is the reference model's step.
+-- Each plain call, performed over a plain volume, is the reference model's step.
 use Rattle.std.proofs.Common.{List, [], ◌∷◌, ℕ, ◌+◌, ◌-◌, ◌≡◌, ◌<◌, ◌≤◌, true, false, length, min, bit_and, nat_eq, refl, ap, sym, subst, ◌∙◌, arith, Option, Some, None, Result, Ok, Err, IfOk, IfSome, Bool, ◌==◌}
 use Rattle.std.specs.List.{list_any}
 use Rattle.std.proofs.lemmas.Bool.{and_parts, false≢true}

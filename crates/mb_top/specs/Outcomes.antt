@@ -110,7 +110,7 @@ IsUnsettled text (Unsettled given) = given ≡ text
 IsUnsettled text OutOfMemory = Unit {0}
 IsUnsettled text _ = ⊥
 
--- the disk failed, at the opening or in the end of a run
+-- the disk failed, at the opening, in a `mkfs`, or in the end of a run
 abbrev pub IsDiskFault : Outcome → Type 0
 IsDiskFault DiskFault = Unit {0}
 IsDiskFault (Unsettled text) = Unit {0}
@@ -138,7 +138,7 @@ abbrev pub IsNotBuilt : Result Job JobFault → Type 0
 IsNotBuilt (Ok job) = is_built job ≡ false
 IsNotBuilt (Err fault) = ⊥
 
--- what a refusal says where a job is given so
+-- what comes of a job that is refused: the line that says why, or want of memory
 abbrev pub IsRefusal : Result Job JobFault → Outcome → Type 0
 IsRefusal found (JobRefused line) = SaysWhy found line
 IsRefusal found OutOfMemory = Unit {0}

@@ -21,7 +21,7 @@ pub enum Outcome {
     NoBlocks,
     /// The sizes in the super-block are out of their ranges (rule 2).
     BadSizes,
-    /// The image is of a form that is not read yet.
+    /// The image is of a form that is not run yet.
     ImageNotBuilt,
     /// There was no memory.
     OutOfMemory,
