@@ -19,6 +19,7 @@ use Rattle.mb_core_spec.specs.Numbers.{CanFollow}
 use Rattle.mb_core_spec.specs.Owed.{TablesMove}
 use Rattle.mb_core_spec.specs.Right.{IsOrderly}
 use Rattle.mb_core_spec.specs.State.{CallerState, CoreState, records_of, stand_at}
+use Rattle.mb_core_spec.specs.declared.stages.Stage.TheVariants as stage
 
 -- fresh copies are a part of what is seen
 abbrev pub FreshIsPart : Type 0
@@ -27,6 +28,12 @@ FreshIsPart = (view : ℕ → List ℕ) (stamps : Stamps) (copies pages : CopyLi
 -- nothing that the holder of the right to commit alone gathered is stale
 abbrev pub FloorIsNotStale : Type 0
 FloorIsNotStale = (stamps : Stamps) (live : LiveTables) (pages : PagesState) → HoldsFloor stamps live pages → AreFresh pages.blocks stamps pages.blocks
+
+-- a ticket with four stale answers is of the call that has that right, and nothing that it gathered is stale: so the answers that a copy
+-- is stale, to pages that are the call's own copies, are at most four
+abbrev pub FourStalesAreAll : (F D : Type 0) → Type 0
+FourStalesAreAll F D = (core : CoreState F D) → IsOrderly core → core.stage ≡ stage.Running → (caller : ℕ) (mine : CallerState) → slice_get core.callers caller ≡ Some mine → (mine.stales ≤ 4)
+    × (mine.stales ≡ 4 → (core.floor ≡ Some caller) × HoldsFloor core.cache.stamps core.tables mine.pages)
 
 -- a caller that is inside has a call in flight, with a ticket
 pub record FliesInside (caller : ℕ) (running : Bool) (incarnation : ℕ) (flying : Option Flight) : Type 0 where
