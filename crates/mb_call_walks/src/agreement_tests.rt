@@ -83,7 +83,7 @@ fn random_calls_are_answered_as_the_model_answers(rt: HostRuntime) -> Result<(),
     let mut draws = Draws::new(20_261_127);
     let mut bench = bench(heap)?;
     let mut machine = machine(heap)?;
-    for moment in 1..3001 {
+    for moment in 1..100_001 {
         agrees(&rt, heap, &mut draws, &mut bench, &mut machine, moment)?;
     }
     Ok(())
