@@ -42,6 +42,7 @@ pub begins_after : (job : Job) (test : Option (Crossing → Bool)) (sight : Sigh
 begins_after job test sight runners runnable begun new = record {
   underway = begins_underway job test sight runners runnable begun new;
   free = λ caller few. ap (λ (s : Seat). s.flight) (begun.seats caller);
+  listed = rw begun.history (record { callers = refl; made = refl });
   lined = rw (begun.history, begun.begun) (refl, refl);
   done = λ caller runner here. ap (λ (r : Runner). r.done) (new.each caller runner here);
 }
@@ -59,7 +60,7 @@ listed job test old new callers begun none same ran config right =
       config = config;
       own_calls = λ caller low. (let few : caller < callers = omega (arith, low, same) in ran.own_calls caller few);
       moments = subst (λ n. HasEachMoment n new.history) start (each_moment new right ran.begun);
-      lined = subst (λ order. IsLinedUp order job.start new.history) (sym none) (subst (λ n. moments_in new.history ≡ range_with_len (n + 1) (length new.history)) start ran.moments);
+      lined = subst (λ order. IsLinedUp order job.calls job.start new.history) (sym none) (ran.listed, subst (λ n. moments_in new.history ≡ range_with_len (n + 1) (length new.history)) start ran.moments);
       sound = ran.sound;
     }
 
@@ -71,7 +72,7 @@ ordered job test old new callers order begun some same done config right =
       config = config;
       own_calls = λ caller low. (let few : caller < callers = omega (arith, low, same) in done.own_calls caller few);
       moments = subst (λ n. HasEachMoment n new.history) start (each_moment new right done.begun);
-      lined = subst (λ given. IsLinedUp given job.start new.history) (sym some) tt;
+      lined = subst (λ given. IsLinedUp given job.calls job.start new.history) (sym some) tt;
       sound = done.sound;
     }
 

@@ -24,9 +24,9 @@ use Rattle.mb_run.proofs.Lists.{all_map, neq}
 cons_few : (made : JobCall) (calls : List JobCall) (caller : ℕ) → (length (calls_of (made ∷ calls) caller) ≤ length (calls_of calls caller) + 1) × (length (calls_of calls caller) ≤ length (calls_of (made ∷ calls) caller))
 cons_few made calls caller = elim (nat_eq made.caller caller) as (λ b. (length (map (λ (m : JobCall). m.call) (cond b (made ∷ filter (λ (m : JobCall). nat_eq m.caller caller) calls) (filter (λ (m : JobCall). nat_eq m.caller caller) calls))) ≤ length (calls_of calls caller) + 1)
     × (length (calls_of calls caller) ≤ length (map (λ (m : JobCall). m.call) (cond b (made ∷ filter (λ (m : JobCall). nat_eq m.caller caller) calls) (filter (λ (m : JobCall). nat_eq m.caller caller) calls))))) [
-      | true ↦ (omega arith, omega arith)
-      | false ↦ (omega arith, omega arith)
-    ]
+  | true ↦ (omega arith, omega arith)
+  | false ↦ (omega arith, omega arith)
+]
 
 pub calls_few : (calls : List JobCall) (caller : ℕ) → length (calls_of calls caller) ≤ length calls
 calls_few [] caller = omega arith
@@ -37,7 +37,7 @@ take_few calls zero caller = omega arith
 take_few [] (suc index) caller = omega arith
 take_few (made ∷ calls) (suc index) caller = let rest = take_few calls index caller in
     elim (nat_eq made.caller caller) as (λ b. length (map (λ (m : JobCall). m.call) (cond b (made ∷ filter (λ (m : JobCall). nat_eq m.caller caller) (take index calls)) (filter (λ (m : JobCall). nat_eq m.caller caller) (take index calls))))
-    ≤ length (map (λ (m : JobCall). m.call) (cond b (made ∷ filter (λ (m : JobCall). nat_eq m.caller caller) calls) (filter (λ (m : JobCall). nat_eq m.caller caller) calls)))) [
+        ≤ length (map (λ (m : JobCall). m.call) (cond b (made ∷ filter (λ (m : JobCall). nat_eq m.caller caller) calls) (filter (λ (m : JobCall). nat_eq m.caller caller) calls)))) [
       | true ↦ omega (arith, rest)
       | false ↦ omega (arith, rest)
     ]
@@ -106,8 +106,8 @@ free_by list made done begun (Some flight) past at = let low = slice_get_within 
 pub complete : (calls : List JobCall) (test : Option (Crossing → Bool)) (sight : Sight) (runners : List Runner) → Underway calls test sight runners → IsBalanced sight → AreRunOut calls runners (length calls) → IsComplete calls (length runners) test sight
 complete calls test sight runners underway even out =
     let past : (caller : ℕ) (low : caller < length runners) → length (calls_of calls caller) ≤ (runner_at runners caller low).0.done =
-    λ caller low. (let is = ap done_by (runner_at runners caller low).1 in let all = ap (λ ms. length (calls_of ms caller)) (take_all (length calls) calls (omega arith)) in
-    let enough = out caller low in omega (arith, is, all, enough)) in
+        λ caller low. (let is = ap done_by (runner_at runners caller low).1 in let all = ap (λ ms. length (calls_of ms caller)) (take_all (length calls) calls (omega arith)) in
+            let enough = out caller low in omega (arith, is, all, enough)) in
     record {
       own_calls = λ caller low. own_calls calls test sight runners caller (runner_at runners caller low).0 underway (runner_at runners caller low).1 (past caller low);
       begun = (let none : sight.open_calls ≡ 0 = underway.right.open_calls (λ caller few. (let low : caller < length runners = omega (arith, few, underway.callers) in

@@ -119,7 +119,7 @@ module _ (calls : List JobCall) (test : Option (Crossing → Bool)) (old : Sight
           nears = record {
             same = refl;
             counts = may.counts;
-            acts = acts_stays runner.crossings.caller old new gains.stays (λ other apart. ap (λ h. own h other) gains.counts.history) (inr (inr gains.floor));
+            acts = acts_stays runner.crossings.caller old new gains.stays gains.counts.history (inr (inr gains.floor));
             lined = line_same runner.crossings.caller old new gains.stays.config gains.counts gains.mine;
             balanced = balanced_same old new gains.counts;
             served = record {
@@ -180,7 +180,7 @@ module _ (calls : List JobCall) (test : Option (Crossing → Bool)) (old : Sight
           nears = record {
             same = refl;
             counts = may.counts;
-            acts = acts_stays runner.crossings.caller old new stale.stays (λ other apart. ap (λ h. own h other) stale.counts.history) (elim stale.floor [ inl none ↦ inl none | inr mine ↦ inr (inl mine) ]);
+            acts = acts_stays runner.crossings.caller old new stale.stays stale.counts.history (elim stale.floor [ inl none ↦ inl none | inr mine ↦ inr (inl mine) ]);
             lined = line_same runner.crossings.caller old new stale.stays.config stale.counts stale.mine;
             balanced = balanced_same old new stale.counts;
             served = record {

@@ -26,6 +26,9 @@ quiet_acts caller old new quiet = record {
   config = quiet.config;
   seats = λ other apart. quiet.seats other;
   own = λ other apart. ap (λ h. own h other) quiet.counts.history;
+  entries = [];
+  grown = quiet.counts.history ∙ sym (append-nil old.history);
+  theirs = tt;
   more = [];
   records = quiet.records ∙ sym (append-nil old.records);
   mine = tt;
@@ -57,53 +60,27 @@ quiet_whole calls test old new runners underway quiet right = record {
 
 pub quiet_same : (old new : Sight) → new ≡ old → IsQuiet old new
 quiet_same old new same = subst (IsQuiet old) (sym same) (record {
-  config = refl;
-  records = refl;
-  incarnation = refl;
-  seats = λ caller. refl;
-  counts = record { history = refl; begun = refl; open_calls = refl };
-  floor = inr refl;
-  runs = λ running. running;
-  copies = λ running caller. refl;
-  stales = λ running caller. refl;
+  config = refl; records = refl; incarnation = refl; seats = λ caller. refl; counts = record { history = refl; begun = refl; open_calls = refl }; floor = inr refl;
+  runs = λ running. running; copies = λ running caller. refl; stales = λ running caller. refl;
 })
 
 pub quiet_sealed : (old new : Sight) → new ≡ sealed old new → IsQuiet old new
 quiet_sealed old new same = subst (IsQuiet old) (sym same) (record {
-  config = refl;
-  records = refl;
-  incarnation = refl;
-  seats = λ caller. refl;
-  counts = record { history = refl; begun = refl; open_calls = refl };
-  floor = inr refl;
-  runs = λ running. running;
-  copies = λ running caller. refl;
-  stales = λ running caller. refl;
+  config = refl; records = refl; incarnation = refl; seats = λ caller. refl; counts = record { history = refl; begun = refl; open_calls = refl }; floor = inr refl;
+  runs = λ running. running; copies = λ running caller. refl; stales = λ running caller. refl;
 })
 
 pub quiet_flush : (old new : Sight) (answer : Flushed) → FlushesWith old new answer → IsQuiet old new
 quiet_flush old new flushed.One flushes = subst (IsQuiet old) (sym flushes.1) (record {
-  config = refl;
-  records = refl;
-  incarnation = refl;
-  seats = λ caller. refl;
-  counts = record { history = refl; begun = refl; open_calls = refl };
-  floor = inr refl;
-  runs = λ running. running;
-  copies = λ running caller. refl;
-  stales = λ running caller. refl;
+  config = refl; records = refl; incarnation = refl; seats = λ caller. refl; counts = record { history = refl; begun = refl; open_calls = refl }; floor = inr refl;
+  runs = λ running. running; copies = λ running caller. refl; stales = λ running caller. refl;
 })
 quiet_flush old new flushed.Clean flushes = quiet_same old new flushes.1
 quiet_flush old new flushed.Device flushes = quiet_same old new flushes
 
 quiet_waits : (old new : Sight) → Waits old new → new.records ≡ old.records → recovers old.stage ≡ true → IsQuiet old new
 quiet_waits old new waits records recovered = record {
-  config = waits.config;
-  records = records;
-  incarnation = waits.incarnation;
-  seats = waits.seats;
-  counts = waits.counts;
-  floor = waits.floor;
+  config = waits.config; records = records; incarnation = waits.incarnation; seats = waits.seats; counts = waits.counts; floor = waits.floor;
   runs = λ running. absurd (not_running old recovered running);
   copies = λ running caller. absurd (not_running old recovered running);
   stales = λ running caller. absurd (not_running old recovered running);

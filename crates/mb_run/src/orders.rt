@@ -49,6 +49,7 @@ fn step_once<C: EventCore, H: Hook>(
     requires { MayStep calls.now (H.test hook.old) (C.sight core.old) runner.old call.now }
     ensures moved { Moved calls.now (H.test hook.old) (C.sight core.old) (C.sight core.new) runner.old runner.new result }
     ensures test { H.test hook.new ≡ H.test hook.old }
+    ensures origin { C.origin core.new ≡ C.origin core.old }
     ensures right { IsOrderly (C.sight core.new) }
 {
     match step(alloc, core, hook, runner, calls, call) {
@@ -78,6 +79,7 @@ fn step_to_finish<C: EventCore, H: Hook>(
     requires { MayStep calls.now (H.test hook.old) (C.sight core.old) runner.old call.now }
     ensures moved { Moved calls.now (H.test hook.old) (C.sight core.old) (C.sight core.new) runner.old runner.new result }
     ensures test { H.test hook.new ≡ H.test hook.old }
+    ensures origin { C.origin core.new ≡ C.origin core.old }
     ensures right { IsOrderly (C.sight core.new) }
 {
     'steps: loop {
@@ -118,6 +120,7 @@ fn step_letter<C: EventCore, H: Hook>(
     ensures whole { result ≡ true → IsWhole calls.now (H.test hook.old) (C.sight core.old) (C.sight core.new) runners.old runners.new }
     ensures length { length runners.new ≡ length runners.old }
     ensures test { H.test hook.new ≡ H.test hook.old }
+    ensures origin { C.origin core.new ≡ C.origin core.old }
     ensures right { IsOrderly (C.sight core.new) }
 {
     let place = runners[caller as usize].done;
@@ -125,23 +128,9 @@ fn step_letter<C: EventCore, H: Hook>(
         return true;
     };
     if capital {
-        return step_to_finish(
-            alloc,
-            core,
-            hook,
-            &mut runners[caller as usize],
-            calls,
-            call,
-        );
+        return step_to_finish(alloc, core, hook, &mut runners[caller as usize], calls, call);
     }
-    step_once(
-        alloc,
-        core,
-        hook,
-        &mut runners[caller as usize],
-        calls,
-        call,
-    )
+    step_once(alloc, core, hook, &mut runners[caller as usize], calls, call)
 }
 
 fn is_recovering(stage: Stage) -> bool
@@ -149,8 +138,7 @@ fn is_recovering(stage: Stage) -> bool
 {
     match stage {
         Stage::Running | Stage::Failed => false,
-        Stage::Struck | Stage::Again | Stage::Dropped | Stage::Remounted | Stage::Restored(_) =>
-            true,
+        Stage::Struck | Stage::Again | Stage::Dropped | Stage::Remounted | Stage::Restored(_) => true,
     }
 }
 
@@ -177,6 +165,7 @@ fn recover_alone<C: EventCore, H: Hook>(alloc: Global, core: &mut C, hook: &mut 
     requires right { IsOrderly (C.sight core.old) }
     ensures quiet { IsQuiet (C.sight core.old) (C.sight core.new) }
     ensures test { H.test hook.new ≡ H.test hook.old }
+    ensures origin { C.origin core.new ≡ C.origin core.old }
     ensures right { IsOrderly (C.sight core.new) }
 {
     let mut by = None;
@@ -199,6 +188,7 @@ fn recover_once<C: EventCore, H: Hook>(
     ensures whole { result ≡ true → IsWhole calls.now (H.test hook.old) (C.sight core.old) (C.sight core.new) runners.old runners.new }
     ensures length { length runners.new ≡ length runners.old }
     ensures test { H.test hook.new ≡ H.test hook.old }
+    ensures origin { C.origin core.new ≡ C.origin core.old }
     ensures right { IsOrderly (C.sight core.new) }
 {
     if !is_recovering(core.stage()) {
@@ -211,14 +201,7 @@ fn recover_once<C: EventCore, H: Hook>(
     let Some(call) = find_call(calls, caller, place) else {
         unreachable!();
     };
-    match roll(
-        alloc,
-        core,
-        hook,
-        &mut runners[caller as usize],
-        calls,
-        call,
-    ) {
+    match roll(alloc, core, hook, &mut runners[caller as usize], calls, call) {
         Went::NoMemory => {
             give_up(core, &runners[caller as usize]);
             return false;
@@ -233,6 +216,7 @@ pub(crate) fn seal_now<C: EventCore>(core: &mut C) -> bool
     ensures quiet { IsQuiet (C.sight core.old) (C.sight core.new) }
     ensures sealed { result ≡ true → IsSealedNow (C.sight core.old) (C.sight core.new) }
     ensures later { C.faults core.old ≤ C.faults core.new }
+    ensures origin { C.origin core.new ≡ C.origin core.old }
     ensures right { IsOrderly (C.sight core.new) }
 {
     match core.stage() {
@@ -248,6 +232,7 @@ pub(crate) fn seal_now<C: EventCore>(core: &mut C) -> bool
 fn flush<C: EventCore>(core: &mut C)
     requires right { IsOrderly (C.sight core.old) }
     ensures quiet { IsQuiet (C.sight core.old) (C.sight core.new) }
+    ensures origin { C.origin core.new ≡ C.origin core.old }
     ensures right { IsOrderly (C.sight core.new) }
 {
     let _ = core.flush_one();
@@ -283,6 +268,7 @@ fn step_character<C: EventCore, H: Hook>(
     ensures whole { result ≡ true → IsWhole calls.now (H.test hook.old) (C.sight core.old) (C.sight core.new) runners.old runners.new }
     ensures length { length runners.new ≡ length runners.old }
     ensures test { H.test hook.new ≡ H.test hook.old }
+    ensures origin { C.origin core.new ≡ C.origin core.old }
     ensures right { IsOrderly (C.sight core.new) }
 {
     if character == b' ' {
@@ -321,6 +307,7 @@ pub fn run_order<C: EventCore, H: Hook>(
     ensures whole { result ≡ true → IsWhole calls.now (H.test hook.old) (C.sight core.old) (C.sight core.new) runners.old runners.new }
     ensures length { length runners.new ≡ length runners.old }
     ensures test { H.test hook.new ≡ H.test hook.old }
+    ensures origin { C.origin core.new ≡ C.origin core.old }
     ensures right { IsOrderly (C.sight core.new) }
 {
     for character in order {
