@@ -1,6 +1,7 @@
 -- What the steps of one caller leave of the others, one after another.
 use Rattle.std.proofs.Common.{◌≡◌, ◌≢◌, ◌⊎◌, [], ◌∷◌, ◌++◌, ℕ, ◌+◌, inl, inr, refl, ap, sym, ◌∙◌, arith, append_assoc, length, length-append, None, Some}
-use Rattle.std.proofs.Common.{cond, nat_eq, true, false, Bool}
+use Rattle.std.proofs.Common.{List, cond, nat_eq}
+use Rattle.std.specs.List.{AllByRecursion}
 use Rattle.std.proofs.lemmas.List.{append-nil}
 use Rattle.std.proofs.lemmas.List.Elements.{filter-append}
 use Rattle.mb_run.proofs.Lists.{neq}

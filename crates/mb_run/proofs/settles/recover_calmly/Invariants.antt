@@ -1,4 +1,4 @@
-use Rattle.std.proofs.Common.{◌≤◌}
+use Rattle.std.proofs.Common.{◌≡◌, ◌≤◌}
 use Rattle.mb_run.specs.Settling.{Keeps}
 use Rattle.mb_run.specs.Sights.{IsOrderly}
 use Rattle.mb_run.proofs.settles.recover_calmly.Given as goal
