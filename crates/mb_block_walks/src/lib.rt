@@ -5,7 +5,11 @@
 #[cfg(test)]
 mod chain_tests;
 #[cfg(test)]
+mod count_tests;
+#[cfg(test)]
 mod fill_tests;
+#[cfg(test)]
+mod hang_tests;
 #[cfg(test)]
 mod part_tests;
 #[cfg(test)]

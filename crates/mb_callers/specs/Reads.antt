@@ -1,9 +1,10 @@
 -- What a read of blocks one after another gives, and what is kept of it.
-use Rattle.std.specs.Prelude.{List, [], ◌∷◌, ℕ, ◌+◌, ◌≡◌, Option, IfSome, map, nat_eq}
+use Rattle.std.specs.Prelude.{List, [], ◌∷◌, ℕ, ◌+◌, ◌≡◌, ◌≤◌, Option, Some, IfSome, IsSome, map, nat_eq}
 use Rattle.indexmap.specs.IndexMap.{insert_all}
 use Rattle.mb_kinds.specs.Image.{Image}
 use Rattle.mb_cache.specs.Stamps.{Stamps, stamp_of}
-use Rattle.mb_core_spec.specs.Copies.{CopyList, KeptBlock}
+use Rattle.mb_tree.specs.Views.{IsPart}
+use Rattle.mb_core_spec.specs.Copies.{CopyList, KeptBlock, shown}
 use Rattle.mb_gate.specs.declared.ulogs.Undo.{Undo}
 use Rattle.mb_gate.specs.declared.ulogs.Undo.TheVariants as undo
 
@@ -17,6 +18,12 @@ pub record IsRead (view : Option Image) (stamps : Stamps) (block : ℕ) (read : 
 abbrev pub AreRead : Option Image → Stamps → ℕ → CopyList → Type 0
 AreRead view stamps block [] = Unit {0}
 AreRead view stamps block (read ∷ reads) = IsRead view stamps block read × AreRead view stamps (block + 1) reads
+
+-- blocks that were copies of what is seen are so with those that were read; none is lost, and the first that was asked for is there
+pub record GathersSeen (view : Option Image) (first count : ℕ) (old new : CopyList) : Type 0 where
+  pub part : (image : Image) → view ≡ Some image → IsPart (shown old) image.at → IsPart (shown new) image.at
+  pub stays : (block : ℕ) → IsSome (shown old block) → IsSome (shown new block)
+  pub there : 1 ≤ count → IsSome (shown new first)
 
 -- copies with those of a list, each in the place of its block's copy where it has one, else behind the others
 abbrev pub stored : CopyList → CopyList → CopyList

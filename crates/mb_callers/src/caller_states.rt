@@ -1,4 +1,4 @@
-ghost use Rattle.std.specs.Prelude.{◌≡◌, ◌≤◌, ◌<◌, ◌+◌, [], ℕ, Some, None, false, true, OnOk, OnErr, IfNone, IfSome, IsSome, option_copied};
+ghost use Rattle.std.specs.Prelude.{◌≡◌, ◌≤◌, ◌<◌, ◌+◌, [], ℕ, Some, None, false, true, OnOk, OnErr, IfNone, IfSome, IsSome, min, option_copied};
 ghost use Rattle.mb_kinds.specs.declared.entries.Flight.{Flight};
 ghost use Rattle.mb_cache.specs.Stamps.{stamp_of};
 ghost use Rattle.mb_cache.specs.State.{ReadHasCause};
@@ -38,6 +38,13 @@ pub struct CallerState {
     pages: Pages,
     // what is being gathered
     reads: Reads,
+}
+
+/// How many stale answers are counted after one more: up to four.
+fn one_stale_more(stales: u8) -> u8
+    ensures { result ≡ min (stales + 1) 4 }
+{
+    if stales < 4 { stales + 1 } else { 4 }
 }
 
 impl Model for CallerState {
@@ -157,6 +164,36 @@ impl CallerState {
         Ok(())
     }
 
+    /// A call begins, with the next ordinal and that moment, and enters at once with a ticket and the descriptor that it
+    /// reserved. The only error is want of memory, and nothing has changed then.
+    pub fn begin_inside(
+        &mut self,
+        call: Call,
+        moment: u32,
+        ticket: Ticket,
+        reserved: Option<u16>,
+    ) -> Result<(), NoMemory>
+        requires few { self.old.begun < 4294967295 }
+        requires empty { self.old.undo ≡ [] }
+        ensures ok { OnOk result (self.new ≡ goes_in (record self.old { begun = self.old.begun + 1 }) (record { call = call; ordinal = self.old.begun + 1; moment = moment; ticket = None; answered = false }) ticket reserved) }
+        ensures err { OnErr result (self.new ≡ self.old) }
+    {
+        self.undo.reserve(3)?;
+        note_entered(&mut self.undo, reserved);
+        self.begun += 1;
+        self.flight = Some(Flight {
+            call,
+            ordinal: self.begun,
+            moment,
+            ticket: Some(ticket),
+            answered: false,
+        });
+        self.inside = true;
+        self.reserved = reserved;
+        self.stales = 0;
+        Ok(())
+    }
+
     /// Gathers what a call needs into its pages and into what is kept of it, both alike: at block 0 copies of the
     /// tables, else blocks as they are seen, with their stamps. All of it is pinned. `Device` comes only where the disk's
     /// count of faults rose; on an error nothing has changed but the disk and room.
@@ -252,7 +289,6 @@ impl CallerState {
     /// commit alone, that is noted. Needs no memory.
     pub fn gather_anew<D: Disk>(&mut self, cache: &mut Cache<D>, caller: u8, floor: Option<u8>)
         requires inside { self.old.inside ≡ true }
-        requires few { self.old.stales < 4 }
         requires pins { (block : ℕ) → total (is_pin block) self.old.undo ≤ stamp_of cache.old.pins block }
         ensures anew { self.new ≡ gathers_anew self.old caller floor }
         ensures rest { cache.new ≡ record cache.old { pins = cache.new.pins; room = record cache.old.room { pins = cache.new.room.pins } } }
@@ -262,7 +298,7 @@ impl CallerState {
         note_entered(&mut self.undo, self.reserved);
         note_floor(&mut self.undo, caller, floor);
         self.pages.clear();
-        self.stales += 1;
+        self.stales = one_stale_more(self.stales);
     }
 
     /// What the call pinned, reserved and gathered is given back; needs no memory.

@@ -9,10 +9,13 @@
 //! drives the call. `stale_block` names the least block that was handed out and is not what is kept and seen, where block
 //! 0 stands for the tables (`specs/Stale.antt`), and `least_stale_block` says what its answers tell.
 //!
+//! `Blocks` are those that an operation wants which is done again in a recovery: read as they are seen, and kept for no call.
+//!
 //! Room is kept from call to call: pages, copies, undo log and pins are emptied and not dropped, and a copy of the tables
 //! that was given back becomes the next one as long as the counts of open files are the same.
 #![tactic(auto)]
 
+mod blocks;
 mod caller_states;
 mod callers;
 mod copies;
@@ -23,6 +26,7 @@ mod reads;
 mod tables;
 mod undoing;
 
+pub use blocks::Blocks;
 pub use caller_states::CallerState;
 pub use callers::Callers;
 pub use laws::{gathered, least_stale_block};

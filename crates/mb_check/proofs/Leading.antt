@@ -1,5 +1,5 @@
 -- A slot that leads to an inode of the table.
-use Rattle.std.proofs.Common.{◌≡◌, ℕ, ◌+◌, ◌≤◌, ◌<◌, List, Bool, true, false, not, ◌||◌, ◌&&◌, nat_eq, nat_le, length, Some, slice_get, slice_index_or, refl, sym, ap, ◌∙◌, arith}
+use Rattle.std.proofs.Common.{◌≡◌, ℕ, ◌≤◌, ◌<◌, List, true, false, not, ◌||◌, ◌&&◌, nat_eq, nat_le, length, Some, slice_get, slice_index_or, sym, ap, ◌∙◌, arith}
 use Rattle.std.proofs.lemmas.Bool.Decides.{nat_tests}
 use Rattle.std.proofs.lemmas.Option.{slice_get-get_or, slice_get_within}
 use Rattle.mb_tree.specs.Lookup.{is_used}

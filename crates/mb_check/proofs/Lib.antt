@@ -1,3 +1,12 @@
+pub mod Figures
+pub mod LateParts
 pub mod Leading
+pub mod Marking
 pub mod Naming
+pub mod Parenting
+pub mod PartReads
+pub mod Reaches
 pub mod SlotWalks
+pub mod Sounding
+pub mod Tallying
+pub mod WholeDirectories

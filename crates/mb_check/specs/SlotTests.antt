@@ -16,6 +16,13 @@ Tests (Err (Broken broken)) met items = walked met items ≡ Err broken
 Tests (Err Device) met items = Unit {0}
 Tests (Err NoMemory) met items = Unit {0}
 
+-- a rule is broken
+abbrev pub IsBroken : {T : Type 0} → Result T Stop → Type 0
+IsBroken (Ok kept) = ⊥
+IsBroken (Err (Broken broken)) = Unit {0}
+IsBroken (Err Device) = ⊥
+IsBroken (Err NoMemory) = ⊥
+
 -- the names are those of the used slots of a directory before that one
 abbrev pub KnowsNames : (ℕ → List ℕ) → ℕ → ℕ → NameSet → Type 0
 KnowsNames blocks ino at names = (name : List ℕ) → has_name names name ≡ any_from (λ earlier. is_named name (slot_in blocks ino earlier)) 0 at

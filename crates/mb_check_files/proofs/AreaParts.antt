@@ -80,16 +80,16 @@ module _ (blocks : ℕ → List ℕ) (ino holder : ℕ) (inode : Dinode) (reads 
     done_level levels k address mid after low here is before h =
         each_more items list mid after 0 k k (k + 1) (omega arith) (omega arith) before (sym (ap (walked mid) (item_at levels k address low here is)) ∙ h)
 
-  part_direct : (k : ℕ) → k < 10 → part_address blocks ino k ≡ address_in inode k
+  pub part_direct : (k : ℕ) → k < 10 → part_address blocks ino k ≡ address_in inode k
   part_direct k low = ap (at (pointers blocks)) (direct_place ino k low) ∙ reads.address k (omega arith)
 
-  part_single : (k : ℕ) → k < 128 → part_address blocks ino (10 + k) ≡ under_single blocks (address_in inode 10) k
+  pub part_single : (k : ℕ) → k < 128 → part_address blocks ino (10 + k) ≡ under_single blocks (address_in inode 10) k
   part_single k low = ap (at (pointers blocks)) (single_in ino k low) ∙ ap (λ a. under_single blocks a k) (reads.address 10 (omega arith))
 
-  part_double : (k : ℕ) → k < 16384 → part_address blocks ino (138 + k) ≡ under_double blocks (address_in inode 11) k
+  pub part_double : (k : ℕ) → k < 16384 → part_address blocks ino (138 + k) ≡ under_double blocks (address_in inode 11) k
   part_double k low = ap (at (pointers blocks)) (double_in ino k low) ∙ ap (λ a. under_double blocks a k) (reads.address 11 (omega arith))
 
-  part_triple : (k : ℕ) → part_address blocks ino (16522 + k) ≡ under_triple blocks (address_in inode 12) k
+  pub part_triple : (k : ℕ) → part_address blocks ino (16522 + k) ≡ under_triple blocks (address_in inode 12) k
   part_triple k = ap (at (pointers blocks)) (triple_in ino k) ∙ ap (λ a. under_triple blocks a k) (reads.address 12 (omega arith))
 
   pub area_notes : (p0 p1 p2 p3 p4 : PartList) (a b c : ℕ) → a ≡ address_in inode 10 → b ≡ address_in inode 11 → c ≡ address_in inode 12

@@ -1,5 +1,5 @@
 -- What the first three parts of the scan keep of an image.
-use Rattle.std.specs.Prelude.{ℕ, ◌≡◌, length}
+use Rattle.std.specs.Prelude.{ℕ, ◌≡◌, ◌≤◌, length}
 use Rattle.mb_kinds.specs.Image.{Image}
 use Rattle.mb_tree.specs.Cost.{cost}
 use Rattle.mb_tree.specs.Volume.{last_inode}
@@ -16,4 +16,5 @@ pub record TellsSpace (image : Image) (held free : ℕ) : Type 0 where
 pub record TellsFiles (image : Image) (files : VolumeFiles) : Type 0 where
   pub last : files.last ≡ last_inode image.at
   pub table : KeepsInodes image.at files.table files.last
+  pub few : length files.table.parts.addresses.items ≤ 262144
   pub space : TellsSpace image files.held files.free

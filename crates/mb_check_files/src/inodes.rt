@@ -182,6 +182,7 @@ pub fn each_inode<D: Disk>(
     requires paid { length table.old.parts.addresses.items ≤ count_met met.old }
     ensures walk { IfSome (D.told disk.old) (λ image. (list : List ℕ) → AreBounds image.at bounds.now → Stands met.old list → Passes result met.new list (files_items image.at)) }
     ensures kept { OnOk result (IfSome (D.told disk.old) (λ image. KeepsInodes image.at table.old 0 → KeepsInodes image.at table.new (8 * (bounds.now.low - 2)))) }
+    ensures few { OnOk result (length table.new.parts.addresses.items ≤ count_met met.new) }
     ensures told { D.told disk.new ≡ D.told disk.old }
     ensures cause { DeviceCause (D.faults disk.old) (D.faults disk.new) result }
 {

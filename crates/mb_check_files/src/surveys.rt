@@ -1,4 +1,4 @@
-ghost use Rattle.std.specs.Prelude.{ℕ, List, ◌≡◌, ◌-◌, ◌*◌, [], Ok, length, IfSome, IfOk, OnOk};
+ghost use Rattle.std.specs.Prelude.{ℕ, List, ◌≡◌, ◌≤◌, ◌-◌, ◌*◌, [], Ok, length, IfSome, IfOk, OnOk};
 ghost use Rattle.mb_rules.specs.Items.{walked};
 ghost use Rattle.mb_rules.specs.SuperBlock.{super_block_items};
 ghost use Rattle.mb_scan_laws.specs.Laws.{first_items};
@@ -50,6 +50,7 @@ fn chain_and_files<D: Disk>(
     ensures walk { IfSome (D.told disk.old) (λ image. first.now ≡ image.at 1 → walked [] (super_block_items image) ≡ Ok [] → Stands met.old [] → Finds result [] (first_items image)) }
     ensures tells { IfOk result (λ space. IfSome (D.told disk.old) (λ image. first.now ≡ image.at 1 → walked [] (super_block_items image) ≡ Ok [] → Stands met.old [] → TellsSpace image space.held space.free)) }
     ensures kept { OnOk result (IfSome (D.told disk.old) (λ image. KeepsInodes image.at table.old 0 → KeepsInodes image.at table.new (8 * (bounds.now.low - 2)))) }
+    ensures few { OnOk result (length table.new.parts.addresses.items ≤ 262144) }
     ensures told { D.told disk.new ≡ D.told disk.old }
     ensures cause { DeviceCause (D.faults disk.old) (D.faults disk.new) result }
 {

@@ -112,6 +112,7 @@ module _ (config : Config) (journal : JournalState) (callers : List CallerState)
     callers_are = length-set callers at new ∙ h.callers_are;
     begun = each_set (λ caller d. d.begun ≤ config.most) callers at desk new has (omega (arith, low)) (λ caller d apart is. h.begun caller d is);
     entries = rw grown (all_of _ _ (λ entry e. record { caller = e.caller; above = e.above; below = omega (arith, e.below); call = e.call }) journal.history h.entries);
+    pairs = h.pairs;
     ordinals = each_set (λ caller d. AllByRecursion (λ (entry : Entry). entry.caller ≡ caller → entry.ordinal ≤ d.begun) journal.history) callers at desk new has
         (all_of (λ (entry : Entry). entry.caller ≡ at → entry.ordinal ≤ desk.begun) (λ (entry : Entry). entry.caller ≡ at → entry.ordinal ≤ desk.begun + 1) (λ entry o own. omega (arith, o own)) journal.history (h.ordinals at desk has))
         (λ caller d apart is. h.ordinals caller d is);

@@ -19,7 +19,8 @@ use Rattle.mb_core_order.proofs.Keepings.{no_copies, no_true}
 use Rattle.mb_core_order.proofs.Overlays.{same_some}
 use Rattle.mb_core_spec.specs.Bounds.{IsConfig}
 use Rattle.mb_core_spec.specs.Callers.{EachCaller, one_if, total}
-use Rattle.mb_core_spec.specs.Copies.{AreTrue, KeepsCopies, TableCounts}
+use Rattle.mb_core_spec.specs.Copies.{AreTrue, KeepsCopies}
+use Rattle.mb_session.specs.OpenFiles.{TellsCounts}
 use Rattle.mb_core_spec.specs.Flights.{IsAnswered, IsFlying, IsUndoable, MayBeInside, is_pin}
 use Rattle.mb_core_spec.specs.Numbers.{is_open, open_flight}
 use Rattle.mb_core_spec.specs.Right.{IsOrderly, Right}
@@ -67,6 +68,7 @@ module _ {F D : Type 0} (fs : F) (first : D) (config : Config) (cache : CacheSta
       callers_are = many n idle;
       begun = all_idle n (λ caller d. d.begun ≤ config.most) (λ caller. omega arith);
       entries = tt;
+      pairs = tt;
       ordinals = all_idle n _ (λ caller. tt);
       waiting = λ caller d is flight waits. absurd (no_flight flight (ap (λ (x : CallerState). open_flight x.flight) (each_idle n caller d is) ∙ waits));
       apart = λ one other d next f g is at apart f_is g_is. absurd (no_flight f (ap (λ (x : CallerState). open_flight x.flight) (each_idle n one d is) ∙ f_is));
@@ -114,7 +116,7 @@ module _ {F D : Type 0} (fs : F) (first : D) (config : Config) (cache : CacheSta
 
   -- the swept volume under the sealed pages, with sessions and a table that have no open file
   pub holds_begins : (tree : Tree) (image base : Image) → cache.current ≡ [] → IsVolume base (opening tree config.callers).tree → Kept tree image (opening tree config.callers).tree base → IsValid (opening tree config.callers)
-      → TableCounts opens (counts (map first_seat config.callers)) → Holds tree image base core
+      → TellsCounts opens (counts (map first_seat config.callers)) → Holds tree image base core
   holds_begins tree image base none volume kept valid counted = record {
     legal = record { legal = record { runs = tt; above = tt; order = tt }; valid = valid; seats = refl };
     checkpoint = record { within = omega arith; volume = volume; kept = kept; seats = refl };
@@ -126,7 +128,7 @@ module _ {F D : Type 0} (fs : F) (first : D) (config : Config) (cache : CacheSta
     });
   }
 
-  pub right_begins : (told : D → Option Image) (faults : D → ℕ) → cache.current ≡ [] → TableCounts opens (counts (map first_seat config.callers)) → ((image : Image) → told first ≡ Some image → IsSome (told cache.disk)) → faults first ≤ faults cache.disk
+  pub right_begins : (told : D → Option Image) (faults : D → ℕ) → cache.current ≡ [] → TellsCounts opens (counts (map first_seat config.callers)) → ((image : Image) → told first ≡ Some image → IsSome (told cache.disk)) → faults first ≤ faults cache.disk
       → ((old image : Image) (tree : Tree) → told first ≡ Some old → told cache.disk ≡ Some image → IsVolume old tree
       → IsVolume (under image cache.sealed) (opening tree config.callers).tree × Kept tree old (opening tree config.callers).tree (under image cache.sealed) × IsValid (opening tree config.callers))
       → Right told faults core

@@ -11,7 +11,8 @@ use Rattle.mb_tree.specs.declared.seats.Seat.{Seat}
 use Rattle.mb_cache.specs.Stamps.{Stamps}
 use Rattle.mb_cache.specs.CacheLaws.{Moves}
 use Rattle.mb_core_spec.specs.declared.ready.Ready.{Ready}
-use Rattle.mb_core_spec.specs.Copies.{AreFresh, AreOld, AreTrue, CopyList, KeepsTables, KeptBlock, LiveTables, TableCopy, TableCounts, TablesAreFresh, cwds, kept_at, shown}
+use Rattle.mb_core_spec.specs.Copies.{AreFresh, AreOld, AreTrue, CopyList, KeepsTables, KeptBlock, LiveTables, TableCopy, TablesAreFresh, cwds, kept_at, shown}
+use Rattle.mb_session.specs.OpenFiles.{TellsCounts}
 use Rattle.mb_tree.specs.Views.{IsPart}
 use Rattle.mb_core_spec.specs.Performed.{Agrees, IsPerformed, IsReadyFor}
 
@@ -50,12 +51,12 @@ true_gathers view stamps copies grown block new each reads are other kept has no
 -- ---- the tables
 
 pub agrees_now : (shared : Bool) (caller : ℕ) (live : LiveTables) (kept given : TableCopy) → KeepsTables caller live kept → TablesAreFresh shared caller live kept given
-    → TableCounts live.opens (counts live.sessions) → Agrees shared caller given.sessions given.opens live.sessions
+    → TellsCounts live.opens (counts live.sessions) → Agrees shared caller given.sessions given.opens live.sessions
 agrees_now false caller live kept given keeps fresh counted = fresh ∙ keeps.own
 agrees_now true caller live kept given keeps fresh counted =
     let opens : given.opens ≡ live.opens = fresh.1 ∙ keeps.opens fresh.2 in (
       ap (λ (seats : List Seat). slice_get seats caller) fresh.0 ∙ keeps.own,
-      subst (λ o. TableCounts o (counts live.sessions)) (sym opens) counted,
+      subst (λ o. TellsCounts o (counts live.sessions)) (sym opens) counted,
       ap cwds fresh.0 ∙ keeps.directories fresh.2,
     )
 
@@ -65,7 +66,7 @@ pub finish_performs : (view : Image) (stamps : Stamps) (copies pages : CopyList)
     → IsReadyFor (shown pages) given.sessions given.opens caller call moment ready
     → AreTrue view.at stamps copies → AreFresh copies stamps pages
     → KeepsTables caller live kept → TablesAreFresh ready.shared caller live kept given
-    → IsVolume view now.tree → IsValid now → now.seats ≡ live.sessions → TableCounts live.opens (counts live.sessions)
+    → IsVolume view now.tree → IsValid now → now.seats ≡ live.sessions → TellsCounts live.opens (counts live.sessions)
     → IsPerformed view now caller call moment ready
 finish_performs view stamps copies pages live kept given now caller call moment ready does are fresh keeps tables volume valid seats counted =
     does view now.tree now.seats (fresh_part view.at stamps copies pages are fresh) volume

@@ -2,7 +2,7 @@
 use Rattle.std.proofs.Common.{inl, inr, List, [], ◌∷◌, ◌++◌, ℕ, zero, suc, ◌+◌, ◌≡◌, ◌≢◌, ◌<◌, ◌≤◌, Bool, true, false, Option, Some, None, length, slice_get, slice_set, refl, ap, sym, ◌∙◌, subst, arith, length-append}
 use Rattle.std.proofs.lemmas.List.{append-nil, length-set}
 use Rattle.std.proofs.lemmas.List.Elements.{Contains-append_right}
-use Rattle.std.specs.Prelude.{if◌then◌else◌, nat_eq, option_map, unwrap_or}
+use Rattle.std.specs.Prelude.{if◌then◌else◌, nat_le, option_map, unwrap_or}
 use Rattle.mb_kinds.specs.declared.calls.Call.{Call}
 use Rattle.mb_kinds.specs.declared.entries.Entry.{Entry}
 use Rattle.mb_kinds.specs.declared.entries.Flight.{Flight}
@@ -63,7 +63,7 @@ few_insiders (d ∷ callers) = let rest = few_insiders callers in let one = at_m
 
 -- who has the floor after a stale answer of another had it before
 floor_was : (at caller stales : ℕ) (floor : Option ℕ) → caller ≢ at → floor_after at stales floor ≡ Some caller → floor ≡ Some caller
-floor_was at caller stales floor apart = elim (nat_eq (stales + 1) 4) as (λ b. (if b then Some at else floor) ≡ Some caller → floor ≡ Some caller) [
+floor_was at caller stales floor apart = elim (nat_le 3 stales) as (λ b. (if b then Some at else floor) ≡ Some caller → floor ≡ Some caller) [
   | true ↦ λ is. absurd (apart (sym (same_some at caller is)))
   | false ↦ λ is. is
 ]
@@ -259,8 +259,8 @@ module _ {F D : Type 0} (core : CoreState F D) (o : IsOrderly core) (at : ℕ) (
     marks_then : (new : CallerState) → new.inside ≡ mine.inside → HasMarks core.stage (insiders (slice_set core.callers at new)) room
     marks_then new same = subst (λ s. HasMarks s (insiders (slice_set core.callers at new)) room) (sym is) (let as_many = same_in new same in let t = marks.0 in λ some. (omega (arith, as_many, t), marks.1))
 
-    pub orderly_stale : (block : ℕ) → mine.stales < 4 → core.journal.room.history ≤ room.history → IsOrderly (roomy (staling core at mine ticket block pins) room)
-    orderly_stale block few kept_room =
+    pub orderly_stale : (block : ℕ) → core.journal.room.history ≤ room.history → IsOrderly (roomy (staling core at mine ticket block pins) room)
+    orderly_stale block kept_room =
         let new : CallerState = gathers_anew mine at (floor_after at mine.stales core.floor) in
         record {
           numbered = numbered_rest core.config core.journal (slice_set core.callers at new) core.stage _ core.journal.oplog core.journal.sealed_at room
@@ -274,7 +274,7 @@ module _ {F D : Type 0} (core : CoreState F D) (o : IsOrderly core) (at : ℕ) (
           answers = each_set (λ caller d. IsAnswered caller core.journal.history d) core.callers at mine new has (o.answers at mine has) (λ caller d apart at_it. o.answers caller d at_it);
           unwound = each_set (λ caller d. MayBeInside core.stage d.inside) core.callers at mine new has (o.unwound at mine has) (λ caller d apart at_it. o.unwound caller d at_it);
           copies = λ now. each_set (λ caller d. KeepsCopies caller core.cache.stamps core.tables d.pages) core.callers at mine new has (no_copies at core.cache.stamps core.tables) (λ caller d apart at_it. o.copies now caller d at_it);
-          undoable = each_set (λ caller d. IsUndoable caller (floor_after at mine.stales core.floor) d) core.callers at mine new has (undoable_stale at core.floor mine new few inside refl)
+          undoable = each_set (λ caller d. IsUndoable caller (floor_after at mine.stales core.floor) d) core.callers at mine new has (undoable_stale at core.floor mine new inside refl)
               (λ caller d apart at_it. undoable_taken at caller core.floor d mine.stales apart mine_floor (o.undoable caller d at_it));
           pinned = pins_follow core.cache.pins pins core.callers at mine new has o.pinned (pins_given core.cache.pins pins mine new gives (floor_undo_pins at (floor_after at mine.stales core.floor) mine.reserved));
           floor = floor_taken core.callers at mine new core.floor has inside o.floor mine.stales;

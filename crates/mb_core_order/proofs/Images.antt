@@ -44,7 +44,8 @@ use Rattle.mb_core_order.proofs.Overlays.{under_held}
 use Rattle.mb_core_order.proofs.Redoing.{counts_are}
 use Rattle.mb_core_order.proofs.Replaying.{replays_one}
 use Rattle.mb_tree.specs.CarriedOut.{AreCarriedOut, IsCarriedOut, tree_and_opens}
-use Rattle.mb_core_spec.specs.Copies.{PagesState, TableCounts}
+use Rattle.mb_core_spec.specs.Copies.{PagesState}
+use Rattle.mb_session.specs.OpenFiles.{TellsCounts}
 use Rattle.mb_core_spec.specs.Events.{answered_by, ended, entering, entry_for, gathering, leaving, logged_op, logging, staling}
 use Rattle.mb_core_spec.specs.Histories.{as_picked, picked_ops, IsLegalSoFar, ReplaysToNow}
 use Rattle.mb_core_spec.specs.Performed.{IsPerformed}
@@ -97,8 +98,8 @@ module _ {F D : Type 0} (before : Tree) (first base : Image) (core : CoreState F
   pub holds_strikes : (ticket : Ticket) (kind : Kind) (nth : ℕ) (strokes : List Stroke) → Holds before first base (striking core ticket kind nth strokes)
   holds_strikes ticket kind nth strokes = record { legal = h.legal; checkpoint = h.checkpoint; replay = h.replay; view = tt }
 
-  pub holds_strikes_again : (ticket : Ticket) (kind : Kind) (nth : ℕ) (strokes : List Stroke) → Holds before first base (striking_again core ticket kind nth strokes)
-  holds_strikes_again ticket kind nth strokes = record { legal = h.legal; checkpoint = h.checkpoint; replay = h.replay; view = tt }
+  pub holds_strikes_again : (caller ordinal : ℕ) (kind : Kind) (nth : ℕ) (strokes : List Stroke) → Holds before first base (striking_again core caller ordinal kind nth strokes)
+  holds_strikes_again caller ordinal kind nth strokes = record { legal = h.legal; checkpoint = h.checkpoint; replay = h.replay; view = tt }
 
   pub holds_fails : Holds before first base (failing core)
   holds_fails = record { legal = h.legal; checkpoint = h.checkpoint; replay = h.replay; view = tt }
@@ -114,7 +115,7 @@ module _ {F D : Type 0} (before : Tree) (first base : Image) (core : CoreState F
   pub holds_remounts : (disk : D) → core.stage ≡ stage.Dropped → Holds before first base (remounting core disk)
   holds_remounts disk is = record { legal = h.legal; checkpoint = h.checkpoint; replay = h.replay; view = stands stage.Dropped is }
 
-  pub holds_reopens : (opens : OpenCounts) → core.stage ≡ stage.Remounted → TableCounts opens (counts core.tables.saved) → Holds before first base (reopening core opens)
+  pub holds_reopens : (opens : OpenCounts) → core.stage ≡ stage.Remounted → TellsCounts opens (counts core.tables.saved) → Holds before first base (reopening core opens)
   holds_reopens opens is counted =
       let none : core.cache.current ≡ [] = stands stage.Remounted is in
       let bare : under base core.cache.current ≡ base = ap (under base) none in
@@ -129,7 +130,7 @@ module _ {F D : Type 0} (before : Tree) (first base : Image) (core : CoreState F
           held = subst (λ (view : Image). IsHeldBy before first view opens (tree_and_opens start)) (sym bare) (record {
             volume = h.checkpoint.volume;
             kept = h.checkpoint.kept;
-            counted = subst (λ (seats : List Seat). TableCounts opens (counts seats)) (sym h.checkpoint.seats) counted;
+            counted = subst (λ (seats : List Seat). TellsCounts opens (counts seats)) (sym h.checkpoint.seats) counted;
           });
         };
       }
@@ -138,7 +139,7 @@ module _ {F D : Type 0} (before : Tree) (first base : Image) (core : CoreState F
   pub holds_replays : (cache : CacheState D) (opens : OpenCounts) (done : ℕ) (logged : Logged) (shown : ℕ → Option (List ℕ)) (changes : ChangeList) (picked : Option ℕ) → core.stage ≡ stage.Restored done
       → slice_get core.journal.oplog done ≡ Some logged → IsPart shown (under base core.cache.current).at
       → ((tree : Tree) → IsVolume (under base core.cache.current) tree → Acts shown (under base core.cache.current) tree core.tables.opens logged.op logged.pick (acted.Done changes picked))
-      → ((made next : TreeAndOpens) → TableCounts core.tables.opens made.opens → ((ino : ℕ) → made.opens ino ≤ 17 * length begins_with.seats) → IsCarriedOut made (as_picked logged) next → TableCounts opens next.opens)
+      → ((made next : TreeAndOpens) → TellsCounts core.tables.opens made.opens → ((ino : ℕ) → made.opens ino ≤ 17 * length begins_with.seats) → IsCarriedOut made (as_picked logged) next → TellsCounts opens next.opens)
       → under base cache.current ≡ under (under base core.cache.current) changes
       → Holds before first base (replaying core cache opens done)
   holds_replays cache opens done logged shown changes picked is at part acts counted view =
@@ -208,8 +209,8 @@ module _ {F D : Type 0} (before : Tree) (first base : Image) (core : CoreState F
     grown : after begins_with (core.journal.history ++ entry ∷ []) ≡ moves.next
     grown = after_grown begins_with core.journal.history entry ops _ moves.next moves.more
 
-    opens_then : TableCounts new.tables.opens (counts moves.next.seats)
-    opens_then = subst (TableCounts new.tables.opens) moves.opens
+    opens_then : TellsCounts new.tables.opens (counts moves.next.seats)
+    opens_then = subst (TellsCounts new.tables.opens) moves.opens
         (installs.counted (λ ino. (let one = old_view.counted ino in let low = few ino in omega (arith, one, low))) now.tree moves.held
         (ap (λ f. effect_of now.tree f ready.op ready.pick) (counts_are core.tables.opens (counts now.seats) old_view.counted) ∙ moves.effect))
 

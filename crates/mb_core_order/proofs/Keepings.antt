@@ -1,8 +1,9 @@
 -- Each event keeps copies, tables, undo logs, pins, the floor, the calls in flight and what they have at hand.
-use Rattle.std.proofs.Common.{List, [], ◌∷◌, ◌++◌, ℕ, zero, suc, ◌+◌, ◌≡◌, ◌≢◌, ◌<◌, ◌≤◌, inl, inr, Bool, true, false, Option, Some, None, option_map, unwrap_or, slice_get, slice_set, refl, ap, sym, ◌∙◌, subst, arith}
+use Rattle.std.proofs.Common.{List, [], ◌∷◌, ◌++◌, ℕ, zero, suc, ◌+◌, ◌≡◌, ◌≢◌, ◌≤◌, inl, inr, Bool, true, false, Option, Some, None, option_map, unwrap_or, slice_get, slice_set, refl, ap, sym, ◌∙◌, subst, arith}
 use Rattle.std.proofs.lemmas.Bool.Decides.{nat_tests}
+use Rattle.std.proofs.Math.Nat.{min-le_left, min-le_right}
 use Rattle.std.proofs.lemmas.List.Elements.{Contains-append_left}
-use Rattle.std.specs.Prelude.{if◌then◌else◌, nat_eq}
+use Rattle.std.specs.Prelude.{if◌then◌else◌, min, nat_eq, nat_le}
 use Rattle.mb_kinds.specs.Image.{Image}
 use Rattle.mb_kinds.specs.declared.entries.Entry.{Entry}
 use Rattle.mb_kinds.specs.declared.entries.Flight.{Flight}
@@ -219,9 +220,9 @@ floor_kept callers at mine new (Some holder) has stays is = elim (one_or_not hol
   | inr apart ↦ (is.0, set_there callers at holder new apart ∙ is.1, is.2)
 ]
 
--- the fourth stale answer takes it
+-- from the fourth stale answer on it is taken
 pub floor_taken : (callers : List CallerState) (at : ℕ) (mine new : CallerState) (floor : Option ℕ) → slice_get callers at ≡ Some mine → new.inside ≡ true → IsFloor floor callers → (stales : ℕ) → IsFloor (floor_after at stales floor) (slice_set callers at new)
-floor_taken callers at mine new floor has inside is stales = elim (nat_eq (stales + 1) 4) as (λ b. IsFloor (if b then Some at else floor) (slice_set callers at new)) [
+floor_taken callers at mine new floor has inside is stales = elim (nat_le 3 stales) as (λ b. IsFloor (if b then Some at else floor) (slice_set callers at new)) [
   | true ↦ (new, set_here callers at mine new has, inside)
   | false ↦ floor_kept callers at mine new floor has (λ was. inside) is
 ]
@@ -253,11 +254,15 @@ pub undoable_back : (caller : ℕ) (floor : Option ℕ) (d : CallerState) → Is
 undoable_back caller floor d = record { outside = λ out. (refl, refl, refl, refl); stales = omega arith; fourth = λ four. absurd (let wrong : 0 ≡ 4 = four in omega (arith, wrong)) }
 
 -- the one that is stale
-pub undoable_stale : (caller : ℕ) (floor : Option ℕ) (mine new : CallerState) → mine.stales < 4 → new.inside ≡ true → new.stales ≡ mine.stales + 1 → IsUndoable caller (floor_after caller mine.stales floor) new
-undoable_stale caller floor mine new few inside count = record {
+pub undoable_stale : (caller : ℕ) (floor : Option ℕ) (mine new : CallerState) → new.inside ≡ true → new.stales ≡ min (mine.stales + 1) 4 → IsUndoable caller (floor_after caller mine.stales floor) new
+undoable_stale caller floor mine new inside count = record {
   outside = λ out. absurd (let wrong : true ≡ false = sym inside ∙ out in cc);
-  stales = omega (arith, count, few);
-  fourth = λ is. (let reached : nat_eq (mine.stales + 1) 4 ≡ true = grind (arith, nat_tests, is, count) in ap (λ b. if b then Some caller else floor) reached);
+  stales = (let least = min-le_right (mine.stales + 1) 4 in omega (arith, count, least));
+  fourth = λ is. (
+      let least = min-le_left (mine.stales + 1) 4 in
+      let four : 3 ≤ mine.stales = omega (arith, is, count, least) in
+      let reached : nat_le 3 mine.stales ≡ true = grind (arith, nat_tests, four) in
+      ap (λ b. if b then Some caller else floor) reached);
 }
 
 -- ---- calls in flight

@@ -14,6 +14,7 @@ pub mod Orderlies
 pub mod Callings
 pub mod Enterings
 pub mod Rights
+pub mod Rooms
 pub mod RightsOfCalls
 pub mod Begins
 pub mod Readings

@@ -20,12 +20,33 @@ use Rattle.mb_core_order.proofs.Beginning.{all_of, each_set, set_here, set_there
 use Rattle.mb_core_order.proofs.Overlays.{same_some, total_set}
 use Rattle.mb_core_spec.specs.Callers.{one_if, total}
 use Rattle.mb_core_spec.specs.Faults.{MayNumber, Names, Says}
-use Rattle.mb_core_spec.specs.Numbers.{CanFollow, IsNumbered, IsOpen, is_open, open_calls, open_flight}
+use Rattle.mb_core_spec.specs.Numbers.{AreInOrder, CanFollow, IsNumbered, IsOpen, is_open, open_calls, open_flight}
 use Rattle.mb_core_spec.specs.State.{CallerState, JournalRoom, JournalState}
 
 pub all_push : {X : Type 0} (P : X → Type 0) (xs : List X) (x : X) → AllByRecursion P xs → P x → AllByRecursion P (xs ++ x ∷ [])
 all_push P [] x h one = (one, tt)
 all_push P (y ∷ xs) x h one = (h.0, all_push P xs x h.1 one)
+
+-- an entry that can come after every other one
+pub order_push : (history : List Entry) (entry : Entry) → AreInOrder history → AllByRecursion (CanFollow entry.caller entry.ordinal entry.moment) history → AreInOrder (history ++ entry ∷ [])
+order_push [] entry order follows = (tt, tt)
+order_push (one ∷ history) entry order follows = (all_push (λ (next : Entry). CanFollow next.caller next.ordinal next.moment one) history entry order.0 follows.0, order_push history entry order.1 follows.1)
+
+-- what holds of all holds at each place
+all_at : {X : Type 0} (P : X → Type 0) (xs : List X) (place : ℕ) (x : X) → AllByRecursion P xs → slice_get xs place ≡ Some x → P x
+all_at P [] place x all is = absurd (let no : None ≡ Some x = is in cc)
+all_at P (y ∷ xs) zero x all is = subst P (same_some y x is) all.0
+all_at P (y ∷ xs) (suc place) x all is = all_at P xs place x all.1 is
+
+-- of two entries the later one can come after the earlier one
+pub follows_at : (history : List Entry) → AreInOrder history → (one other : ℕ) (earlier later : Entry) → slice_get history one ≡ Some earlier → slice_get history other ≡ Some later → one < other
+    → CanFollow later.caller later.ordinal later.moment earlier
+follows_at [] order one other earlier later is next before = absurd (let no : None ≡ Some earlier = is in cc)
+follows_at (entry ∷ history) order zero zero earlier later is next before = absurd (omega (arith, before))
+follows_at (entry ∷ history) order zero (suc other) earlier later is next before =
+    subst (CanFollow later.caller later.ordinal later.moment) (same_some entry earlier is) (all_at (λ (e : Entry). CanFollow e.caller e.ordinal e.moment entry) history other later order.0 next)
+follows_at (entry ∷ history) order (suc one) zero earlier later is next before = absurd (omega (arith, before))
+follows_at (entry ∷ history) order (suc one) (suc other) earlier later is next before = follows_at history order.1 one other earlier later is next (omega (arith, before))
 
 -- two flights of the same call
 pub record IsSameCall (f g : Flight) : Type 0 where
@@ -96,6 +117,7 @@ module _ (config : Config) (journal : JournalState) (callers : List CallerState)
     callers_are = length-set callers at new ∙ h.callers_are;
     begun = each_set (λ caller d. d.begun ≤ config.most) callers at mine new has (let low = h.begun at mine has in omega (arith, low, begun)) (λ caller d apart is. h.begun caller d is);
     entries = rw same_sum h.entries;
+    pairs = h.pairs;
     ordinals = each_set (λ caller d. AllByRecursion (λ (entry : Entry). entry.caller ≡ caller → entry.ordinal ≤ d.begun) journal.history) callers at mine new has
         (subst (λ b. AllByRecursion (λ (entry : Entry). entry.caller ≡ at → entry.ordinal ≤ b) journal.history) (sym begun) (h.ordinals at mine has)) (λ caller d apart is. h.ordinals caller d is);
     waiting = rw same_sum (each_set (λ caller d. (flight : Flight) → open_flight d.flight ≡ Some flight → IsOpen config.start (config.start + sum) journal.history caller d.begun flight) callers at mine new has still_open
@@ -180,6 +202,8 @@ module _ (config : Config) (journal : JournalState) (callers : List CallerState)
       below = (let high = its_open.below in omega (arith, high, moment_is, the_sum));
       call = subst IsCall (sym call_is) its_open.call;
     });
+    pairs = order_push journal.history entry h.pairs (subst (λ c. AllByRecursion (CanFollow c entry.ordinal entry.moment) journal.history) (sym caller_is)
+        (subst (λ o. AllByRecursion (CanFollow at o entry.moment) journal.history) (sym ordinal_is) (subst (λ m. AllByRecursion (CanFollow at flight.ordinal m) journal.history) (sym moment_is) its_open.follows)));
     ordinals = λ caller d is. all_push (λ (e : Entry). e.caller ≡ caller → e.ordinal ≤ d.begun) journal.history entry (k.ordinals caller d is) (λ own.
         (let here : caller ≡ at = sym own ∙ caller_is in
         let same : new ≡ d = same_some new d (sym (set_here callers at mine new has) ∙ ap (slice_get (slice_set callers at new)) (sym here) ∙ is) in
@@ -227,6 +251,7 @@ numbered_stage config journal callers was now trail oplog sealed_at room h lives
   callers_are = h.callers_are;
   begun = h.begun;
   entries = h.entries;
+  pairs = h.pairs;
   ordinals = h.ordinals;
   waiting = h.waiting;
   apart = h.apart;
@@ -243,6 +268,7 @@ numbered_strikes config journal callers was now fault trail room h lives low few
   callers_are = h.callers_are;
   begun = h.begun;
   entries = h.entries;
+  pairs = h.pairs;
   ordinals = h.ordinals;
   waiting = h.waiting;
   apart = h.apart;

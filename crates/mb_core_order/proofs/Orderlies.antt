@@ -8,7 +8,7 @@ use Rattle.mb_edge.specs.declared.strokes.Stroke.{Stroke}
 use Rattle.mb_tree.specs.declared.seats.Seat.{Seat}
 use Rattle.mb_cache.specs.Stamps.{Stamps, stamp_of}
 use Rattle.mb_cache.specs.Pages.{PageList}
-use Rattle.mb_cache.specs.State.{CacheState}
+use Rattle.mb_cache.specs.State.{CacheRoom, CacheState}
 use Rattle.mb_oplog.specs.declared.oplogs.Logged.{Logged}
 use Rattle.mb_core_spec.specs.declared.config.Config.{Config}
 use Rattle.mb_core_spec.specs.declared.stages.Stage.{Stage}
@@ -38,6 +38,7 @@ numbered_rest config journal callers now trail oplog sealed_at room h = record {
   callers_are = h.callers_are;
   begun = h.begun;
   entries = h.entries;
+  pairs = h.pairs;
   ordinals = h.ordinals;
   waiting = h.waiting;
   apart = h.apart;
@@ -131,14 +132,23 @@ module _ {F D : Type 0} (core : CoreState F D) (o : IsOrderly core) where
       changes = o.changes;
     }
 
+  -- ---- a fault in a recovery: nobody is inside, and the incarnation stays
+
+  module _ (caller ordinal : ℕ) (kind : Kind) (nth : ℕ) (strokes : List Stroke) (room : JournalRoom) (whose : caller < length core.config.callers) (left : core.journal.room.history ≤ room.history) where
+    abbrev fault_again : FaultRecord
+    fault_again = record { caller = caller; ordinal = ordinal; kind = kind; nth = nth }
+
+    longer_again : length (core.journal.records ++ fault_again ∷ []) ≡ length core.journal.records + 1
+    longer_again = length-append core.journal.records (fault_again ∷ [])
+
     again : (few : length core.journal.records ≤ core.config.limit) (out : EachCaller (λ caller d. d.inside ≡ false) core.callers) (lives : core.stage ≡ stage.Failed → ⊥)
-        (stamps : StampsAreFew false (length core.journal.history) (length core.journal.records + 1) 0 core.cache.stamps) → 1 ≤ room.trail
-        → IsTrailed (record core.journal { records = core.journal.records ++ fault ∷ []; trail = core.journal.trail ++ step.Struck (length core.journal.records + 1) ∷ []; room = room }) core.callers stage.Again
-        → IsOrderly (roomy (striking_again core ticket kind nth strokes) room)
-    again few out lives stamps one trailed = record {
-      numbered = numbered_strikes core.config core.journal core.callers core.stage stage.Again fault _ room o.numbered lives whose (omega (arith, few));
+        (flying : EachCaller (λ at d. IsFlying at d.inside false core.incarnation d.answer d.flight) core.callers) (stamps : StampsAreFew false (length core.journal.history) (length core.journal.records + 1) 0 core.cache.stamps) → 1 ≤ room.trail
+        → IsTrailed (record core.journal { records = core.journal.records ++ fault_again ∷ []; trail = core.journal.trail ++ step.Struck (length core.journal.records + 1) ∷ []; room = room }) core.callers stage.Again
+        → IsOrderly (roomy (striking_again core caller ordinal kind nth strokes) room)
+    again few out lives flying stamps one trailed = record {
+      numbered = numbered_strikes core.config core.journal core.callers core.stage stage.Again fault_again _ room o.numbered lives whose (omega (arith, few));
       trailed = trailed;
-      flying = λ caller d at. flying_strikes caller d.inside (runs core.stage) core.incarnation d.answer d.flight (o.flying caller d at);
+      flying = flying;
       answers = o.answers;
       unwound = out;
       copies = λ now. absurd (let wrong : stage.Again ≡ stage.Running = now in cc);
@@ -146,10 +156,10 @@ module _ {F D : Type 0} (core : CoreState F D) (o : IsOrderly core) where
       pinned = o.pinned;
       floor = o.floor;
       fresh = λ now. absurd (let wrong : stage.Again ≡ stage.Running = now in cc);
-      incarnation = (let low = o.incarnation in let more = longer in omega (arith, low, more));
+      incarnation = (let low = o.incarnation in let more = longer_again in omega (arith, low, more));
       marks = one;
       entries = (let fit = o.entries in omega (arith, fit, left));
-      stamps = subst (λ count. StampsAreFew false (length core.journal.history) count 0 core.cache.stamps) (sym longer) stamps;
+      stamps = subst (λ count. StampsAreFew false (length core.journal.history) count 0 core.cache.stamps) (sym longer_again) stamps;
       logged = o.logged;
       sessions = o.sessions;
       saved = o.saved;
@@ -160,16 +170,16 @@ module _ {F D : Type 0} (core : CoreState F D) (o : IsOrderly core) where
     }
 
     -- in a recovery: at the remount
-    pub orderly_strikes_dropped : core.stage ≡ stage.Dropped → 1 ≤ room.trail → IsOrderly (roomy (striking_again core ticket kind nth strokes) room)
-    orderly_strikes_dropped is one = again (number_at stage.Dropped is) (inside_at stage.Dropped is) (λ failed. (let wrong : stage.Dropped ≡ stage.Failed = sym is ∙ failed in cc))
+    pub orderly_strikes_dropped : core.stage ≡ stage.Dropped → 1 ≤ room.trail → IsOrderly (roomy (striking_again core caller ordinal kind nth strokes) room)
+    orderly_strikes_dropped is one = again (number_at stage.Dropped is) (inside_at stage.Dropped is) (λ failed. (let wrong : stage.Dropped ≡ stage.Failed = sym is ∙ failed in cc)) (flying_at stage.Dropped is)
         (stamps_again (length core.journal.history) (length core.journal.records) 0 core.cache.stamps (omega arith) (stamps_at stage.Dropped is)) one
-        (trailed_strikes_dropped core.journal core.callers core.stage o.trailed fault room (mode_at stage.Dropped is))
+        (trailed_strikes_dropped core.journal core.callers core.stage o.trailed fault_again room (mode_at stage.Dropped is))
 
     -- or at the replay of an operation
-    pub orderly_strikes_restored : (done : ℕ) → core.stage ≡ stage.Restored done → 1 ≤ room.trail → IsOrderly (roomy (striking_again core ticket kind nth strokes) room)
-    orderly_strikes_restored done is one = again (number_at (stage.Restored done) is) (inside_at (stage.Restored done) is) (λ failed. (let wrong : stage.Restored done ≡ stage.Failed = sym is ∙ failed in cc))
+    pub orderly_strikes_restored : (done : ℕ) → core.stage ≡ stage.Restored done → 1 ≤ room.trail → IsOrderly (roomy (striking_again core caller ordinal kind nth strokes) room)
+    orderly_strikes_restored done is one = again (number_at (stage.Restored done) is) (inside_at (stage.Restored done) is) (λ failed. (let wrong : stage.Restored done ≡ stage.Failed = sym is ∙ failed in cc)) (flying_at (stage.Restored done) is)
         (stamps_again (length core.journal.history) (length core.journal.records) done core.cache.stamps (let low = done_at done is in let all = brief in omega (arith, low, all)) (stamps_at (stage.Restored done) is)) one
-        (trailed_strikes_restored core.journal core.callers core.stage o.trailed done fault room (mode_at (stage.Restored done) is))
+        (trailed_strikes_restored core.journal core.callers core.stage o.trailed done fault_again room (mode_at (stage.Restored done) is))
 
   -- ---- the steps of a recovery
 
@@ -302,6 +312,32 @@ module _ {F D : Type 0} (core : CoreState F D) (o : IsOrderly core) where
       bounds = o.bounds;
       changes = o.changes;
     }
+
+  -- the room of the cache
+  pub orderly_roomy : (room : CacheRoom) → IsOrderly (record core { cache = record core.cache { room = room } })
+  orderly_roomy room = record {
+    numbered = o.numbered;
+    trailed = o.trailed;
+    flying = o.flying;
+    answers = o.answers;
+    unwound = o.unwound;
+    copies = o.copies;
+    undoable = o.undoable;
+    pinned = o.pinned;
+    floor = o.floor;
+    fresh = o.fresh;
+    incarnation = o.incarnation;
+    marks = o.marks;
+    entries = o.entries;
+    stamps = o.stamps;
+    logged = o.logged;
+    sessions = o.sessions;
+    saved = o.saved;
+    dropped = o.dropped;
+    within = o.within;
+    bounds = o.bounds;
+    changes = o.changes;
+  }
 
   pub orderly_flushes : (disk : D) (sealed : PageList) → IsOrderly (flushing core disk sealed)
   orderly_flushes disk sealed = record {

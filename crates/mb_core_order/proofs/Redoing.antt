@@ -18,7 +18,7 @@ use Rattle.mb_tree.specs.declared.operations.FsOp.{FsOp}
 use Rattle.mb_tree.specs.declared.trees.Tree.{Tree}
 use Rattle.mb_tree.proofs.KeptVolumes.{kept_composes, kept_resized, volume_resized}
 use Rattle.mb_tree.proofs.PickedEffects.{makes_by_number, unpicked}
-use Rattle.mb_core_spec.specs.Copies.{TableCounts}
+use Rattle.mb_session.specs.OpenFiles.{TellsCounts}
 use Rattle.mb_core_spec.specs.Seen.{IsHeldBy}
 
 -- ---- a larger device, and changes written one after another
@@ -31,7 +31,7 @@ kept_grows before old later new count k = kept_resized before later old new old.
 
 -- ---- the operation of a log
 
-pub counts_are : (opens : OpenCounts) (held : ℕ → ℕ) → TableCounts opens held → count_of opens ≡ held
+pub counts_are : (opens : OpenCounts) (held : ℕ → ℕ) → TellsCounts opens held → count_of opens ≡ held
 counts_are opens held each = fun_ext each
 
 -- the number with which an operation is done again is the one with which it was done
@@ -53,7 +53,7 @@ module _ (before : Tree) (first view : Image) (opens : OpenCounts) (made : TreeA
   leads_by picked picks = ap (λ f. effect made.tree f op picked) same_counts ∙ again_by made.tree made.opens op pick picked next (makes_inode op) refl leads picks
 
   -- what it changes makes a volume of the tree that it made before
-  pub done_again : (changes : ChangeList) (picked : Option ℕ) (grown : OpenCounts) → Acts shown view made.tree opens op pick (acted.Done changes picked) → TableCounts grown next.opens
+  pub done_again : (changes : ChangeList) (picked : Option ℕ) (grown : OpenCounts) → Acts shown view made.tree opens op pick (acted.Done changes picked) → TellsCounts grown next.opens
       → IsHeldBy before first (with_changes view changes) grown next
   done_again changes picked grown acts counted =
       let done = acts fits_now in

@@ -16,7 +16,7 @@ use Rattle.mb_cache.specs.Pages.{under}
 use Rattle.mb_oplog.specs.declared.oplogs.Logged.{Logged}
 use Rattle.mb_core_order.proofs.Overlays.{under_held}
 use Rattle.mb_core_order.proofs.Redoing.{done_again}
-use Rattle.mb_core_spec.specs.Copies.{TableCounts}
+use Rattle.mb_session.specs.OpenFiles.{TellsCounts}
 use Rattle.mb_core_spec.specs.Seen.{IsFront}
 
 picked_at : (oplog : List Logged) (done : ℕ) (logged : Logged) → slice_get oplog done ≡ Some logged → slice_get (picked_ops oplog) done ≡ Some (as_picked logged)
@@ -35,7 +35,7 @@ few_at most held now (op ∷ made) (suc done) few front ino = few_at most front.
 pub replays_one : (before : Tree) (first view : Image) (opens grown : OpenCounts) (start last : TreeAndOpens) (most : ℕ) (oplog : List Logged) (done : ℕ) (logged : Logged) (shown : ℕ → Option (List ℕ)) (changes : ChangeList) (picked : Option ℕ)
     → (front : IsFront before first view opens start oplog done) → slice_get oplog done ≡ Some logged → AreCarriedOut start (picked_ops oplog) last → FindFewOpens most start (picked_ops oplog) → IsPart shown view.at
     → Acts shown view front.made.tree opens logged.op logged.pick (acted.Done changes picked)
-    → ((next : TreeAndOpens) → ((ino : ℕ) → front.made.opens ino ≤ most) → IsCarriedOut front.made (as_picked logged) next → TableCounts grown next.opens)
+    → ((next : TreeAndOpens) → ((ino : ℕ) → front.made.opens ino ≤ most) → IsCarriedOut front.made (as_picked logged) next → TellsCounts grown next.opens)
     → IsFront before first (under view changes) grown start oplog (done + 1)
 replays_one before first view opens grown start last most oplog done logged shown changes picked front at whole few part acts counted =
     let on = carried_out_goes_on start last front.made (picked_ops oplog) done (as_picked logged) whole front.leads (picked_at oplog done logged at) in

@@ -33,7 +33,8 @@ use Rattle.mb_core_order.proofs.Numbers.{follows_all}
 use Rattle.mb_core_order.proofs.Orderlies.{inside_at, orderly_drops, orderly_flushes, orderly_remounts, orderly_resumes, orderly_seals, orderly_strikes}
 use Rattle.mb_tree.specs.CarriedOut.{tree_and_opens}
 use Rattle.mb_core_spec.specs.Callers.{EachCaller, insiders}
-use Rattle.mb_core_spec.specs.Copies.{AreFresh, AreTrue, CopyList, KeepsTables, TableCopy, TableCounts, TablesAgree, TablesAreFresh, shown}
+use Rattle.mb_core_spec.specs.Copies.{AreFresh, AreTrue, CopyList, KeepsTables, TableCopy, TablesAgree, TablesAreFresh, shown}
+use Rattle.mb_session.specs.OpenFiles.{TellsCounts}
 use Rattle.mb_core_spec.specs.Events.{GivesBack, entry_for, logging, roomy}
 use Rattle.mb_core_spec.specs.Faults.{FewDevices, is_device}
 use Rattle.mb_core_spec.specs.Numbers.{open_flight}
@@ -181,7 +182,7 @@ module _ {F D : Type 0} (told : D → Option Image) (faults : D → ℕ) (core :
         let live_seats = h.legal.seats in
         let done : IsPerformed (under (under image core.cache.sealed) core.cache.current) machine at flight.call flight.moment ready =
         finish_performs (under (under image core.cache.sealed) core.cache.current) core.cache.stamps mine.pages.blocks pages core.tables kept given machine at flight.call flight.moment ready ready_for
-        (r.seen first image began now is at mine has) fresh keeps_kept tables_fresh view.volume h.legal.valid live_seats (subst (λ (seats : List Seat). TableCounts core.tables.opens (counts seats)) live_seats view.counted) in
+        (r.seen first image began now is at mine has) fresh keeps_kept tables_fresh view.volume h.legal.valid live_seats (subst (λ (seats : List Seat). TellsCounts core.tables.opens (counts seats)) live_seats view.counted) in
         let eight = o.bounds.callers in
         let seats_are : length machine.seats ≡ length core.config.callers = ap (λ (s : List Seat). length s) live_seats ∙ o.sessions ∙ o.numbered.callers_are in
         holds_logs tree first (under image core.cache.sealed) core h new at mine flight ticket ready is plain open_now.call (let whose = slice_get_within core.callers at mine has in let seats_here = o.sessions in omega (arith, whose, seats_here, ap (λ (s : List Seat). length s) live_seats)) (λ ino. (let few = few_opens machine.seats ino in omega (arith, few, eight, seats_are))) done installs open_now.above

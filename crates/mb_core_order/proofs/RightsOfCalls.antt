@@ -36,7 +36,8 @@ use Rattle.mb_core_order.proofs.Numbers.{follows_all}
 use Rattle.mb_core_order.proofs.Orderlies.{orderly_drops_again, orderly_fails, orderly_fails_again, orderly_reopens, orderly_replays, orderly_strikes_dropped, orderly_strikes_restored}
 use Rattle.mb_core_order.proofs.Rights.{few_later, holds_roomy, right_drops}
 use Rattle.mb_core_spec.specs.Callers.{EachCaller, insiders, total}
-use Rattle.mb_core_spec.specs.Copies.{AreTrue, KeptBlock, PagesState, TableCounts, kept_at}
+use Rattle.mb_core_spec.specs.Copies.{AreTrue, KeptBlock, PagesState, kept_at}
+use Rattle.mb_session.specs.OpenFiles.{TellsCounts}
 use Rattle.mb_core_spec.specs.Events.{beginning, begins, Gathers, GivesBack, Leaves, answered_by, ended, entering, entry_for, gathering, leaving, roomy, staling}
 use Rattle.mb_core_spec.specs.Faults.{FewDevices, Says}
 use Rattle.mb_core_spec.specs.Flights.{is_pin}
@@ -165,20 +166,20 @@ module _ {F D : Type 0} (told : D → Option Image) (faults : D → ℕ) (core :
         devices = r.devices;
       }
 
-      pub right_stale : flight.answered ≡ false → core.stage ≡ stage.Running → IsMine at core.floor → mine.stales < 4 → (insiders core.callers + 2 ≤ room.trail) × (1 ≤ room.records) → (block : ℕ) → core.journal.room.history ≤ room.history
+      pub right_stale : flight.answered ≡ false → core.stage ≡ stage.Running → IsMine at core.floor → (insiders core.callers + 2 ≤ room.trail) × (1 ≤ room.records) → (block : ℕ) → core.journal.room.history ≤ room.history
           → Right told faults (roomy (staling core at mine ticket block pins) room)
-      right_stale unanswered is mine_floor few marks block left = record {
+      right_stale unanswered is mine_floor marks block left = record {
         holds = λ first image tree began now volume. holds_roomy tree first (base image) (staling core at mine ticket block pins) (holds_stale tree first (base image) core (r.holds first image tree began now volume) at mine ticket block pins) room;
         seen = none_seen at mine _ has refl;
         tells = r.tells;
-        orderly = orderly_stale core o at mine has flight flies unanswered ticket held inside ordinal whose is mine_floor pins gives room marks (omega (arith, left)) block few left;
+        orderly = orderly_stale core o at mine has flight flies unanswered ticket held inside ordinal whose is mine_floor pins gives room marks (omega (arith, left)) block left;
         later = r.later;
         devices = r.devices;
       }
 
   -- ---- the rest of a recovery
 
-  pub right_reopens : (opens : OpenCounts) (room : JournalRoom) → core.journal.room.history ≤ room.history → core.stage ≡ stage.Remounted → TableCounts opens (counts core.tables.saved) → Right told faults (roomy (reopening core opens) room)
+  pub right_reopens : (opens : OpenCounts) (room : JournalRoom) → core.journal.room.history ≤ room.history → core.stage ≡ stage.Remounted → TellsCounts opens (counts core.tables.saved) → Right told faults (roomy (reopening core opens) room)
   right_reopens opens room left is counted = record {
     holds = λ first image tree began now volume. holds_roomy tree first (base image) (reopening core opens) (holds_reopens tree first (base image) core (r.holds first image tree began now volume) opens is counted) room;
     seen = λ first image began now runs. absurd (let wrong : stage.Restored 0 ≡ stage.Running = runs in cc);
@@ -192,7 +193,7 @@ module _ {F D : Type 0} (told : D → Option Image) (faults : D → ℕ) (core :
       → core.stage ≡ stage.Restored done → slice_get core.journal.oplog done ≡ Some logged → ((block : ℕ) → stamp_of cache.stamps block ≤ stamp_of core.cache.stamps block + 1)
       → ((image : Image) → told core.cache.disk ≡ Some image → IsPart shown_blocks (under (base image) core.cache.current).at)
       → ((image : Image) (tree : Tree) → told core.cache.disk ≡ Some image → IsVolume (under (base image) core.cache.current) tree → Acts shown_blocks (under (base image) core.cache.current) tree core.tables.opens logged.op logged.pick (acted.Done changes picked))
-      → ((made next : TreeAndOpens) → TableCounts core.tables.opens made.opens → ((ino : ℕ) → made.opens ino ≤ 136) → IsCarriedOut made (as_picked logged) next → TableCounts opens next.opens)
+      → ((made next : TreeAndOpens) → TellsCounts core.tables.opens made.opens → ((ino : ℕ) → made.opens ino ≤ 136) → IsCarriedOut made (as_picked logged) next → TellsCounts opens next.opens)
       → ((image : Image) → under image cache.current ≡ under (under image core.cache.current) changes) → told cache.disk ≡ told core.cache.disk → faults core.cache.disk ≤ faults cache.disk
       → Right told faults (roomy (replaying core cache opens done) room)
   right_replays cache opens done logged shown_blocks changes picked room left is at rise part acts counted reads same more = record {
@@ -207,24 +208,24 @@ module _ {F D : Type 0} (told : D → Option Image) (faults : D → ℕ) (core :
   }
 
   -- a fault at a replay, and one at the remount
-  pub right_strikes_restored : (ticket : Ticket) (kind : Kind) (nth : ℕ) (strokes : List Stroke) (room : JournalRoom) → ticket.caller < length core.config.callers → core.journal.room.history ≤ room.history → (done : ℕ) → core.stage ≡ stage.Restored done → 1 ≤ room.trail
-      → Right told faults (roomy (striking_again core ticket kind nth strokes) room)
-  right_strikes_restored ticket kind nth strokes room whose left done is one = record {
-    holds = λ first image tree began now volume. holds_roomy tree first (base image) (striking_again core ticket kind nth strokes) (holds_strikes_again tree first (base image) core (r.holds first image tree began now volume) ticket kind nth strokes) room;
+  pub right_strikes_restored : (caller ordinal : ℕ) (kind : Kind) (nth : ℕ) (strokes : List Stroke) (room : JournalRoom) → caller < length core.config.callers → core.journal.room.history ≤ room.history → (done : ℕ) → core.stage ≡ stage.Restored done → 1 ≤ room.trail
+      → Right told faults (roomy (striking_again core caller ordinal kind nth strokes) room)
+  right_strikes_restored caller ordinal kind nth strokes room whose left done is one = record {
+    holds = λ first image tree began now volume. holds_roomy tree first (base image) (striking_again core caller ordinal kind nth strokes) (holds_strikes_again tree first (base image) core (r.holds first image tree began now volume) caller ordinal kind nth strokes) room;
     seen = λ first image began now runs. absurd (let wrong : stage.Again ≡ stage.Running = runs in cc);
     tells = r.tells;
-    orderly = orderly_strikes_restored core o ticket kind nth strokes room whose left done is one;
+    orderly = orderly_strikes_restored core o caller ordinal kind nth strokes room whose left done is one;
     later = r.later;
     devices = r.devices;
   }
 
-  pub right_strikes_dropped : (ticket : Ticket) (kind : Kind) (nth : ℕ) (strokes : List Stroke) (room : JournalRoom) → ticket.caller < length core.config.callers → core.journal.room.history ≤ room.history → core.stage ≡ stage.Dropped → 1 ≤ room.trail
-      → Right told faults (roomy (striking_again core ticket kind nth strokes) room)
-  right_strikes_dropped ticket kind nth strokes room whose left is one = record {
-    holds = λ first image tree began now volume. holds_roomy tree first (base image) (striking_again core ticket kind nth strokes) (holds_strikes_again tree first (base image) core (r.holds first image tree began now volume) ticket kind nth strokes) room;
+  pub right_strikes_dropped : (caller ordinal : ℕ) (kind : Kind) (nth : ℕ) (strokes : List Stroke) (room : JournalRoom) → caller < length core.config.callers → core.journal.room.history ≤ room.history → core.stage ≡ stage.Dropped → 1 ≤ room.trail
+      → Right told faults (roomy (striking_again core caller ordinal kind nth strokes) room)
+  right_strikes_dropped caller ordinal kind nth strokes room whose left is one = record {
+    holds = λ first image tree began now volume. holds_roomy tree first (base image) (striking_again core caller ordinal kind nth strokes) (holds_strikes_again tree first (base image) core (r.holds first image tree began now volume) caller ordinal kind nth strokes) room;
     seen = λ first image began now runs. absurd (let wrong : stage.Again ≡ stage.Running = runs in cc);
     tells = r.tells;
-    orderly = orderly_strikes_dropped core o ticket kind nth strokes room whose left is one;
+    orderly = orderly_strikes_dropped core o caller ordinal kind nth strokes room whose left is one;
     later = r.later;
     devices = r.devices;
   }
@@ -250,10 +251,10 @@ module _ {F D : Type 0} (told : D → Option Image) (faults : D → ℕ) (core :
     devices = r.devices;
   }
 
-  pub right_strikes_again : (ticket : Ticket) (kind : Kind) (nth : ℕ) (strokes : List Stroke) (room : JournalRoom) → MayStrikeAgain core ticket room → Right told faults (roomy (striking_again core ticket kind nth strokes) room)
-  right_strikes_again ticket kind nth strokes room may = elim may.recovers [
-    | inl dropped ↦ right_strikes_dropped ticket kind nth strokes room may.declared may.entries dropped may.marks
-    | inr restored ↦ right_strikes_restored ticket kind nth strokes room may.declared may.entries restored.0 restored.1 may.marks
+  pub right_strikes_again : (caller ordinal : ℕ) (kind : Kind) (nth : ℕ) (strokes : List Stroke) (room : JournalRoom) → MayStrikeAgain core caller room → Right told faults (roomy (striking_again core caller ordinal kind nth strokes) room)
+  right_strikes_again caller ordinal kind nth strokes room may = elim may.recovers [
+    | inl dropped ↦ right_strikes_dropped caller ordinal kind nth strokes room may.declared may.entries dropped may.marks
+    | inr restored ↦ right_strikes_restored caller ordinal kind nth strokes room may.declared may.entries restored.0 restored.1 may.marks
   ]
 
   pub right_drops_both : (room : JournalRoom) → MayDrop core room → Right told faults (roomy (dropping core) room)

@@ -16,7 +16,7 @@ use Rattle.mb_cache.specs.State.{CacheRoom, CacheState}
 use Rattle.mb_core_spec.specs.Begun.{begun_core}
 use Rattle.mb_core_spec.specs.Conditions.{MayAnswer, MayBegin, MayDrop, MayEnd, MayEnter, MayFail, MayFlush, MayGather, MayLeave, MayLog, MayRemount, MayReopen, MayReplay, MayResume, MaySeal, MayStale, MayStart, MayStrike, MayStrikeAgain, MayUnwind}
 use Rattle.mb_core_spec.specs.Copies.{PagesState}
-use Rattle.mb_core_spec.specs.Events.{answered_by, beginning, ended, entering, gathering, leaving, logging, roomy, staling}
+use Rattle.mb_core_spec.specs.Events.{answered_by, beginning, ended, entering, gathering, leaving, logging, roomy, staling, with_room}
 use Rattle.mb_core_spec.specs.Recovery.{dropping, failing, flushing, remounting, reopening, replaying, resuming, sealing, striking, striking_again, unwinding}
 use Rattle.mb_core_spec.specs.Right.{Right}
 use Rattle.mb_core_spec.specs.State.{CallerState, CoreState, JournalRoom}
@@ -27,6 +27,11 @@ use Rattle.mb_core_spec.specs.declared.ready.Ready.{Ready}
 abbrev pub CoreBegins : (F D : Type 0) → (D → Option Image) → (D → ℕ) → Type 0
 CoreBegins F D told faults = (fs : F) (first : D) (config : Config) (cache : CacheState D) (opens : OpenCounts) (room : JournalRoom) → MayBegin told faults first config cache opens
     → Right told faults (begun_core fs first config cache opens room)
+
+-- a core in order does not look at the cache's room, so an event with the room that the new core has keeps it in order where it
+-- does so with the journal's
+abbrev pub RoomIsFree : (F D : Type 0) → (D → Option Image) → (D → ℕ) → Type 0
+RoomIsFree F D told faults = (event new : CoreState F D) → Right told faults (roomy event new.journal.room) → Right told faults (with_room event new)
 
 -- ---- calls
 
@@ -91,8 +96,8 @@ FaultStrikes F D told faults = (core : CoreState F D) (ticket : Ticket) (kind : 
 
 -- a fault strikes a recovery
 abbrev pub FaultStrikesAgain : (F D : Type 0) → (D → Option Image) → (D → ℕ) → Type 0
-FaultStrikesAgain F D told faults = (core : CoreState F D) (ticket : Ticket) (kind : Kind) (nth : ℕ) (strokes : List Stroke) (room : JournalRoom) → Right told faults core → MayStrikeAgain core ticket room
-    → Right told faults (roomy (striking_again core ticket kind nth strokes) room)
+FaultStrikesAgain F D told faults = (core : CoreState F D) (caller ordinal : ℕ) (kind : Kind) (nth : ℕ) (strokes : List Stroke) (room : JournalRoom) → Right told faults core → MayStrikeAgain core caller room
+    → Right told faults (roomy (striking_again core caller ordinal kind nth strokes) room)
 
 -- a call is unwound
 abbrev pub CallIsUnwound : (F D : Type 0) → (D → Option Image) → (D → ℕ) → Type 0

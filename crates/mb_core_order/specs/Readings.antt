@@ -1,6 +1,7 @@
 -- What code and its callers read off a core in order.
-use Rattle.std.specs.Prelude.{List, [], ◌∷◌, ◌++◌, ℕ, ◌+◌, ◌≤◌, ◌≡◌, ◌≢◌, Bool, true, false, Option, Some, length, slice_get, slice_set}
+use Rattle.std.specs.Prelude.{List, [], ◌∷◌, ◌++◌, ℕ, ◌+◌, ◌<◌, ◌≤◌, ◌≡◌, ◌≢◌, Bool, true, false, Option, Some, length, slice_get, slice_set}
 use Rattle.mb_kinds.specs.declared.calls.Call.{Call}
+use Rattle.mb_kinds.specs.declared.entries.Entry.{Entry}
 use Rattle.mb_kinds.specs.declared.entries.Flight.{Flight}
 use Rattle.mb_kinds.specs.declared.faults.FaultRecord.{FaultRecord}
 use Rattle.mb_kinds.specs.declared.faults.Ticket.{Ticket}
@@ -14,9 +15,11 @@ use Rattle.mb_core_spec.specs.Callers.{insiders, one_if}
 use Rattle.mb_core_spec.specs.Copies.{AreFresh, AreTrue, CopyList, HoldsFloor, LiveTables, PagesState, shown}
 use Rattle.mb_core_spec.specs.Events.{beginning, begins, entering}
 use Rattle.mb_core_spec.specs.Flights.{IsFlying, IsTicket}
+use Rattle.mb_core_spec.specs.Numbers.{CanFollow}
 use Rattle.mb_core_spec.specs.Owed.{TablesMove}
 use Rattle.mb_core_spec.specs.Right.{IsOrderly}
 use Rattle.mb_core_spec.specs.State.{CallerState, CoreState, records_of, stand_at}
+use Rattle.mb_core_spec.specs.declared.stages.Stage.TheVariants as stage
 
 -- fresh copies are a part of what is seen
 abbrev pub FreshIsPart : Type 0
@@ -25,6 +28,12 @@ FreshIsPart = (view : ℕ → List ℕ) (stamps : Stamps) (copies pages : CopyLi
 -- nothing that the holder of the right to commit alone gathered is stale
 abbrev pub FloorIsNotStale : Type 0
 FloorIsNotStale = (stamps : Stamps) (live : LiveTables) (pages : PagesState) → HoldsFloor stamps live pages → AreFresh pages.blocks stamps pages.blocks
+
+-- a ticket with four stale answers is of the call that has that right, and nothing that it gathered is stale: so the answers that a copy
+-- is stale, to pages that are the call's own copies, are at most four
+abbrev pub FourStalesAreAll : (F D : Type 0) → Type 0
+FourStalesAreAll F D = (core : CoreState F D) → IsOrderly core → core.stage ≡ stage.Running → (caller : ℕ) (mine : CallerState) → slice_get core.callers caller ≡ Some mine → (mine.stales ≤ 4)
+    × (mine.stales ≡ 4 → (core.floor ≡ Some caller) × HoldsFloor core.cache.stamps core.tables mine.pages)
 
 -- a caller that is inside has a call in flight, with a ticket
 pub record FliesInside (caller : ℕ) (running : Bool) (incarnation : ℕ) (flying : Option Flight) : Type 0 where
@@ -64,6 +73,11 @@ TablesByRule = (old new : LiveTables) (at : ℕ) (made : SessionChange) (touches
 abbrev pub EntersAtOnce : (F D : Type 0) → Type 0
 EntersAtOnce F D = (core : CoreState F D) (at : ℕ) (mine : CallerState) (call : Call) (flight : Flight) (ticket : Ticket) (reserved : Option ℕ)
     → entering (beginning core at mine call) at (begins core.config.start core.callers mine call) flight ticket reserved ≡ entering core at (begins core.config.start core.callers mine call) flight ticket reserved
+
+-- of two entries the later one can come after the earlier one: of one caller ordinals and moments rise, and moments are distinct
+abbrev pub EntriesRise : (F D : Type 0) → Type 0
+EntriesRise F D = (core : CoreState F D) → IsOrderly core → (one other : ℕ) (earlier later : Entry) → slice_get core.journal.history one ≡ Some earlier → slice_get core.journal.history other ≡ Some later → one < other
+    → CanFollow later.caller later.ordinal later.moment earlier
 
 -- the log of a core in order has at most 2 ^ 32 operations
 abbrev pub LogIsShort : (F D : Type 0) → Type 0

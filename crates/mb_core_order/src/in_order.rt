@@ -1,4 +1,4 @@
-ghost use Rattle.mb_core_order.specs.Readings.{FreshIsPart, FloorIsNotStale, InsideFlies, OneIsInside, RecordsOfOthers, OthersStand, TablesByRule, EntersAtOnce, LogIsShort};
+ghost use Rattle.mb_core_order.specs.Readings.{FreshIsPart, FloorIsNotStale, FourStalesAreAll, InsideFlies, OneIsInside, RecordsOfOthers, OthersStand, TablesByRule, EntersAtOnce, EntriesRise, LogIsShort};
 
 use mb_edge::Disk;
 
@@ -10,6 +10,12 @@ pub fn fresh_is_part()
 /// Nothing is stale of what the holder of the right to commit alone gathered.
 pub fn floor_is_not_stale()
     ensures { FloorIsNotStale }
+{}
+
+/// A ticket is answered four times at most that a copy of its own is stale: from the fourth on its call has the right to
+/// commit alone, and nothing that it gathered is stale.
+pub fn four_stales_are_all<F, D: Disk>()
+    ensures { FourStalesAreAll F D }
 {}
 
 /// Who is inside has a call in flight with a ticket, and where one caller is inside, somebody is.
@@ -32,6 +38,11 @@ pub fn tables_by_rule()
 /// A call that begins and enters at once does the two events after each other.
 pub fn enters_at_once<F, D: Disk>()
     ensures { EntersAtOnce F D }
+{}
+
+/// Of two entries of one caller the later has the greater ordinal and moment, and no two entries have one moment.
+pub fn entries_rise<F, D: Disk>()
+    ensures { EntriesRise F D }
 {}
 
 /// The log is short.

@@ -1,10 +1,15 @@
-ghost use Rattle.mb_core_order.specs.EventLaws.{CoreBegins, CallBegins, CallEnters, CallGathers, CallIsStale, CallIsLogged, CallLeaves, CallEnds, CallIsAnswered, CheckpointIsTaken, PageIsFlushed, FaultStrikes, FaultStrikesAgain, CallIsUnwound, PagesAreDropped, VolumeFails, VolumeIsRemounted, FilesAreReopened, OperationIsReplayed, VolumeResumes};
+ghost use Rattle.mb_core_order.specs.EventLaws.{CoreBegins, CallBegins, CallEnters, CallGathers, CallIsStale, CallIsLogged, CallLeaves, CallEnds, CallIsAnswered, CheckpointIsTaken, PageIsFlushed, FaultStrikes, FaultStrikesAgain, CallIsUnwound, PagesAreDropped, VolumeFails, VolumeIsRemounted, FilesAreReopened, RoomIsFree, OperationIsReplayed, VolumeResumes};
 
 use mb_edge::Disk;
 
 /// A core that begins over the swept volume is in order.
 pub fn core_begins<F, D: Disk>()
     ensures { CoreBegins F D D.told D.faults }
+{}
+
+/// A core in order does not look at the cache's room.
+pub fn room_is_free<F, D: Disk>()
+    ensures { RoomIsFree F D D.told D.faults }
 {}
 
 /// A call that begins keeps a core in order.
@@ -22,7 +27,7 @@ pub fn call_gathers<F, D: Disk>()
     ensures { CallGathers F D D.told D.faults }
 {}
 
-/// So does a call that is answered that a copy is stale, the fourth time with the right to commit alone.
+/// So does a call that is answered that a copy is stale, from the fourth time on with the right to commit alone.
 pub fn call_is_stale<F, D: Disk>()
     ensures { CallIsStale F D D.told D.faults }
 {}

@@ -24,7 +24,12 @@ abbrev pub StampsAreFew : Bool → ℕ → ℕ → ℕ → Stamps → Type 0
 StampsAreFew true entries faults again stamps = (block : ℕ) → stamp_of stamps block ≤ 1 + entries + 4294967296 * faults
 StampsAreFew false entries faults again stamps = (block : ℕ) → 4294967296 + stamp_of stamps block ≤ 1 + entries + 4294967296 * faults + again
 
--- what a core is begun with: at most eight callers, and moments below 2 ^ 32
+-- what a core is begun with: one to eight callers, moments below 2 ^ 32, a checkpoint after 1 to 4,096 entries, and at most 255
+-- faults to be recovered from
 pub record IsConfig (config : Config) : Type 0 where
+  pub some : 1 ≤ length config.callers
   pub callers : length config.callers ≤ 8
   pub moments : config.start + config.most * length config.callers ≤ 4294967295
+  pub due : 1 ≤ config.threshold
+  pub often : config.threshold ≤ 4096
+  pub limit : config.limit ≤ 255

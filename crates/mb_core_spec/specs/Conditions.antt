@@ -27,7 +27,8 @@ use Rattle.mb_cache.specs.Stamps.{Stamps, stamp_of}
 use Rattle.mb_cache.specs.State.{CacheState, ReadsAlike}
 use Rattle.mb_core_spec.specs.Bounds.{IsConfig}
 use Rattle.mb_core_spec.specs.Callers.{EachCaller, insiders, total}
-use Rattle.mb_core_spec.specs.Copies.{AreFresh, CopyList, KeptBlock, PagesState, TableCopy, TableCounts, TablesAreFresh, kept_at, shown}
+use Rattle.mb_core_spec.specs.Copies.{AreFresh, CopyList, KeptBlock, PagesState, TableCopy, TablesAreFresh, kept_at, shown}
+use Rattle.mb_session.specs.OpenFiles.{TellsCounts}
 use Rattle.mb_core_spec.specs.Events.{Gathers, GivesBack, Leaves, entry_for}
 use Rattle.mb_core_spec.specs.Faults.{FewDevices, Says}
 use Rattle.mb_core_spec.specs.Flights.{IsMine, is_pin}
@@ -49,7 +50,7 @@ pub record MayBegin {D : Type 0} (told : D → Option Image) (faults : D → ℕ
   pub stamps : (block : ℕ) → stamp_of cache.stamps block ≤ 1
   pub pins : (block : ℕ) → stamp_of cache.pins block ≡ 0
   pub bare : cache.current ≡ []
-  pub counted : TableCounts opens (counts (map first_seat config.callers))
+  pub counted : TellsCounts opens (counts (map first_seat config.callers))
   pub tells : (image : Image) → told first ≡ Some image → IsSome (told cache.disk)
   pub later : faults first ≤ faults cache.disk
   pub swept : (old image : Image) (tree : Tree) → told first ≡ Some old → told cache.disk ≡ Some image → IsVolume old tree
@@ -122,13 +123,12 @@ pub record MayLeave {F D : Type 0} (core : CoreState F D) (at : ℕ) (mine : Cal
   pub back : GivesBack core.cache.pins pins mine.undo
   pub left : Leaves core.journal.room room 1 0
 
--- a call without its entry meets a stale copy, while nobody else has the right to commit alone and it does not have it
+-- a call without its entry meets a stale copy, while nobody else has the right to commit alone
 pub record MayStale {F D : Type 0} (core : CoreState F D) (at : ℕ) (mine : CallerState) (flight : Flight) (ticket : Ticket) (pins : Stamps) (room : JournalRoom) : Type 0 where
   pub within : IsInside core at mine flight ticket
   pub runs : core.stage ≡ stage.Running
   pub unanswered : flight.answered ≡ false
   pub floor : IsMine at core.floor
-  pub few : mine.stales < 4
   pub back : GivesBack core.cache.pins pins mine.undo
   pub marks : insiders core.callers + 2 ≤ room.trail
   pub records : 1 ≤ room.records
@@ -187,10 +187,10 @@ pub record MayStrike {F D : Type 0} (core : CoreState F D) (ticket : Ticket) (ro
   pub marks : core.journal.room.trail ≤ room.trail + 1
   pub entries : core.journal.room.history ≤ room.history
 
--- a fault in a recovery: once the dirty pages were dropped, and not between the start of the file system and the restoring of the
--- open files
-pub record MayStrikeAgain {F D : Type 0} (core : CoreState F D) (ticket : Ticket) (room : JournalRoom) : Type 0 where
-  pub declared : ticket.caller < length core.config.callers
+-- a fault in a recovery, at a crossing of a declared caller: once the dirty pages were dropped, and not between the start of the
+-- file system and the restoring of the open files
+pub record MayStrikeAgain {F D : Type 0} (core : CoreState F D) (caller : ℕ) (room : JournalRoom) : Type 0 where
+  pub declared : caller < length core.config.callers
   pub recovers : (core.stage ≡ stage.Dropped) ⊎ ((done : ℕ) × (core.stage ≡ stage.Restored done))
   pub marks : 1 ≤ room.trail
   pub entries : core.journal.room.history ≤ room.history
@@ -231,7 +231,7 @@ pub record MayRemount {F D : Type 0} (told : D → Option Image) (faults : D →
 -- the open files are those of the saved sessions
 pub record MayReopen {F D : Type 0} (core : CoreState F D) (opens : OpenCounts) (room : JournalRoom) : Type 0 where
   pub remounted : core.stage ≡ stage.Remounted
-  pub counted : TableCounts opens (counts core.tables.saved)
+  pub counted : TellsCounts opens (counts core.tables.saved)
   pub entries : core.journal.room.history ≤ room.history
 
 -- what a file system made of an operation that is done again: its answer over blocks of the view, and the table that follows,
@@ -244,7 +244,7 @@ pub record IsDoneAgain {D : Type 0} (told : D → Option Image) (old new : Cache
   pub acts : (image : Image) (tree : Tree) → told old.disk ≡ Some image → IsVolume (under (under image old.sealed) old.current) tree
       → Acts pages (under (under image old.sealed) old.current) tree opens logged.op logged.pick (acted.Done changes picked)
   pub view : (base : Image) → under base new.current ≡ under (under base old.current) changes
-  pub counted : (made next : TreeAndOpens) → TableCounts opens made.opens → ((ino : ℕ) → made.opens ino ≤ 136) → IsCarriedOut made (as_picked logged) next → TableCounts grown next.opens
+  pub counted : (made next : TreeAndOpens) → TellsCounts opens made.opens → ((ino : ℕ) → made.opens ino ≤ 136) → IsCarriedOut made (as_picked logged) next → TellsCounts grown next.opens
 
 -- the next operation of the log is done again
 pub record MayReplay {F D : Type 0} (told : D → Option Image) (faults : D → ℕ) (core : CoreState F D) (cache : CacheState D) (opens : OpenCounts) (done : ℕ) (logged : Logged) (room : JournalRoom) : Type 0 where

@@ -2,8 +2,6 @@
 use Rattle.std.specs.Prelude.{List, [], ℕ, ◌≡◌, ◌≤◌, Bool, true, false, Option, None, Some, option_map, map, nat_eq, slice_get}
 use Rattle.std.specs.Map.{lookup}
 use Rattle.mb_edge.specs.Damage.{OpenCounts}
-use Rattle.mb_iface.specs.OpenCounts.{count_of}
-use Rattle.mb_tree.specs.Sessions.{Counts}
 use Rattle.mb_tree.specs.declared.seats.Seat.{Seat}
 use Rattle.mb_cache.specs.Stamps.{Stamps, stamp_of}
 
@@ -76,10 +74,6 @@ HasOwn caller given sessions = slice_get given caller ≡ slice_get sessions cal
 -- the current directory of each caller
 abbrev pub cwds : List Seat → List ℕ
 cwds sessions = map (λ (seat : Seat). seat.cwd) sessions
-
--- the table has so many open files on each inode
-abbrev pub TableCounts : OpenCounts → Counts → Type 0
-TableCounts opens held = (ino : ℕ) → count_of opens ino ≡ held ino
 
 -- a caller's copy of the tables has its own session, and with the present stamp the present counts of open files and
 -- current directories

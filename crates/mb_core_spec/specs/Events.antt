@@ -1,5 +1,5 @@
 -- What each event of a call makes of a core. The equations leave the journal's room as it was: `roomy` sets it.
-use Rattle.std.specs.Prelude.{List, [], ◌∷◌, ◌++◌, ℕ, ◌+◌, ◌≡◌, ◌≤◌, ◌⊎◌, true, false, if◌then◌else◌, Option, Some, None, slice_set, nat_eq}
+use Rattle.std.specs.Prelude.{List, [], ◌∷◌, ◌++◌, ℕ, ◌+◌, ◌≡◌, ◌≤◌, ◌⊎◌, true, false, if◌then◌else◌, Option, Some, None, slice_set, nat_eq, nat_le, min}
 use Rattle.mb_kinds.specs.declared.calls.Call.{Call}
 use Rattle.mb_kinds.specs.declared.entries.Entry.{Entry}
 use Rattle.mb_kinds.specs.declared.entries.Flight.{Flight}
@@ -32,6 +32,11 @@ at_caller core caller mine = record core { callers = slice_set core.callers call
 
 abbrev pub roomy : {F D : Type 0} → CoreState F D → JournalRoom → CoreState F D
 roomy core room = record core { journal = record core.journal { room = room } }
+
+-- what an event makes of a core, with the room of the cache and of the journal that the new core has. A core in order does not
+-- look at the cache's
+abbrev pub with_room : {F D : Type 0} → CoreState F D → CoreState F D → CoreState F D
+with_room event new = record event { cache = record event.cache { room = new.cache.room }; journal = record event.journal { room = new.journal.room } }
 
 -- an event takes room for so many steps of the trace and so many entries at most
 pub record Leaves (old left : JournalRoom) (steps entries : ℕ) : Type 0 where
@@ -117,18 +122,18 @@ logging core new caller mine flight ticket ready = record core {
   floor = without caller core.floor;
 }
 
--- the fourth stale answer of a ticket gives its caller the right to commit alone
+-- from its fourth stale answer on a ticket's call has the right to commit alone
 abbrev pub floor_after : ℕ → ℕ → Option ℕ → Option ℕ
-floor_after caller stales floor = if nat_eq (stales + 1) 4 then Some caller else floor
+floor_after caller stales floor = if nat_le 3 stales then Some caller else floor
 
 -- the step that takes it back
 abbrev pub floor_undo : ℕ → Option ℕ → List Undo
 floor_undo caller None = []
 floor_undo caller (Some holder) = if nat_eq caller holder then undo.Floor ∷ [] else []
 
--- what it gathered is stale: it keeps nothing of it, and gathers anew
+-- what it gathered is stale: it keeps nothing of it, and gathers anew. Its stale answers are counted up to four
 abbrev pub gathers_anew : CallerState → ℕ → Option ℕ → CallerState
-gathers_anew mine caller floor = record mine { pages = no_pages; stales = mine.stales + 1; undo = first_undo mine.reserved ++ floor_undo caller floor }
+gathers_anew mine caller floor = record mine { pages = no_pages; stales = min (mine.stales + 1) 4; undo = first_undo mine.reserved ++ floor_undo caller floor }
 
 abbrev pub staling : {F D : Type 0} → CoreState F D → ℕ → CallerState → Ticket → ℕ → Stamps → CoreState F D
 staling core caller mine ticket block pins = record (at_caller core caller (gathers_anew mine caller (floor_after caller mine.stales core.floor))) {

@@ -36,11 +36,17 @@ recovered number incarnation later = step.Struck number ∷ step.Unwound (first_
 abbrev pub struck_twice : List Step
 struck_twice = step.Entered (first_ticket 0 0) ∷ recovered 1 0 (step.Entered (first_ticket 0 1) ∷ recovered 2 1 [])
 
--- what the traces of both come to
+-- a call that a fault strikes, with another fault at the remount: it enters again in incarnation 1
+abbrev pub struck_in_recovery : List Step
+struck_in_recovery = step.Entered (first_ticket 0 0) ∷ step.Struck 1 ∷ step.Unwound (first_ticket 0 0) ∷ step.Dropped ∷ step.Struck 2 ∷ step.Dropped ∷ step.Remounted ∷ step.Reopened ∷ step.Resumed
+    ∷ step.Entered (first_ticket 0 1) ∷ []
+
+-- what the traces come to
 abbrev pub WorkedTraces : Type 0
 WorkedTraces =
     (folds next (watch_from 2) raced_creat ≡ Some (record { mode = Runs; struck = 0; since = 2; sealed = 0; places = out_of_first 0 true ∷ out_of_first 0 true ∷ [] }))
     × (folds next (watch_from 1) struck_twice ≡ Some (record { mode = Runs; struck = 2; since = 0; sealed = 0; places = out_of_first 1 false ∷ [] }))
+    × (folds next (watch_from 1) struck_in_recovery ≡ Some (record { mode = Runs; struck = 2; since = 0; sealed = 0; places = record { ordinal = 1; incarnation = 1; inside = true; logged = false } ∷ [] }))
 
 -- steps that are refused: a call logged twice; a ticket entered twice; a fault between the start of the file system and the restoring
 -- of the open files; an operation done again that was not logged; a volume that runs again before the dirty pages were dropped
@@ -71,6 +77,6 @@ WorkedNumbers = (call other : Call) →
     × (begins 1000 (idle ∷ with_first call 1001 ∷ []) idle other ≡ with_first other 1002)
     × (begun (with_first other 1002 ∷ with_first call 1001 ∷ []) ≡ 2)
 
--- the fourth stale answer gives the right to commit alone, and giving it back is no other caller's
+-- the fourth stale answer gives the right to commit alone, a fifth one leaves it, and giving it back is no other caller's
 abbrev pub WorkedFloor : Type 0
-WorkedFloor = (floor_after 2 2 None ≡ None) × (floor_after 2 3 None ≡ Some 2) × (without 2 (Some 2) ≡ None) × (without 1 (Some 2) ≡ Some 2)
+WorkedFloor = (floor_after 2 2 None ≡ None) × (floor_after 2 3 None ≡ Some 2) × (floor_after 2 4 (Some 2) ≡ Some 2) × (without 2 (Some 2) ≡ None) × (without 1 (Some 2) ≡ Some 2)

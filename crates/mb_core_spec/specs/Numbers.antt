@@ -1,5 +1,5 @@
 -- The numbers of calls and their moments, and what the entries say of the fault records.
-use Rattle.std.specs.Prelude.{List, ℕ, ◌+◌, ◌<◌, ◌≤◌, ◌≡◌, ◌≢◌, Bool, true, false, if◌then◌else◌, Option, Some, None, length, slice_get}
+use Rattle.std.specs.Prelude.{List, [], ◌∷◌, ℕ, ◌+◌, ◌<◌, ◌≤◌, ◌≡◌, ◌≢◌, Bool, true, false, if◌then◌else◌, Option, Some, None, length, slice_get}
 use Rattle.std.specs.List.{AllByRecursion}
 use Rattle.mb_kinds.specs.declared.entries.Entry.{Entry}
 use Rattle.mb_kinds.specs.declared.entries.Flight.{Flight}
@@ -16,6 +16,11 @@ pub record CanFollow (caller ordinal moment : ℕ) (entry : Entry) : Type 0 wher
   pub apart : moment ≢ entry.moment
   pub rising : caller ≡ entry.caller → entry.moment < moment
   pub later : caller ≡ entry.caller → entry.ordinal < ordinal
+
+-- each entry can come after every entry before it: of one caller the ordinals and moments rise, and no two moments are alike
+abbrev pub AreInOrder : List Entry → Type 0
+AreInOrder [] = Unit {0}
+AreInOrder (entry ∷ later) = AllByRecursion (λ (next : Entry). CanFollow next.caller next.ordinal next.moment entry) later × AreInOrder later
 
 -- a call in flight without an entry is the last that its caller began, and can come after every entry
 pub record IsOpen (start bound : ℕ) (history : List Entry) (caller begun : ℕ) (flight : Flight) : Type 0 where
@@ -51,6 +56,7 @@ pub record IsNumbered (config : Config) (journal : JournalState) (callers : List
   pub begun : EachCaller (λ caller mine. mine.begun ≤ config.most) callers
   -- the entries, and the calls in flight without one, have moments from start + 1 on, no two alike
   pub entries : AllByRecursion (IsEntry config.start (config.start + total (λ (mine : CallerState). mine.begun) callers) (length config.callers)) journal.history
+  pub pairs : AreInOrder journal.history
   pub ordinals : EachCaller (λ caller mine. AllByRecursion (λ (entry : Entry). entry.caller ≡ caller → entry.ordinal ≤ mine.begun) journal.history) callers
   pub waiting : EachCaller (λ caller mine. (flight : Flight) → open_flight mine.flight ≡ Some flight
       → IsOpen config.start (config.start + total (λ (other : CallerState). other.begun) callers) journal.history caller mine.begun flight) callers

@@ -11,7 +11,8 @@ use Rattle.mb_tree.specs.declared.trees.Tree.{Tree}
 use Rattle.mb_cache.specs.Pages.{under}
 use Rattle.mb_cache.specs.Stamps.{Stamps, stamp_of}
 use Rattle.mb_cache.specs.State.{CacheState}
-use Rattle.mb_core_spec.specs.Copies.{LiveTables, TableCounts, cwds}
+use Rattle.mb_core_spec.specs.Copies.{LiveTables, cwds}
+use Rattle.mb_session.specs.OpenFiles.{TellsCounts}
 use Rattle.mb_core_spec.specs.declared.ready.Ready.{Ready}
 
 -- a reply that is the model's step
@@ -40,4 +41,4 @@ TablesMove old new = ((new.stamp ≡ old.stamp) × (new.opens ≡ old.opens) × 
 -- what an install makes of the pages, and how the table of open files follows, where none of its counts is the greatest
 pub record Installs {D : Type 0} (old new : CacheState D) (opens grown : OpenCounts) (ready : Ready) : Type 0 where
   pub view : (base : Image) → under base new.current ≡ under (under base old.current) ready.changes
-  pub counted : ((ino : ℕ) → count_of opens ino < 4294967295) → (tree : Tree) (held : TreeAndOpens) → effect_of tree (count_of opens) ready.op ready.pick ≡ Ok held → TableCounts grown held.opens
+  pub counted : ((ino : ℕ) → count_of opens ino < 4294967295) → (tree : Tree) (held : TreeAndOpens) → effect_of tree (count_of opens) ready.op ready.pick ≡ Ok held → TellsCounts grown held.opens

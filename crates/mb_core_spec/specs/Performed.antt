@@ -18,7 +18,8 @@ use Rattle.mb_tree.specs.declared.machines.Machine.{Machine}
 use Rattle.mb_tree.specs.declared.seats.Seat.{Seat}
 use Rattle.mb_tree.specs.declared.seats.SessionChange.TheVariants.{Same}
 use Rattle.mb_tree.specs.declared.trees.Tree.{Tree}
-use Rattle.mb_core_spec.specs.Copies.{HasOwn, TableCounts, cwds}
+use Rattle.mb_core_spec.specs.Copies.{HasOwn, cwds}
+use Rattle.mb_session.specs.OpenFiles.{TellsCounts}
 use Rattle.mb_core_spec.specs.declared.ready.Ready.{Ready}
 
 -- a call that is served: the plan of its row, the effect of its operation, and the changes that make it
@@ -49,7 +50,7 @@ pub record IsPerformed (view : Image) (machine : Machine) (caller : ℕ) (call :
 -- which sessions a call cannot tell from the ones that it was given
 abbrev pub Agrees : Bool → ℕ → List Seat → OpenCounts → List Seat → Type 0
 Agrees false caller given opens seats = HasOwn caller given seats
-Agrees true caller given opens seats = HasOwn caller given seats × TableCounts opens (counts seats) × (cwds given ≡ cwds seats)
+Agrees true caller given opens seats = HasOwn caller given seats × TellsCounts opens (counts seats) × (cwds given ≡ cwds seats)
 
 -- the model's step over every volume of which the view is a part, and for all sessions that the call cannot tell apart
 abbrev pub IsReadyFor : (ℕ → Option (List ℕ)) → List Seat → OpenCounts → ℕ → Call → ℕ → Ready → Type 0

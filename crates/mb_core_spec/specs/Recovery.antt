@@ -29,9 +29,9 @@ flushing core disk sealed = record core { cache = record core.cache { disk = dis
 -- ---- a fault
 
 -- its record, and the step of the trace
-abbrev pub recorded : JournalState → Ticket → Kind → ℕ → JournalState
-recorded journal ticket kind nth = record journal {
-  records = journal.records ++ (record { caller = ticket.caller; ordinal = ticket.ordinal; kind = kind; nth = nth }) ∷ [];
+abbrev pub recorded : JournalState → ℕ → ℕ → Kind → ℕ → JournalState
+recorded journal caller ordinal kind nth = record journal {
+  records = journal.records ++ (record { caller = caller; ordinal = ordinal; kind = kind; nth = nth }) ∷ [];
   trail = journal.trail ++ step.Struck (length journal.records + 1) ∷ [];
 }
 
@@ -40,19 +40,19 @@ abbrev pub striking : {F D : Type 0} → CoreState F D → Ticket → Kind → �
 striking core ticket kind nth strokes = record core {
   cache = record core.cache { current = (damaged (record { pages = core.cache.current; opens = core.tables.opens }) strokes).pages };
   tables = record core.tables { opens = (damaged (record { pages = core.cache.current; opens = core.tables.opens }) strokes).opens };
-  journal = recorded core.journal ticket kind nth;
+  journal = recorded core.journal ticket.caller ticket.ordinal kind nth;
   stage = stage.Struck;
   incarnation = core.incarnation + 1;
 }
 
--- a fault in a recovery, which then begins anew
-abbrev pub striking_again : {F D : Type 0} → CoreState F D → Ticket → Kind → ℕ → List Stroke → CoreState F D
-striking_again core ticket kind nth strokes = record core {
+-- a fault in a recovery, which then begins anew: it is recorded for the call that recovers, which may have no ticket; nobody is
+-- inside, so no ticket has to grow old, and the incarnation stays
+abbrev pub striking_again : {F D : Type 0} → CoreState F D → ℕ → ℕ → Kind → ℕ → List Stroke → CoreState F D
+striking_again core caller ordinal kind nth strokes = record core {
   cache = record core.cache { current = (damaged (record { pages = core.cache.current; opens = core.tables.opens }) strokes).pages };
   tables = record core.tables { opens = (damaged (record { pages = core.cache.current; opens = core.tables.opens }) strokes).opens };
-  journal = recorded core.journal ticket kind nth;
+  journal = recorded core.journal caller ordinal kind nth;
   stage = stage.Again;
-  incarnation = core.incarnation + 1;
 }
 
 -- ---- the steps of a recovery

@@ -11,7 +11,7 @@ use Rattle.mb_tree.specs.Volume.{IsVolume}
 use Rattle.mb_tree.specs.declared.trees.Tree.{Tree}
 use Rattle.mb_cache.specs.Pages.{PageList, under}
 use Rattle.mb_oplog.specs.declared.oplogs.Logged.{Logged}
-use Rattle.mb_core_spec.specs.Copies.{TableCounts}
+use Rattle.mb_session.specs.OpenFiles.{TellsCounts}
 use Rattle.mb_core_spec.specs.Histories.{IsCheckpointed, IsLegalSoFar, ReplaysToNow, picked_ops}
 use Rattle.mb_core_spec.specs.State.{CoreState}
 use Rattle.mb_core_spec.specs.declared.stages.Stage.{Stage}
@@ -21,7 +21,7 @@ use Rattle.mb_core_spec.specs.declared.stages.Stage.TheVariants as stage
 pub record IsHeldBy (before : Tree) (first view : Image) (opens : OpenCounts) (held : TreeAndOpens) : Type 0 where
   pub volume : IsVolume view held.tree
   pub kept : Kept before first held.tree view
-  pub counted : TableCounts opens held.opens
+  pub counted : TellsCounts opens held.opens
 
 -- what is seen is what the first operations of the log make of the checkpoint
 pub record IsFront (before : Tree) (first view : Image) (opens : OpenCounts) (start : TreeAndOpens) (oplog : List Logged) (done : ℕ) : Type 0 where

@@ -12,10 +12,9 @@ use Rattle.mb_cache.specs.State.{IsBlamed}
 use Rattle.mb_cache.specs.declared.answers.ReadFault.{ReadFault}
 use Rattle.mb_cache.specs.declared.answers.ReadFault.TheVariants as faults
 use Rattle.mb_core_spec.specs.Copies.{PagesState}
-use Rattle.mb_core_spec.specs.Events.{answered_by, gathering}
+use Rattle.mb_core_spec.specs.Events.{answered_by, gathering, with_room}
 use Rattle.mb_core_spec.specs.State.{CallerState, CoreState}
 use Rattle.mb_core_state.specs.Answers.{KeepsGathered, with_disk}
-use Rattle.mb_core_state.specs.Rooms.{with_room}
 
 -- what is put back where it was changes nothing
 pub put_back : {X : Type 0} (xs : List X) (at : ℕ) (x : X) → slice_get xs at ≡ Some x → slice_set xs at x ≡ xs

@@ -1,4 +1,9 @@
 mod Damaging
+mod GoneIn
+mod Enterings
 mod Gatherings
 mod Held
 mod Loggings
+mod Missing
+mod Redoings
+mod Replays

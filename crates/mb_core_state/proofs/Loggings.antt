@@ -7,11 +7,10 @@ use Rattle.mb_kinds.specs.declared.faults.Ticket.{Ticket}
 use Rattle.mb_kinds.specs.declared.replies.Reply.{Reply}
 use Rattle.mb_tree.specs.Sessions.{with_change}
 use Rattle.mb_cache.specs.Stamps.{Stamps}
-use Rattle.mb_core_spec.specs.Events.{GivesBack, entry_for, logging}
+use Rattle.mb_core_spec.specs.Events.{GivesBack, entry_for, logging, with_room}
 use Rattle.mb_core_spec.specs.State.{CallerState, CoreState}
 use Rattle.mb_core_spec.specs.declared.ready.Ready.{Ready}
 use Rattle.mb_core_state.specs.Finishing.{IsLogged, booking, putting}
-use Rattle.mb_core_state.specs.Rooms.{with_room}
 
 pub on_ok : {T E : Type 0} (result : Result T E) (P Q : Type 0) → (P → Q) → OnOk result P → OnOk result Q
 on_ok (Ok t) P Q then_q h = then_q h

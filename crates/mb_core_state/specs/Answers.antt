@@ -10,12 +10,11 @@ use Rattle.mb_edge.specs.declared.strokes.Stroke.{Stroke}
 use Rattle.mb_iface.specs.declared.replies.Need.{Need}
 use Rattle.mb_callers.specs.Gathering.{GathersBlocks, GathersTables}
 use Rattle.mb_core_spec.specs.Copies.{LiveTables, PagesState, TableCopy}
-use Rattle.mb_core_spec.specs.Events.{GivesBack, answered_by, gathering, leaving}
+use Rattle.mb_core_spec.specs.Events.{GivesBack, answered_by, gathering, leaving, with_room}
 use Rattle.mb_core_spec.specs.Recovery.{striking}
 use Rattle.mb_core_spec.specs.State.{CallerState, CoreState}
 use Rattle.mb_core_spec.specs.declared.stages.Stage.{Stage}
 use Rattle.mb_core_spec.specs.declared.stages.Stage.TheVariants as stage
-use Rattle.mb_core_state.specs.Rooms.{with_room}
 use Rattle.mb_core_state.specs.declared.answers.Fault.{Fault}
 use Rattle.mb_core_state.specs.declared.answers.Fault.TheVariants as fault
 use Rattle.mb_core_state.specs.declared.answers.Gathered.{Gathered}

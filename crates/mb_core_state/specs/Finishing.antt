@@ -12,12 +12,11 @@ use Rattle.mb_cache.specs.Stamps.{Stamps, raised_by}
 use Rattle.mb_callers.specs.Stale.{AllFresh, IsLeastStale}
 use Rattle.mb_tables.specs.Follows.{tables_after}
 use Rattle.mb_core_spec.specs.Copies.{PagesState}
-use Rattle.mb_core_spec.specs.Events.{GivesBack, booked, logged_op, logging, staling, taken_back, without}
+use Rattle.mb_core_spec.specs.Events.{GivesBack, booked, logged_op, logging, staling, taken_back, with_room, without}
 use Rattle.mb_core_spec.specs.Flights.{IsMine}
 use Rattle.mb_core_spec.specs.State.{CallerState, CoreState}
 use Rattle.mb_core_spec.specs.declared.ready.Ready.{Ready}
 use Rattle.mb_core_state.specs.Answers.{IsPresent, IsSkipped}
-use Rattle.mb_core_state.specs.Rooms.{with_room}
 use Rattle.mb_core_state.specs.declared.answers.Finished.{Finished}
 use Rattle.mb_core_state.specs.declared.answers.Finished.TheVariants as finished
 

@@ -1,3 +1,7 @@
 pub mod Answers
+pub mod Entering
 pub mod Finishing
+pub mod Opening
+pub mod Redoing
 pub mod Rooms
+pub mod StateLaws

@@ -1,15 +1,19 @@
--- What an event's equation leaves open: the room of the cache and of the journal.
-use Rattle.std.specs.Prelude.{List, ℕ, ◌≡◌, ◌≤◌, Some, slice_get}
+-- The cache of a core that begins, what events ask of the pins, and what a fault and a call that finishes leave.
+use Rattle.std.specs.Prelude.{List, [], ℕ, ◌+◌, ◌≡◌, ◌≤◌, Some, slice_get}
 use Rattle.mb_edge.specs.Damage.{Volatile, damaged}
 use Rattle.mb_edge.specs.declared.strokes.Stroke.{Stroke}
 use Rattle.mb_cache.specs.Stamps.{stamp_of}
+use Rattle.mb_cache.specs.State.{CacheRoom, CacheState}
 use Rattle.mb_core_spec.specs.Callers.{total}
 use Rattle.mb_core_spec.specs.Flights.{is_pin}
-use Rattle.mb_core_spec.specs.State.{CallerState, CoreState}
+use Rattle.mb_core_spec.specs.State.{CallerState, CoreState, JournalRoom}
+use Rattle.mb_journal.specs.Room.{KeepsRoom}
+use Rattle.mb_core_state.specs.declared.answers.Finished.{Finished}
+use Rattle.mb_core_state.specs.declared.answers.Finished.TheVariants as finished
 
--- what an event makes of a core, with the room that the new core has
-abbrev pub with_room : {F D : Type 0} → CoreState F D → CoreState F D → CoreState F D
-with_room event new = record event { cache = record event.cache { room = new.cache.room }; journal = record event.journal { room = new.journal.room } }
+-- a disk with no page and no pin, of which nothing was installed
+abbrev pub fresh_cache : {D : Type 0} → D → CacheRoom → CacheState D
+fresh_cache disk room = record { disk = disk; sealed = []; current = []; stamps = []; pins = []; room = room }
 
 -- the pins that a caller's steps took are there to be given back
 abbrev pub HasPins : {F D : Type 0} → CoreState F D → ℕ → Type 0
@@ -18,3 +22,17 @@ HasPins core caller = (mine : CallerState) (block : ℕ) → slice_get core.call
 -- what the strokes of a fault leave of the current pages and of the counts of open files
 abbrev pub damaged_both : {F D : Type 0} → CoreState F D → List Stroke → Volatile
 damaged_both core strokes = damaged (record { pages = core.cache.current; opens = core.tables.opens }) strokes
+
+-- a call that is logged leaves the steps that the calls inside may come to, with a checkpoint's, and a fault record
+pub record LeavesEntry (old left : JournalRoom) : Type 0 where
+  pub trail : 11 ≤ left.trail
+  pub records : 1 ≤ left.records
+  pub history : old.history ≤ left.history + 1
+
+-- what a call that finishes leaves of the journal's room, by the answer
+abbrev pub FinishLeaves : JournalRoom → JournalRoom → Finished → Type 0
+FinishLeaves old left (finished.Skip mine now) = left ≡ old
+FinishLeaves old left (finished.Busy holder) = left ≡ old
+FinishLeaves old left (finished.Stale block) = (10 ≤ left.trail) × (old.history ≤ left.history) × (old.records ≤ left.records)
+FinishLeaves old left finished.NoMemory = KeepsRoom old left
+FinishLeaves old left finished.Logged = LeavesEntry old left

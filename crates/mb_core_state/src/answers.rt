@@ -1,5 +1,18 @@
 use mb_kinds::{Reply, Ticket};
 
+/// The answer to a call that enters.
+#[derive(Debug, Drop)]
+pub enum Enter {
+    /// The call's reply: it had its entry already, or has one now; its flight ended.
+    Done(Reply),
+    /// A recovery is in progress. The call is in flight and waits.
+    Shut,
+    /// The call is inside, with this ticket.
+    Inside(Ticket),
+    /// There was no memory; nothing changed.
+    NoMemory,
+}
+
 /// The answer to a call that gathers.
 #[derive(Clone, Copy, Debug, PartialEq, Eq, Drop)]
 pub enum Gathered {

@@ -1,13 +1,19 @@
-ghost use Rattle.std.specs.Prelude.{◌≡◌};
+ghost use Rattle.std.specs.Prelude.{◌≡◌, IfErr, IfOk, length, map, replicate};
+ghost use Rattle.std.specs.FinMap as fin;
+ghost use Rattle.mb_tree.specs.Opening.{first_seat};
+ghost use Rattle.mb_core_spec.specs.Begun.{begun_core, idle};
 ghost use Rattle.mb_core_spec.specs.Events.{without};
+ghost use Rattle.mb_core_state.specs.Rooms.{fresh_cache};
 
 use mb_cache::Cache;
 use mb_callers::Callers;
 use mb_core_spec::{Config, Stage};
-use mb_edge::Disk;
+use mb_edge::{Disk, NoMemory};
 use mb_iface::FileSys;
 use mb_journal::Journal;
+use mb_kinds::Creds;
 use mb_tables::Tables;
+use std::alloc::Global;
 use std::marker::Model;
 use std::snapshot::Snapshot;
 
@@ -51,6 +57,30 @@ impl<F: FileSys, D: Disk> Model for Fields<F, D> {
 }
 
 impl<F: FileSys, D: Disk> Fields<F, D> {
+    /// A core begins over a disk: no page and no pin, no call, the sessions of the declared callers as they begin, and no
+    /// open file. The only error is want of memory, with the disk back.
+    pub fn new(alloc: Global, fs: F, disk: D, config: Config) -> Result<Fields<F, D>, D>
+        ensures begun { IfOk result (λ core. core ≡ begun_core fs disk config (fresh_cache disk core.cache.room) fin.empty core.journal.room) }
+        ensures back { IfErr result (λ same. same ≡ disk) }
+    {
+        let (tables, callers) = match begun_parts(alloc, &config.callers) {
+            Ok(parts) => parts,
+            Err(NoMemory) => return Err(disk),
+        };
+        Ok(Fields {
+            first: Snapshot::of(&disk),
+            fs,
+            cache: Cache::new(alloc, disk),
+            tables,
+            journal: Journal::new(alloc),
+            callers,
+            floor: None,
+            stage: Stage::Running,
+            incarnation: 0,
+            config,
+        })
+    }
+
     /// The right to commit alone is given back, where that caller has it.
     pub(crate) fn give_floor(&mut self, caller: u8)
         ensures { self.new ≡ record self.old { floor = without caller self.old.floor } }
@@ -59,4 +89,14 @@ impl<F: FileSys, D: Disk> Fields<F, D> {
             self.floor = None;
         }
     }
+}
+
+/// The tables and the callers' states of a core that begins.
+fn begun_parts(alloc: Global, creds: &Creds) -> Result<(Tables, Callers), NoMemory>
+    ensures tables { IfOk result (λ parts. parts.0 ≡ record { sessions = map first_seat creds.now; saved = map first_seat creds.now; opens = fin.empty; stamp = 0 }) }
+    ensures callers { IfOk result (λ parts. parts.1 ≡ replicate (length creds.now) idle) }
+{
+    let tables = Tables::new(alloc, creds)?;
+    let callers = Callers::new(alloc, creds.as_slice().len() as u8)?;
+    Ok((tables, callers))
 }

@@ -2,12 +2,14 @@ ghost use Rattle.std.specs.Prelude.{◌≡◌, ◌<◌, ◌≤◌, ◌^◌, ◌-
 ghost use Rattle.mb_kinds.specs.declared.entries.Flight.{Flight};
 ghost use Rattle.mb_tree.specs.Sessions.{HasDescriptorInRange};
 ghost use Rattle.mb_callers.specs.Stale.{AllFresh, IsLeastStale};
-ghost use Rattle.mb_core_spec.specs.Events.{GivesBack, Leaves, floor_after, staling};
+ghost use Rattle.mb_core_spec.specs.Events.{GivesBack, Leaves, floor_after, staling, with_room};
 ghost use Rattle.mb_core_spec.specs.Flights.{IsMine};
 ghost use Rattle.mb_core_spec.specs.State.{CallerState};
-ghost use Rattle.mb_journal.specs.Room.{HasEntryRoom};
+ghost use Rattle.mb_journal.specs.Room.{HasEntryRoom, KeepsRoom};
+ghost use Rattle.mb_iface.specs.Changed.{AreChanges};
+ghost use Rattle.mb_core_state.specs.Answers.{IsPresent};
 ghost use Rattle.mb_core_state.specs.Finishing.{Finishes, HasTicketOf, HolderFlies, IsBusy, IsLogged};
-ghost use Rattle.mb_core_state.specs.Rooms.{HasPins, with_room};
+ghost use Rattle.mb_core_state.specs.Rooms.{FinishLeaves, HasPins, LeavesEntry};
 
 use crate::answers::Finished;
 use crate::fields::Fields;
@@ -35,7 +37,7 @@ impl<F: FileSys, D: Disk> Fields<F, D> {
         Some(self.ticket_of(holder))
     }
 
-    fn ticket_of(&self, caller: u8) -> Ticket
+    pub(crate) fn ticket_of(&self, caller: u8) -> Ticket
         requires { (ticket : Ticket) × HasTicketOf self.now.callers caller ticket }
         ensures { HasTicketOf self.now.callers caller result }
     {
@@ -62,7 +64,9 @@ impl<F: FileSys, D: Disk> Fields<F, D> {
         requires few { self.old.tables.stamp < 2 ^ 64 - 1 }
         ensures ok { OnOk result ((mine : CallerState) (flight : Flight) → slice_get self.old.callers ticket.now.caller ≡ Some mine → mine.flight ≡ Some flight → IsLogged self.old self.new ticket.now.caller mine flight ticket.now ready) }
         ensures err { OnErr result (self.new ≡ with_room self.old self.new) }
-        ensures marks { OnOk result (11 ≤ self.new.journal.room.trail) }
+        ensures marks { OnOk result (LeavesEntry self.old.journal.room self.new.journal.room) }
+        ensures changes { OnOk result (AreChanges ready.changes) }
+        ensures kept { OnErr result (KeepsRoom self.old.journal.room self.new.journal.room) }
     {
         let reply = ready.reply.copied(alloc)?;
         let call = self.copy_call(alloc, ticket.caller)?;
@@ -86,7 +90,7 @@ impl<F: FileSys, D: Disk> Fields<F, D> {
         requires lists { HasEntryRoom self.old.journal.room }
         ensures ok { OnOk result ((mine : CallerState) (flight : Flight) → slice_get self.old.callers ticket.now.caller ≡ Some mine → mine.flight ≡ Some flight → call ≡ flight.call → reply ≡ ready.reply → IsLogged self.old self.new ticket.now.caller mine flight ticket.now ready) }
         ensures err { OnErr result (self.new ≡ self.old) }
-        ensures marks { OnOk result (11 ≤ self.new.journal.room.trail) }
+        ensures marks { OnOk result (Leaves self.old.journal.room self.new.journal.room 1 1) }
     {
         let Ready {
             reply: answer,
@@ -122,15 +126,16 @@ impl<F: FileSys, D: Disk> Fields<F, D> {
         pages: &Pages,
         ready: Ready,
     ) -> Finished
-        requires inside { (mine : CallerState) × (slice_get self.old.callers ticket.now.caller ≡ Some mine) × (mine.inside ≡ true) × IsSome mine.flight }
+        requires flight { (mine : CallerState) × (slice_get self.old.callers ticket.now.caller ≡ Some mine) × IsSome mine.flight }
+        requires inside { IsPresent self.old ticket.now → (mine : CallerState) × (slice_get self.old.callers ticket.now.caller ≡ Some mine) × (mine.inside ≡ true) }
         requires pins { HasPins self.old ticket.now.caller }
         requires holder { HolderFlies self.old.floor self.old.callers }
         requires seats { ticket.now.caller < length self.old.tables.sessions }
         requires session { HasDescriptorInRange ready.session }
         requires stamps { self.old.tables.stamp < 2 ^ 64 - 1 }
-        requires few { (mine : CallerState) → slice_get self.old.callers ticket.now.caller ≡ Some mine → 4 ≤ mine.stales → AllFresh ready.shared ticket.now.caller self.old.cache.stamps self.old.tables mine.pages pages.now }
         ensures finishes { (mine : CallerState) (flight : Flight) → slice_get self.old.callers ticket.now.caller ≡ Some mine → mine.flight ≡ Some flight → Finishes self.old self.new ticket.now mine flight pages.now ready result }
-        ensures logged { result ≡ Finished.Logged → 11 ≤ self.new.journal.room.trail }
+        ensures room { FinishLeaves self.old.journal.room self.new.journal.room result }
+        ensures changes { result ≡ Finished.Logged → AreChanges ready.changes }
     {
         if ticket.incarnation != self.incarnation {
             return Finished::Skip {
@@ -165,15 +170,16 @@ impl<F: FileSys, D: Disk> Fields<F, D> {
             .stale_block(&self.cache, stamp, caller, shared, pages)
     }
 
-    /// A call without its entry gathers anew; at its fourth stale answer it gets the right to commit alone. The only error
+    /// A call without its entry gathers anew; from its fourth stale answer on it has the right to commit alone. The only error
     /// is want of memory, for its step of the trace and ten more; nothing has changed then.
     fn gather_anew(&mut self, ticket: &Ticket, block: u32) -> Result<(), NoMemory>
-        requires inside { (mine : CallerState) × (slice_get self.old.callers ticket.now.caller ≡ Some mine) × (mine.inside ≡ true) × (mine.stales < 4) }
+        requires inside { (mine : CallerState) × (slice_get self.old.callers ticket.now.caller ≡ Some mine) × (mine.inside ≡ true) }
         requires pins { HasPins self.old ticket.now.caller }
         ensures ok { OnOk result ((mine : CallerState) → slice_get self.old.callers ticket.now.caller ≡ Some mine → (self.new ≡ with_room (staling self.old ticket.now.caller mine ticket.now block self.new.cache.pins) self.new) × GivesBack self.old.cache.pins self.new.cache.pins mine.undo) }
         ensures err { OnErr result (self.new ≡ with_room self.old self.new) }
         ensures marks { OnOk result (10 ≤ self.new.journal.room.trail) }
         ensures kept { (self.old.journal.room.history ≤ self.new.journal.room.history) × (self.old.journal.room.records ≤ self.new.journal.room.records) }
+        ensures same { OnErr result (KeepsRoom self.old.journal.room self.new.journal.room) }
     {
         self.journal.reserve_steps(11)?;
         self.give_back_copies(*ticket, block);
@@ -181,7 +187,7 @@ impl<F: FileSys, D: Disk> Fields<F, D> {
     }
 
     fn give_back_copies(&mut self, ticket: Ticket, block: u32)
-        requires inside { (mine : CallerState) × (slice_get self.old.callers ticket.caller ≡ Some mine) × (mine.inside ≡ true) × (mine.stales < 4) }
+        requires inside { (mine : CallerState) × (slice_get self.old.callers ticket.caller ≡ Some mine) × (mine.inside ≡ true) }
         requires pins { HasPins self.old ticket.caller }
         requires trail { 0 < self.old.journal.room.trail }
         ensures anew { (mine : CallerState) → slice_get self.old.callers ticket.caller ≡ Some mine → (self.new ≡ with_room (staling self.old ticket.caller mine ticket block self.new.cache.pins) self.new) × GivesBack self.old.cache.pins self.new.cache.pins mine.undo }
@@ -200,7 +206,7 @@ impl<F: FileSys, D: Disk> Fields<F, D> {
         requires { caller < length self.now.callers }
         ensures { (mine : CallerState) → slice_get self.now.callers caller ≡ Some mine → result ≡ floor_after caller mine.stales self.now.floor }
     {
-        if self.callers.get(caller).stales() == 3 {
+        if self.callers.get(caller).stales() >= 3 {
             Some(caller)
         } else {
             self.floor

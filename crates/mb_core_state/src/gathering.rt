@@ -2,10 +2,10 @@ ghost use Rattle.std.specs.Prelude.{◌≡◌, ◌<◌, ◌≤◌, ℕ, Some, le
 ghost use Rattle.mb_kinds.specs.declared.entries.Flight.{Flight};
 ghost use Rattle.mb_edge.specs.Causes.{Rose};
 ghost use Rattle.mb_cache.specs.State.{ReadHasCause};
-ghost use Rattle.mb_core_spec.specs.Events.{Leaves};
+ghost use Rattle.mb_core_spec.specs.Events.{Leaves, with_room};
 ghost use Rattle.mb_core_spec.specs.State.{CallerState};
 ghost use Rattle.mb_core_state.specs.Answers.{Gathering, IsPresent, KeepsGathered, with_disk};
-ghost use Rattle.mb_core_state.specs.Rooms.{HasPins, with_room};
+ghost use Rattle.mb_core_state.specs.Rooms.{HasPins};
 
 use crate::answers::Gathered;
 use crate::fields::Fields;
@@ -35,6 +35,7 @@ impl<F: FileSys, D: Disk> Fields<F, D> {
         ensures told { D.told self.new.cache.disk ≡ D.told self.old.cache.disk }
         ensures later { D.faults self.old.cache.disk ≤ D.faults self.new.cache.disk }
         ensures room { Leaves self.old.journal.room self.new.journal.room 0 1 }
+        ensures kept { (result ≡ Gathered.Device → ⊥) → self.new.journal.room ≡ self.old.journal.room }
     {
         if ticket.incarnation != self.incarnation {
             return Gathered::Skip {

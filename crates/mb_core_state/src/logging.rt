@@ -1,11 +1,11 @@
 ghost use Rattle.std.specs.Prelude.{◌≡◌, ◌<◌, ◌≤◌, ◌^◌, ◌-◌, ◌+◌, ℕ, Some, Ok, length, slice_get, OnOk, OnErr, IfOk, IsSome};
 ghost use Rattle.mb_kinds.specs.declared.entries.Flight.{Flight};
 ghost use Rattle.mb_tree.specs.Sessions.{HasDescriptorInRange};
-ghost use Rattle.mb_core_spec.specs.Events.{GivesBack, Leaves};
+ghost use Rattle.mb_core_spec.specs.Events.{GivesBack, Leaves, with_room};
 ghost use Rattle.mb_core_spec.specs.State.{CallerState};
 ghost use Rattle.mb_journal.specs.Room.{HasEntryRoom, KeepsRoom};
 ghost use Rattle.mb_core_state.specs.Finishing.{IsLogged, booking, putting};
-ghost use Rattle.mb_core_state.specs.Rooms.{HasPins, with_room};
+ghost use Rattle.mb_core_state.specs.Rooms.{HasPins};
 
 use crate::fields::Fields;
 use mb_core_spec::Ready;

@@ -1,6 +1,6 @@
 ghost use Rattle.std.specs.Prelude.{◌≡◌, ◌<◌, ◌≤◌, ◌+◌, length, nat_lt, OnOk, OnErr, IsOk};
-ghost use Rattle.mb_core_spec.specs.Copies.{TableCounts};
-ghost use Rattle.mb_core_spec.specs.Events.{Leaves};
+ghost use Rattle.mb_session.specs.OpenFiles.{TellsCounts};
+ghost use Rattle.mb_core_spec.specs.Events.{Leaves, with_room};
 ghost use Rattle.mb_core_spec.specs.Recovery.{dropping, failing, flushing, remounting, reopening, resuming, sealing};
 ghost use Rattle.mb_tree.specs.Sessions.{counts};
 ghost use Rattle.mb_cache.specs.Pages.{under};
@@ -8,7 +8,7 @@ ghost use Rattle.mb_cache.specs.State.{Flushes};
 ghost use Rattle.mb_kinds.specs.Image.{Image};
 ghost use Rattle.mb_core_spec.specs.Callers.{insiders};
 ghost use Rattle.mb_core_state.specs.Answers.{phase_of};
-ghost use Rattle.mb_core_state.specs.Rooms.{with_room};
+ghost use Rattle.mb_journal.specs.Room.{KeepsRoom};
 
 use crate::answers::Phase;
 use crate::fields::Fields;
@@ -72,7 +72,7 @@ impl<F: FileSys, D: Disk> Fields<F, D> {
 
     /// The open files become those of the saved sessions. The only error is want of memory, and nothing has changed then.
     pub fn reopen(&mut self, alloc: Global) -> Result<(), NoMemory>
-        ensures ok { OnOk result ((self.new ≡ with_room (reopening self.old self.new.tables.opens) self.new) × TableCounts self.new.tables.opens (counts self.old.tables.saved)) }
+        ensures ok { OnOk result ((self.new ≡ with_room (reopening self.old self.new.tables.opens) self.new) × TellsCounts self.new.tables.opens (counts self.old.tables.saved)) }
         ensures err { OnErr result (self.new ≡ with_room self.old self.new) }
         ensures room { self.old.journal.room.history ≤ self.new.journal.room.history }
     {
@@ -103,6 +103,7 @@ impl<F: FileSys, D: Disk> Fields<F, D> {
         ensures err { OnErr result (self.new ≡ with_room self.old self.new) }
         ensures sure { 11 ≤ self.old.journal.room.trail → IsOk result }
         ensures marks { OnOk result ((10 ≤ self.new.journal.room.trail) × (self.old.journal.room.records ≤ self.new.journal.room.records)) }
+        ensures kept { OnErr result (KeepsRoom self.old.journal.room self.new.journal.room) }
         ensures room { self.old.journal.room.history ≤ self.new.journal.room.history }
     {
         self.journal.reserve_steps(11)?;

@@ -2,7 +2,8 @@ ghost use Rattle.std.specs.Prelude.{◌≡◌, ◌<◌, ◌≤◌, ◌+◌, leng
 ghost use Rattle.mb_core_spec.specs.Recovery.{recorded, striking, striking_again};
 ghost use Rattle.mb_journal.specs.Room.{LeavesFault};
 ghost use Rattle.mb_core_state.specs.Answers.{IsPresent, Strikes};
-ghost use Rattle.mb_core_state.specs.Rooms.{damaged_both, with_room};
+ghost use Rattle.mb_core_state.specs.Rooms.{damaged_both};
+ghost use Rattle.mb_core_spec.specs.Events.{with_room};
 
 use crate::answers::Fault;
 use crate::fields::Fields;
@@ -29,24 +30,30 @@ impl<F: FileSys, D: Disk> Fields<F, D> {
                 now: self.incarnation,
             };
         }
-        let number = self.record_fault(ticket, kind, nth, damage);
+        let number = self.record_fault(ticket.caller, ticket.ordinal, kind, nth, damage);
         self.incarnation += 1;
         self.stage = Stage::Struck;
         Fault::Struck { number }
     }
 
-    /// A fault strikes a recovery, which then begins anew; gives its number, from 1. Needs no memory.
-    pub fn strike_again(&mut self, ticket: &Ticket, kind: Kind, nth: u32, damage: &Damage) -> u32
+    /// A fault strikes a recovery, which then begins anew: it is recorded for the call that recovers, and the incarnation
+    /// stays. Gives its number, from 1. Needs no memory.
+    pub fn strike_again(
+        &mut self,
+        caller: u8,
+        ordinal: u32,
+        kind: Kind,
+        nth: u32,
+        damage: &Damage,
+    ) -> u32
         requires records { 0 < self.old.journal.room.records }
         requires trail { 0 < self.old.journal.room.trail }
         requires few { length self.old.journal.records < 4294967295 }
-        requires number { self.old.incarnation ≤ length self.old.journal.records }
-        ensures struck { self.new ≡ with_room (striking_again self.old ticket.now kind nth damage.now) self.new }
+        ensures struck { self.new ≡ with_room (striking_again self.old caller ordinal kind nth damage.now) self.new }
         ensures number { result ≡ length self.old.journal.records + 1 }
         ensures room { LeavesFault self.old.journal.room self.new.journal.room }
     {
-        let number = self.record_fault(ticket, kind, nth, damage);
-        self.incarnation += 1;
+        let number = self.record_fault(caller, ordinal, kind, nth, damage);
         self.stage = Stage::Again;
         number
     }
@@ -54,18 +61,25 @@ impl<F: FileSys, D: Disk> Fields<F, D> {
 
 impl<F: FileSys, D: Disk> Fields<F, D> {
     /// A fault is recorded, and its damage done.
-    fn record_fault(&mut self, ticket: &Ticket, kind: Kind, nth: u32, damage: &Damage) -> u32
+    fn record_fault(
+        &mut self,
+        caller: u8,
+        ordinal: u32,
+        kind: Kind,
+        nth: u32,
+        damage: &Damage,
+    ) -> u32
         requires records { 0 < self.old.journal.room.records }
         requires trail { 0 < self.old.journal.room.trail }
         requires few { length self.old.journal.records < 4294967295 }
-        ensures recorded { self.new ≡ record self.old { cache = record self.old.cache { current = (damaged_both self.old damage.now).pages }; tables = record self.old.tables { opens = (damaged_both self.old damage.now).opens }; journal = record (recorded self.old.journal ticket.now kind nth) { room = self.new.journal.room } } }
+        ensures recorded { self.new ≡ record self.old { cache = record self.old.cache { current = (damaged_both self.old damage.now).pages }; tables = record self.old.tables { opens = (damaged_both self.old damage.now).opens }; journal = record (recorded self.old.journal caller ordinal kind nth) { room = self.new.journal.room } } }
         ensures number { result ≡ length self.old.journal.records + 1 }
         ensures room { LeavesFault self.old.journal.room self.new.journal.room }
     {
         self.damage(damage);
         self.journal.record(FaultRecord {
-            caller: ticket.caller,
-            ordinal: ticket.ordinal,
+            caller,
+            ordinal,
             kind,
             nth,
         })

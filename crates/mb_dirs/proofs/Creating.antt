@@ -1,5 +1,5 @@
 -- An inode made under a new name: the number chosen, the name entered, the inode made.
-use Rattle.std.proofs.Common.{ℕ, ◌≡◌, ◌≢◌, Bool, List, Option, Some, None, Err, IfSome, sym, ap, subst, ◌∙◌, arith}
+use Rattle.std.proofs.Common.{ℕ, ◌≡◌, ◌≢◌, Bool, true, List, Option, Some, None, Err, IfSome, sym, ap, subst, ◌∙◌, arith}
 use Rattle.std.specs.FinMap as fin
 use Rattle.mb_kinds.specs.Image.{Image}
 use Rattle.mb_kinds.specs.declared.errors.Errno.TheVariants.{ENOSPC}
@@ -18,7 +18,7 @@ use Rattle.mb_nodes.specs.Stored.{IsStored, with_node}
 use Rattle.mb_moves.specs.Advancing.{AdvancesTo}
 use Rattle.mb_moves.proofs.InARow.{changed_in_turn, near_before, nothing_changed}
 use Rattle.mb_moves.proofs.Trees.{refused_more}
-use Rattle.mb_dirs.specs.Choosing.{Chooses}
+use Rattle.mb_dirs.specs.Choosing.{Chooses, IsChoice}
 use Rattle.mb_dirs.specs.Creating.{MakesIn, with_new}
 use Rattle.mb_dirs.specs.Entering.{Enters, IsGap, named_node}
 use Rattle.mb_dirs.specs.Steps.{IsLookedThrough, IsNearFirst, IsUnusedIn, OnUnused}
@@ -31,6 +31,10 @@ use Rattle.mb_dirs.specs.declared.enters.Gap.{Gap}
 chosen_within : (shown : ℕ → Option (List ℕ)) (old mid : ChangeList) (demanded : Option ℕ) (ino : ℕ) → Chooses shown old mid demanded (chosen.Number ino) → IsWithinView shown old → IsWithinView shown mid
 chosen_within shown old mid None ino chooses inside = chooses.0 inside
 chosen_within shown old mid (Some number) ino chooses inside = subst (IsWithinView shown) (sym chooses.0) inside
+
+chosen_is : (shown : ℕ → Option (List ℕ)) (old mid : ChangeList) (demanded : Option ℕ) (ino : ℕ) → Chooses shown old mid demanded (chosen.Number ino) → IsChoice shown old demanded ino
+chosen_is shown old mid None ino chooses = λ image tree chain part stored. (chooses.1 image tree chain part stored (λ k. true)).1
+chosen_is shown old mid (Some number) ino chooses = chooses.1
 
 pub record HasChosen (image : Image) (tree : Tree) (looks : ℕ → Bool) (old mid : ChangeList) (demanded : Option ℕ) (ino : ℕ) : Type 0 where
   pub picks : PicksNumber tree demanded (Some ino)
@@ -139,4 +143,5 @@ module _ (shown : ℕ → Option (List ℕ)) (old mid : ChangeList) (dir links m
               got.free,
               changed_in_turn image tree (with_node tree dir (named node)) (with_new tree dir links moment name made node ino) looks old then now step last,
             )),
+        chosen_is shown old mid demanded ino chooses,
       )

@@ -29,6 +29,11 @@ PicksNumberOf shown old new chosen.NoneLeft = OnStored shown old (λ image tree 
 PicksNumberOf shown old new (chosen.Need need) = IsNeed shown need × OnStored shown old (λ image tree chain. (looks : ℕ → Bool) → IsNearFirst old need.first image tree looks)
 PicksNumberOf shown old new chosen.NoMemory = Unit {0}
 
+-- what a chosen number is: the demanded one, and where none is demanded V7's pick
+abbrev pub IsChoice : (ℕ → Option (List ℕ)) → ChangeList → Option ℕ → ℕ → Type 0
+IsChoice shown old (Some demanded) ino = ino ≡ demanded
+IsChoice shown old None ino = OnStored shown old (λ image tree chain. IsPickOf (over image.at (changed old)) ino)
+
 abbrev pub Chooses : (ℕ → Option (List ℕ)) → ChangeList → ChangeList → Option ℕ → Chosen → Type 0
 Chooses shown old new (Some demanded) result = (new ≡ old) × ChecksNumber shown old demanded result
 Chooses shown old new None result = PicksNumberOf shown old new result

@@ -11,6 +11,7 @@ use Rattle.mb_iface.specs.Changed.{ChangeList, IsWithinView}
 use Rattle.mb_iface.specs.Needs.{IsNeed}
 use Rattle.mb_nodes.specs.Stored.{with_node}
 use Rattle.mb_moves.specs.Advancing.{AdvancesTo}
+use Rattle.mb_dirs.specs.Choosing.{IsChoice}
 use Rattle.mb_dirs.specs.Entering.{IsGap, named_node}
 use Rattle.mb_dirs.specs.Making.{directory_made, file_made}
 use Rattle.mb_dirs.specs.Steps.{OnSlots, IsNearFirst}
@@ -38,6 +39,7 @@ OnGap shown old dir gap demanded says =
 abbrev pub MakesIn : (ℕ → Option (List ℕ)) → ChangeList → ChangeList → ℕ → ℕ → ℕ → Gap → List ℕ → (ℕ → Node) → Option ℕ → Chosen → Type 0
 MakesIn shown old now dir links moment gap name made demanded (chosen.Number ino) = (IsWithinView shown old → IsWithinView shown now)
     × OnGap shown old dir gap demanded (λ image tree looks node. PicksNumber tree demanded (Some ino) × IsFreeNumber tree ino × AdvancesTo image tree looks old now (with_new tree dir links moment name made node ino))
+    × IsChoice shown old demanded ino
 MakesIn shown old now dir links moment gap name made demanded chosen.NoneLeft = OnGap shown old dir gap demanded (λ image tree looks node. IsRefusedNew tree demanded (with_new tree dir links moment name made node))
 MakesIn shown old now dir links moment gap name made demanded (chosen.Need need) = IsNeed shown need × OnGap shown old dir gap demanded (λ image tree looks node. IsNearFirst old need.first image tree looks)
 MakesIn shown old now dir links moment gap name made demanded chosen.NoMemory = Unit {0}

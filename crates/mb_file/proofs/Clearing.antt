@@ -36,6 +36,9 @@ use Rattle.mb_moves.proofs.Asking.{inode_near}
 use Rattle.mb_moves.proofs.Dropping.{cleared_advances}
 use Rattle.mb_file.specs.Clearing.{Clears, IsFileAt, emptied_inode}
 use Rattle.mb_file.specs.Freeing.{AreInHand, PutsAllBack}
+use Rattle.std.specs.List.Sorted.{IsPermutation}
+use Rattle.std.proofs.lemmas.List.Sorted.{Contains-permutation, IsPermutation-sym}
+use Rattle.mb_file.proofs.Reordered.{enumerates_reordered}
 use Rattle.mb_file.specs.Walking.{IsListable, under_dinode}
 use Rattle.mb_file.proofs.Holding.{its_inode, its_number, listable_held, near_held, same_top}
 use Rattle.mb_file.proofs.InHand.{after_rewriting}
@@ -105,12 +108,12 @@ module _ (image : Image) (tree : Tree) (chain : List ℕ) (stored : IsStored ima
   pub file_near : (block : ℕ) → Contains (under_dinode (pointers image.at) d) block → IsNearTo image tree looks block
   file_near block among = near_held image tree chain stored ino with_addresses (under_dinode (pointers image.at) d) lists looks file.looked block among
 
-  module _ (moment : ℕ) (list : List ℕ) (is : list ≡ under_dinode (pointers image.at) d) (mid : ℕ → List ℕ) (written : IsDinodeWritten image.at mid ino (emptied_inode d moment)) where
+  module _ (moment : ℕ) (list : List ℕ) (is : IsPermutation (under_dinode (pointers image.at) d) list) (mid : ℕ → List ℕ) (written : IsDinodeWritten image.at mid ino (emptied_inode d moment)) where
     rewritten : IsRewritten image.at mid ino
     rewritten = dinode_written image.at mid ino (emptied_inode d moment) some (stored.bytes (inode_block ino)) written (last_stays d moment ∙ last_read (image.at (inode_block ino)) (inode_place ino) d reads)
 
     lets : LetsGo image.at ino node.body list
-    lets = listed node.body list (ap body_has_addresses file.body) (subst (Enumerates image.at ino) (sym is) lists)
+    lets = listed node.body list (ap body_has_addresses file.body) (enumerates_reordered image.at ino (under_dinode (pointers image.at) d) list is lists)
 
     pub cleared_in_hand : AreInHand (without (has_addresses tree) ino) mid list chain
     cleared_in_hand = after_rewriting image tree chain stored ino node file.has list lets mid rewritten
@@ -145,16 +148,16 @@ module _ (shown : ℕ → Option (List ℕ)) (old new : ChangeList) (ino moment 
       λ image tree chain part stored looks node file. file_near (with_changes image old) tree chain stored looks ino node file d (reads image.at part) need.first (among image.at part),
     )
 
-    module _ (mid : ChangeList) (list : List ℕ) (within : IsWithinView shown old → IsWithinView shown mid)
+    module _ (mid : ChangeList) (found list : List ℕ) (order : IsPermutation found list) (within : IsWithinView shown old → IsWithinView shown mid)
         (written : (blocks : ℕ → List ℕ) → IsPart shown blocks → IsDinodeWritten (over blocks (changed old)) (over blocks (changed mid)) ino (emptied_inode d moment))
-        (lists : (blocks : ℕ → List ℕ) → IsPart shown blocks → IsListable [] (under_dinode (pointers (over blocks (changed old))) d) → list ≡ under_dinode (pointers (over blocks (changed old))) d) where
+        (lists : (blocks : ℕ → List ℕ) → IsPart shown blocks → IsListable [] (under_dinode (pointers (over blocks (changed old))) d) → found ≡ under_dinode (pointers (over blocks (changed old))) d) where
       pub clears_by : (result : Hung) → PutsAllBack shown mid new list result → Clears shown old new ino moment result
       clears_by hung.Done puts = (
         λ w. puts.0 (within w),
         λ image tree chain part stored looks node file.
             (let base = with_changes image old in
             let read = reads image.at part in
-            let is = lists image.at part (file_listable base tree chain stored looks ino node file d read) in
+            let is : IsPermutation (under_dinode (pointers base.at) d) list = subst (λ (xs : List ℕ). IsPermutation xs list) (lists image.at part (file_listable base tree chain stored looks ino node file d read)) order in
             let hand = cleared_in_hand base tree chain stored looks ino node file d read moment list is (over image.at (changed mid)) (written image.at part) in
             let put = puts.1 image.at (without (has_addresses tree) ino) chain part hand in
             (_, cleared_whole base tree chain stored looks ino node file d read moment list is (over image.at (changed mid)) (written image.at part) (over image.at (changed new)) put)),
@@ -164,10 +167,10 @@ module _ (shown : ℕ → Option (List ℕ)) (old new : ChangeList) (ino moment 
         λ image tree chain part stored looks node file.
             (let base = with_changes image old in
             let read = reads image.at part in
-            let is = lists image.at part (file_listable base tree chain stored looks ino node file d read) in
+            let is : IsPermutation (under_dinode (pointers base.at) d) list = subst (λ (xs : List ℕ). IsPermutation xs list) (lists image.at part (file_listable base tree chain stored looks ino node file d read)) order in
             elim puts.1 [
               | inl first ↦ super_block first
-              | inr among ↦ file_near base tree chain stored looks ino node file d read need.first (subst (λ (xs : List ℕ). Contains xs need.first) is among)
+              | inr among ↦ file_near base tree chain stored looks ino node file d read need.first (Contains-permutation list (under_dinode (pointers base.at) d) need.first (IsPermutation-sym (under_dinode (pointers base.at) d) list is) among)
             ]),
       )
       clears_by hung.NoMemory puts = tt

@@ -27,6 +27,9 @@ use Rattle.mb_tree.specs.declared.trees.Tree.{Tree}
 use Rattle.mb_moves.specs.Advancing.{Advances, IsNearTo}
 use Rattle.mb_moves.proofs.Asking.{inode_near, stored_rules}
 use Rattle.mb_moves.proofs.InARow.{itself}
+use Rattle.std.specs.List.Sorted.{IsPermutation}
+use Rattle.std.proofs.lemmas.List.Sorted.{Contains-permutation, IsPermutation-sym}
+use Rattle.mb_file.proofs.Reordered.{lets_reordered}
 use Rattle.mb_file.specs.Erasing.{Erases, held_blocks}
 use Rattle.mb_file.specs.Freeing.{PutsAllBack}
 use Rattle.mb_file.specs.Walking.{IsListable}
@@ -51,16 +54,16 @@ module _ (shown : ℕ → Option (List ℕ)) (old new : ChangeList) (ino : ℕ) 
           held_is_near (with_changes image old) tree chain stored ino node erasable.has erasable.kind d (reads image.at part) looks erasable.looked need.first (among image.at part),
     )
 
-    module _ (mid : ChangeList) (list : List ℕ) (frees : FreesInode shown old mid ino hung.Done)
-        (holds : (blocks : ℕ → List ℕ) → IsPart shown blocks → IsListable [] (held_blocks (pointers (over blocks (changed old))) d) → list ≡ held_blocks (pointers (over blocks (changed old))) d) where
+    module _ (mid : ChangeList) (found list : List ℕ) (order : IsPermutation found list) (frees : FreesInode shown old mid ino hung.Done)
+        (holds : (blocks : ℕ → List ℕ) → IsPart shown blocks → IsListable [] (held_blocks (pointers (over blocks (changed old))) d) → found ≡ held_blocks (pointers (over blocks (changed old))) d) where
       pub erases_by : (result : Hung) → PutsAllBack shown mid new list result → Erases shown old new ino result
       erases_by hung.Done puts = (
         λ w. puts.0 (frees.0 w),
         λ image tree chain part stored looks node erasable.
             (let base = with_changes image old in
             let number = its_number base tree chain stored ino node erasable.has in
-            let is = holds image.at part (held_listable base tree chain stored ino node erasable.has erasable.kind d (reads image.at part)) in
-            let lets : LetsGo base.at ino node.body list = subst (LetsGo base.at ino node.body) (sym is) (held_lets base tree chain stored ino node erasable.has erasable.kind d (reads image.at part)) in
+            let is : IsPermutation (held_blocks (pointers base.at) d) list = subst (λ (xs : List ℕ). IsPermutation xs list) (holds image.at part (held_listable base tree chain stored ino node erasable.has erasable.kind d (reads image.at part))) order in
+            let lets : LetsGo base.at ino node.body list = lets_reordered base.at ino node.body (held_blocks (pointers base.at) d) list is (held_lets base tree chain stored ino node erasable.has erasable.kind d (reads image.at part)) in
             let freed = frees.1 image.at part (stored_rules base tree chain stored) (omega (arith, number.0)) in
             let hand = blocks_in_hand base tree chain stored ino node erasable.has list lets freed.0 (over image.at (changed mid)) freed.1 freed.2 in
             let put = puts.1 image.at (without (has_addresses tree) ino) chain part hand in
@@ -70,10 +73,10 @@ module _ (shown : ℕ → Option (List ℕ)) (old new : ChangeList) (ino : ℕ) 
         puts.0,
         λ image tree chain part stored looks node erasable.
             (let base = with_changes image old in
-            let is = holds image.at part (held_listable base tree chain stored ino node erasable.has erasable.kind d (reads image.at part)) in
+            let is : IsPermutation (held_blocks (pointers base.at) d) list = subst (λ (xs : List ℕ). IsPermutation xs list) (holds image.at part (held_listable base tree chain stored ino node erasable.has erasable.kind d (reads image.at part))) order in
             elim puts.1 [
               | inl first ↦ super_block first
-              | inr among ↦ held_is_near base tree chain stored ino node erasable.has erasable.kind d (reads image.at part) looks erasable.looked need.first (subst (λ (xs : List ℕ). Contains xs need.first) is among)
+              | inr among ↦ held_is_near base tree chain stored ino node erasable.has erasable.kind d (reads image.at part) looks erasable.looked need.first (Contains-permutation list (held_blocks (pointers base.at) d) need.first (IsPermutation-sym (held_blocks (pointers base.at) d) list is) among)
             ]),
       )
       erases_by hung.NoMemory puts = tt

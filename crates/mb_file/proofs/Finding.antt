@@ -20,13 +20,13 @@ use Rattle.mb_file.specs.Finding.{AsksForOwn, FindsPart, HasSmallAddresses}
 use Rattle.mb_file.specs.Finding.IsBlockOfInode.{inode, led_to}
 use Rattle.mb_file.specs.declared.parts.PartAt.TheVariants as found
 
-itself : (ino : ℕ) → nat_eq ino ino ≡ true
+pub itself : (ino : ℕ) → nat_eq ino ino ≡ true
 itself ino = grind (arith, nat_tests)
 
 own_place : (ino part : ℕ) → part < most_parts → IsPlace (nat_eq ino) (place_of ino part)
 own_place ino part below = place_is (nat_eq ino) ino part (itself ino) below
 
-way_bounded : (blocks : ℕ → List ℕ) (ino part : ℕ) → part < most_parts → HasSmallAddresses blocks ino → IsBounded blocks ino (route_of part)
+pub way_bounded : (blocks : ℕ → List ℕ) (ino part : ℕ) → part < most_parts → HasSmallAddresses blocks ino → IsBounded blocks ino (route_of part)
 way_bounded blocks ino part below has level low = has.small (way ino (route_of part).places level) (place_way part (route_of part) (route_is part below) ino (nat_eq ino) (itself ino) level low)
 
 -- below a hole there are holes

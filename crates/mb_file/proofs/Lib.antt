@@ -4,11 +4,14 @@ pub mod Clearing
 pub mod ErasedInodes
 pub mod ErasingSteps
 pub mod Finding
+pub mod FreeLooking
 pub mod Holding
 pub mod InHand
 pub mod Listing
+pub mod Looking
 pub mod PuttingBack
 pub mod PuttingBytes
 pub mod PuttingParts
 pub mod PuttingWhole
 pub mod Reading
+pub mod Reordered

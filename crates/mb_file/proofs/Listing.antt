@@ -13,7 +13,7 @@ use Rattle.mb_tree.specs.Views.{over, IsPart}
 use Rattle.mb_blocks.specs.Walk.{under_block, under_each}
 use Rattle.mb_blocks.proofs.PartBytes.{entry_is}
 use Rattle.mb_iface.specs.Changed.{ChangeList, changed}
-use Rattle.mb_file.specs.Walking.{IsListable, PushesUnder, under_address, under_dinode}
+use Rattle.mb_file.specs.Walking.{IsListable, PushesOne, PushesUnder, under_address, under_dinode}
 use Rattle.mb_file.specs.declared.walks.Walked.TheVariants as walked
 
 under_some : (ps : Pointers) (levels address : ℕ) → 0 < address → under_address ps levels address ≡ under_block ps levels address
@@ -153,6 +153,25 @@ module _ (shown : ℕ → Option (List ℕ)) (changes : ChangeList) (address : �
   unfolding under_block
   pushed_alone levels before now none is blocks part listable =
       is ∙ ap (λ xs. before ++ xs) (sym (under_some (pointers (over blocks (changed changes))) levels address some ∙ ap (λ n. under_block (pointers (over blocks (changed changes))) n address) none))
+
+-- the last level's block stands alone
+pub pushed_one : (shown : ℕ → Option (List ℕ)) (changes : ChangeList) (lower address : ℕ) (before now : List ℕ) → lower ≡ 0 → PushesOne address before now → PushesUnder shown changes address lower before now walked.Done
+unfolding under_block
+pushed_one shown changes zero address before now none one = λ blocks _ listable. one listable
+pushed_one shown changes (suc lower) address before now none one = absurd (omega (arith, none))
+
+alone_is : (address : ℕ) → 0 < address → cond (nat_lt 0 address) (address ∷ []) [] ≡ address ∷ []
+alone_is address some = (let t : nat_lt 0 address ≡ true = grind (arith, nat_tests) in ap (λ b. cond b (address ∷ []) []) t)
+
+pub pushed_itself : (address : ℕ) (before now : List ℕ) → 0 < address → now ≡ before ++ address ∷ [] → PushesOne address before now
+pushed_itself address before now some is listable = is ∙ ap (λ xs. before ++ xs) (sym (alone_is address some))
+
+pub pushed_nothing : (address : ℕ) (before : List ℕ) → address ≡ 0 → PushesOne address before before
+pushed_nothing address before none listable = (let t : nat_lt 0 address ≡ false = grind (arith, nat_tests) in sym (append-nil before) ∙ ap (λ xs. before ++ xs) (sym (ap (λ b. cond b (address ∷ []) []) t)))
+
+pub pushed_never : (address : ℕ) (before now : List ℕ) → 0 < address → (262144 ≤ address) ⊎ (262144 ≤ length before) → PushesOne address before now
+pushed_never address before now some (inl great) listable = absurd (let small = listable.small address (subst (λ (xs : List ℕ). Contains xs address) (sym (alone_is address some)) (0, omega arith, refl)) in omega (arith, great, small))
+pushed_never address before now some (inr many) listable = absurd (let few = listable.few in let n : length (cond (nat_lt 0 address) (address ∷ []) []) ≡ 1 = ap length (alone_is address some) in omega (arith, many, few, n))
 
 -- ---- the addresses of an inode
 

@@ -1,5 +1,5 @@
 -- Bytes put into a file with its size and times, and the operation on a volume.
-use Rattle.std.proofs.Common.{ℕ, ◌≡◌, ◌+◌, ◌<◌, ◌≤◌, Bool, true, false, max, nat_le, Option, None, Ok, Err, List, [], length, refl, sym, ap, subst, ◌∙◌, arith}
+use Rattle.std.proofs.Common.{ℕ, ◌≡◌, inl, inr, ◌+◌, ◌<◌, ◌≤◌, Bool, true, false, max, nat_le, Option, None, Some, Ok, Err, List, [], length, refl, sym, ap, subst, ◌∙◌, arith}
 use Rattle.std.specs.FinMap as fin
 use Rattle.std.specs.Ordering.{nat_cmp}
 use Rattle.std.proofs.lemmas.Bool.Decides.{nat_tests}
@@ -20,6 +20,7 @@ use Rattle.mb_tree.specs.declared.operations.FsOp.TheVariants.{Put}
 use Rattle.mb_tree.specs.declared.trees.Tree.{Tree}
 use Rattle.mb_iface.specs.Acting.{Acts, with_changes}
 use Rattle.mb_iface.specs.Changed.{ChangeList, changed}
+use Rattle.mb_iface.specs.Near.IsNear.{super_block, free}
 use Rattle.mb_iface.specs.OpenCounts.{count_of}
 use Rattle.mb_iface.specs.declared.replies.Acted.TheVariants as acted
 use Rattle.mb_iface.specs.declared.replies.Need.{Need}
@@ -34,9 +35,9 @@ use Rattle.mb_moves.proofs.Nearness.{place_near, tested_place}
 use Rattle.mb_moves.proofs.Touching.{near_touched}
 use Rattle.mb_moves.proofs.Trees.{put_twice}
 use Rattle.mb_file.specs.Clearing.{IsFileAt}
-use Rattle.mb_file.specs.Finding.{AsksForOwn, IsBlockOfInode}
+use Rattle.mb_file.specs.Finding.{AsksForOwn, IsBlockOfInode, LacksFree}
 use Rattle.mb_file.specs.Finding.IsBlockOfInode.{inode, led_to}
-use Rattle.mb_file.specs.Putting.{PutsBytes, PutsWhole, SetsSize, with_parts}
+use Rattle.mb_file.specs.Putting.{LacksForPut, PutsBytes, PutsWhole, SetsSize, with_parts}
 use Rattle.mb_file.specs.declared.puts.Written.{Written}
 use Rattle.mb_file.specs.declared.puts.Written.TheVariants as written
 use Rattle.mb_file.proofs.Acting.{changed_here, named_looked}
@@ -158,3 +159,19 @@ module _ (shown : ℕ → Option (List ℕ)) (image : Image) (tree : Tree) (part
     put_asked changes need puts fits =
         let first = stored_at_first image tree volume in
         (near_touched image tree op need.first).1 (puts.1 image tree first.1 part first.2 (touches tree op) fits.regular.node (its_file_at fits))
+
+-- ---- what is wanted
+
+module _ (shown : ℕ → Option (List ℕ)) (old : ChangeList) (ino : ℕ) where
+  pub own_wanted : (need : Need) → AsksForOwn shown old ino need → LacksForPut shown old ino (Some need)
+  own_wanted need asks = whole_asked_own shown old old ino 0 [] 0 need asks
+
+  pub free_wanted : (result : Option Need) → LacksFree shown old result → LacksForPut shown old ino result
+  free_wanted None lacks = tt
+  free_wanted (Some need) lacks = (
+    lacks.0,
+    λ image tree chain part stored looks node file. elim (lacks.1 image.at chain part stored.spare.listed) [
+      | inl first ↦ super_block first
+      | inr among ↦ free chain stored.spare.listed among
+    ],
+  )

@@ -1,5 +1,5 @@
 -- Blocks in hand put back on the free chain one after another.
-use Rattle.std.specs.Prelude.{List, ℕ, ◌<◌, ◌≤◌, ◌≡◌, ◌⊎◌, Bool, Option}
+use Rattle.std.specs.Prelude.{List, ℕ, ◌<◌, ◌≤◌, ◌≡◌, ◌⊎◌, Bool, Option, IfSome}
 use Rattle.std.specs.List.{Contains}
 use Rattle.mb_word.specs.Fields.{fsize_of, isize_of, ninode_of}
 use Rattle.mb_tree.specs.Views.{over, IsPart}
@@ -8,6 +8,7 @@ use Rattle.mb_blocks.specs.Laid.{IsLaid}
 use Rattle.mb_blocks.specs.Rules.{KeepsRules}
 use Rattle.mb_iface.specs.Changed.{ChangeList, changed, IsWithinView}
 use Rattle.mb_iface.specs.Needs.{IsNeed}
+use Rattle.mb_iface.specs.declared.replies.Need.{Need}
 use Rattle.mb_alloc.specs.declared.frees.Hung.{Hung}
 use Rattle.mb_alloc.specs.declared.frees.Hung.TheVariants as hung
 
@@ -30,3 +31,7 @@ PutsAllBack shown old new list hung.Done = (IsWithinView shown old → IsWithinV
     → AreFreed (over blocks (changed old)) (over blocks (changed new)) list)
 PutsAllBack shown old new list (hung.Need need) = IsNeed shown need × ((need.first ≡ 1) ⊎ Contains list need.first)
 PutsAllBack shown old new list hung.NoMemory = Unit {0}
+
+-- block 1, or one of those that are to be put back, asked for before any is
+abbrev pub LacksLists : (ℕ → Option (List ℕ)) → List ℕ → Option Need → Type 0
+LacksLists shown list result = IfSome result (λ need. IsNeed shown need × ((need.first ≡ 1) ⊎ Contains list need.first))

@@ -1,5 +1,5 @@
 -- Bytes put into a regular file: a step for each part, and one for the size and the times.
-use Rattle.std.specs.Prelude.{List, ℕ, ◌≡◌, Bool, true, max, is_some, Option, Err}
+use Rattle.std.specs.Prelude.{List, ℕ, ◌≡◌, Bool, true, max, is_some, Option, IfSome, Err}
 use Rattle.std.specs.FinMap as fin
 use Rattle.mb_kinds.specs.Image.{Image}
 use Rattle.mb_kinds.specs.declared.errors.Errno.TheVariants.{ENOSPC}
@@ -14,6 +14,7 @@ use Rattle.mb_tree.specs.declared.trees.Tree.{Tree}
 use Rattle.mb_iface.specs.Acting.{with_changes}
 use Rattle.mb_iface.specs.Changed.{ChangeList, IsWithinView}
 use Rattle.mb_iface.specs.Needs.{IsNeed}
+use Rattle.mb_iface.specs.declared.replies.Need.{Need}
 use Rattle.mb_nodes.specs.Stored.{with_node}
 use Rattle.mb_moves.specs.Advancing.{AdvancesTo, IsNearTo, OnStored}
 use Rattle.mb_file.specs.Clearing.{IsFileAt}
@@ -30,6 +31,10 @@ OnParts shown old ino says = OnStored shown old (λ image tree chain. (looks : �
 
 abbrev pub AsksNearFile : (ℕ → Option (List ℕ)) → ChangeList → ℕ → ℕ → Type 0
 AsksNearFile shown old ino first = OnParts shown old ino (λ image tree looks node size parts. IsNearTo (with_changes image old) tree looks first)
+
+-- what is wanted to put bytes looked at
+abbrev pub LacksForPut : (ℕ → Option (List ℕ)) → ChangeList → ℕ → Option Need → Type 0
+LacksForPut shown old ino result = IfSome result (λ need. IsNeed shown need × AsksNearFile shown old ino need.first)
 
 -- whatever file with that part and the parts that are there is refused
 abbrev pub IsRefusedWith : Tree → ℕ → Numbered (List ℕ) → ℕ → Type 0

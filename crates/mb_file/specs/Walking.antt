@@ -1,5 +1,5 @@
 -- The blocks that an inode's addresses lead to, listed (V7 filsys(5)).
-use Rattle.std.specs.Prelude.{List, [], ◌++◌, ℕ, ◌+◌, ◌-◌, ◌<◌, ◌≤◌, ◌≡◌, cond, nat_lt, Option, length}
+use Rattle.std.specs.Prelude.{List, [], ◌∷◌, ◌++◌, ℕ, ◌+◌, ◌-◌, ◌<◌, ◌≤◌, ◌≡◌, cond, nat_lt, Option, IfSome, length}
 use Rattle.std.specs.List.{Contains}
 use Rattle.mb_layout.specs.Inode.{address_in}
 use Rattle.mb_layout.specs.declared.dinodes.Dinode.{Dinode}
@@ -9,6 +9,7 @@ use Rattle.mb_tree.specs.Views.{over, IsPart}
 use Rattle.mb_blocks.specs.Walk.{under_block, under_each}
 use Rattle.mb_iface.specs.Changed.{ChangeList, changed}
 use Rattle.mb_iface.specs.Needs.{IsNeed}
+use Rattle.mb_iface.specs.declared.replies.Need.{Need}
 use Rattle.mb_file.specs.declared.walks.Collected.{Collected}
 use Rattle.mb_file.specs.declared.walks.Collected.TheVariants as collected
 use Rattle.mb_file.specs.declared.walks.Walked.{Walked}
@@ -27,6 +28,10 @@ pub record IsListable (before more : List ℕ) : Type 0 where
   pub small : (block : ℕ) → Contains more block → block < 262144
   pub few : length before + length more ≤ 262144
 
+-- the block alone to which an address leads
+abbrev pub PushesOne : ℕ → List ℕ → List ℕ → Type 0
+PushesOne address before after = IsListable before (cond (nat_lt 0 address) (address ∷ []) []) → after ≡ before ++ cond (nat_lt 0 address) (address ∷ []) []
+
 abbrev pub PushesUnder : (ℕ → Option (List ℕ)) → ChangeList → ℕ → ℕ → List ℕ → List ℕ → Walked → Type 0
 PushesUnder shown changes address levels before after walked.Done = (blocks : ℕ → List ℕ) → IsPart shown blocks
     → IsListable before (under_address (pointers (over blocks (changed changes))) levels address)
@@ -34,6 +39,11 @@ PushesUnder shown changes address levels before after walked.Done = (blocks : �
 PushesUnder shown changes address levels before after (walked.Need need) = IsNeed shown need
     × ((blocks : ℕ → List ℕ) → IsPart shown blocks → Contains (under_address (pointers (over blocks (changed changes))) levels address) need.first)
 PushesUnder shown changes address levels before after walked.NoMemory = Unit {0}
+
+-- index blocks looked at
+abbrev pub LacksIndex : (ℕ → Option (List ℕ)) → ChangeList → ℕ → ℕ → Option Need → Type 0
+LacksIndex shown changes address levels result = IfSome result (λ need. IsNeed shown need
+    × ((blocks : ℕ → List ℕ) → IsPart shown blocks → Contains (under_address (pointers (over blocks (changed changes))) levels address) need.first))
 
 abbrev pub Collects : (ℕ → Option (List ℕ)) → ChangeList → Dinode → Collected → Type 0
 Collects shown changes d (collected.Blocks list) = (blocks : ℕ → List ℕ) → IsPart shown blocks

@@ -10,7 +10,7 @@ ghost use Rattle.mb_iface.specs.Acting.{Acts};
 ghost use Rattle.mb_iface.specs.Needs.{ActsFor};
 ghost use Rattle.mb_file.specs.Clearing.{Clears, emptied_inode};
 
-use crate::frees::put_all_back;
+use crate::frees::{arrange, put_all_back};
 use crate::walks::{Collected, collect};
 use mb_alloc::Hung;
 use mb_iface::{Acted, Changes, Edited, Need, View};
@@ -44,11 +44,12 @@ fn clear<V: View>(alloc: Global, view: &V, changes: &mut Changes, ino: u16, mome
         Inode::Here(inode) => inode,
         Inode::Need(need) => return Hung::Need(need),
     };
-    let list = match collect(alloc, view, changes, &inode) {
+    let mut list = match collect(alloc, view, changes, &inode) {
         Collected::Blocks(list) => list,
         Collected::Need(need) => return Hung::Need(need),
         Collected::NoMemory => return Hung::NoMemory,
     };
+    arrange(view, changes, &mut list);
     let holes = without_parts(&inode, moment);
     match write_inode(view, changes, ino, &holes) {
         Edited::Done => put_all_back(view, changes, &list),

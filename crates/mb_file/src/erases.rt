@@ -1,6 +1,6 @@
 ghost use Rattle.mb_file.specs.Erasing.{Erases, ErasesWhole, ListsHeld};
 
-use crate::frees::put_all_back;
+use crate::frees::{arrange, put_all_back};
 use crate::walks::{Collected, collect};
 use mb_alloc::{Hung, free_inode};
 use mb_iface::{Changes, Over, View};
@@ -38,11 +38,12 @@ pub fn erase_in<V: View>(alloc: Global, view: &V, changes: &mut Changes, ino: u1
         Inode::Here(inode) => inode,
         Inode::Need(need) => return Hung::Need(need),
     };
-    let list = match held(alloc, view, changes, &inode) {
+    let mut list = match held(alloc, view, changes, &inode) {
         Collected::Blocks(list) => list,
         Collected::Need(need) => return Hung::Need(need),
         Collected::NoMemory => return Hung::NoMemory,
     };
+    arrange(view, changes, &mut list);
     match free_inode(view, changes, ino) {
         Hung::Done => put_all_back(view, changes, &list),
         Hung::Need(need) => Hung::Need(need),

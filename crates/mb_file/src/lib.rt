@@ -16,6 +16,7 @@ mod frees;
 mod parts;
 mod puts;
 mod reads;
+mod spares;
 mod walks;
 
 pub use clears::empty;

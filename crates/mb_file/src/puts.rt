@@ -8,9 +8,10 @@ ghost use Rattle.mb_tree.specs.declared.operations.FsOp.TheVariants.{Put};
 ghost use Rattle.mb_tree.specs.declared.trees.Tree.{Tree};
 ghost use Rattle.mb_iface.specs.Acting.{Acts};
 ghost use Rattle.mb_iface.specs.Needs.{ActsFor};
-ghost use Rattle.mb_file.specs.Putting.{PutsBytes, PutsPart, PutsWhole, SetsSize, grown_inode};
+ghost use Rattle.mb_file.specs.Putting.{LacksForPut, PutsBytes, PutsPart, PutsWhole, SetsSize, grown_inode};
 
-use crate::parts::lacking;
+use crate::parts::{Looked, look};
+use crate::spares::lacking_free;
 use mb_bmap::{Reached, reach};
 use mb_iface::{Acted, Changes, Edited, Need, View, edit};
 use mb_inodes::{Inode, read_inode, write_inode};
@@ -54,7 +55,13 @@ pub fn put<V: View>(
     if offset as usize > MOST - bytes.len() {
         return Acted::Refused(Errno::EFBIG);
     }
-    let mut changes = Changes::new(alloc);
+    let none = Changes::new(alloc);
+    if let Some(need) = lacking(view, &none, ino, offset, bytes.len() as u32) {
+        return Acted::Need(need);
+    }
+    let Ok(mut changes) = Changes::with_room(alloc, bytes.len() / 512 + 9) else {
+        return Acted::NoMemory;
+    };
     match put_whole(view, &mut changes, ino, offset, bytes, moment) {
         Written::Done => Acted::Done {
             changes,
@@ -63,6 +70,25 @@ pub fn put<V: View>(
         Written::NoneLeft => Acted::Refused(Errno::ENOSPC),
         Written::Need(need) => Acted::Need(need),
         Written::NoMemory => Acted::NoMemory,
+    }
+}
+
+/// The first run of blocks that the view lacks of those that are wanted to put so many bytes: the blocks
+/// that the file has of the parts, and then those that are taken for what it has not.
+fn lacking<V: View>(view: &V, changes: &Changes, ino: u16, offset: u32, count: u32) -> Option<Need>
+    requires { offset + count ≤ 1082201088 }
+    ensures { LacksForPut (V.shown view.now) changes.now ino result }
+{
+    match look(
+        view,
+        changes,
+        ino,
+        offset / 512,
+        (offset + count + 511) / 512,
+    ) {
+        Looked::Missing(0) => None,
+        Looked::Missing(missing) => lacking_free(view, changes, missing),
+        Looked::Need(need) => Some(need),
     }
 }
 
@@ -80,9 +106,6 @@ fn put_whole<V: View>(
     ensures { PutsWhole (V.shown view.now) changes.old changes.new ino offset bytes.now moment result }
 {
     let end = offset + bytes.len() as u32;
-    if let Some(need) = lacking(view, changes, ino, offset / 512, (end + 511) / 512) {
-        return Written::Need(need);
-    }
     match put_bytes(view, changes, ino, offset, bytes) {
         Written::Done => grow(view, changes, ino, end, moment),
         Written::NoneLeft => Written::NoneLeft,

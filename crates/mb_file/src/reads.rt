@@ -8,7 +8,7 @@ ghost use Rattle.mb_iface.specs.Needs.{AsksFor};
 ghost use Rattle.mb_iface.specs.declared.queries.Query.TheVariants.{Bytes};
 ghost use Rattle.mb_file.specs.Reading.{Appends, Copies, CopiesPart};
 
-use crate::parts::{PartAt, lacking, part_at};
+use crate::parts::{Looked, PartAt, look, part_at};
 use crate::walks::Walked;
 use mb_iface::{Answer, Asked, Changes, Need, View, seen};
 use mb_inodes::{Inode, read_inode};
@@ -42,7 +42,7 @@ pub fn read<V: View>(alloc: Global, view: &V, ino: u16, offset: u32, count: u16)
         return Asked::Found(Answer::Bytes(Octets::from_vec(Vec::new(alloc))));
     }
     let end = (offset + (most - 1)) / 512 + 1;
-    if let Some(need) = lacking(view, &changes, ino, offset / 512, end) {
+    if let Looked::Need(need) = look(view, &changes, ino, offset / 512, end) {
         return Asked::Need(need);
     }
     match copy(alloc, view, &changes, ino, offset, most) {

@@ -1,9 +1,10 @@
-ghost use Rattle.mb_file.specs.Walking.{Collects, PushesUnder};
+ghost use Rattle.std.specs.Prelude.{OnOk};
+ghost use Rattle.mb_file.specs.Walking.{Collects, LacksIndex, PushesOne, PushesUnder};
 
 use mb_iface::{Changes, Need, View, seen};
 use mb_layout::Dinode;
 use mb_word::long_at;
-use std::alloc::Global;
+use std::alloc::{AllocError, Global};
 
 /// What became of blocks that were to be listed.
 #[derive(Clone, Copy, Debug, PartialEq, Drop)]
@@ -25,6 +26,24 @@ pub(crate) enum Collected {
     Need(Need),
     /// Memory was wanted and not given.
     NoMemory,
+}
+
+/// Lists the block to which an address leads; nothing for address 0, nor for what no volume has, as
+/// `push_under` says.
+fn push_part(address: u32, list: &mut Vec<u32>) -> Result<(), AllocError>
+    ensures { OnOk result (PushesOne address list.old.items list.new.items) }
+{
+    if address == 0 {
+        return Ok(());
+    }
+    if address >= 262_144 {
+        return Ok(());
+    }
+    if list.len() >= 262_144 {
+        return Ok(());
+    }
+    list.push(address)?;
+    Ok(())
 }
 
 /// Lists the block to which an address leads and all that stands under it, so many levels of index
@@ -60,16 +79,52 @@ fn push_under<V: View>(
     };
     for passed in 0..128usize {
         let child = long_at(index, 4 * (127 - passed));
-        match push_under(view, changes, child, levels - 1, list) {
-            Walked::Done => {}
-            Walked::Need(need) => return Walked::Need(need),
-            Walked::NoMemory => return Walked::NoMemory,
+        if levels == 1 {
+            match push_part(child, list) {
+                Ok(()) => {}
+                Err(_) => return Walked::NoMemory,
+            }
+        } else {
+            match push_under(view, changes, child, levels - 1, list) {
+                Walked::Done => {}
+                Walked::Need(need) => return Walked::Need(need),
+                Walked::NoMemory => return Walked::NoMemory,
+            }
         }
     }
     Walked::Done
 }
 
-/// The blocks that an inode's thirteen addresses lead to, the last first.
+/// The first index block that the view lacks among those to which an address leads, so many levels down.
+fn lacking_index<V: View>(view: &V, changes: &Changes, address: u32, levels: u8) -> Option<Need>
+    ensures { LacksIndex (V.shown view.now) changes.now address levels result }
+{
+    if levels == 0 {
+        return None;
+    }
+    if address == 0 {
+        return None;
+    }
+    if address >= 262_144 {
+        return None;
+    }
+    let Some(index) = seen(view, changes, address) else {
+        return Some(Need::one(address));
+    };
+    if levels == 1 {
+        return None;
+    }
+    for passed in 0..128usize {
+        let child = long_at(index, 4 * (127 - passed));
+        if let Some(need) = lacking_index(view, changes, child, levels - 1) {
+            return Some(need);
+        }
+    }
+    None
+}
+
+/// The blocks that an inode's thirteen addresses lead to, the last first. Its index blocks are asked for
+/// before any block is listed.
 pub(crate) fn collect<V: View>(
     alloc: Global,
     view: &V,
@@ -78,6 +133,11 @@ pub(crate) fn collect<V: View>(
 ) -> Collected
     ensures { Collects (V.shown view.now) changes.now inode.now result }
 {
+    for place in 10..13u8 {
+        if let Some(need) = lacking_index(view, changes, inode.address(place), place - 9) {
+            return Collected::Need(need);
+        }
+    }
     let mut list = Vec::new(alloc);
     for passed in 0..13u8 {
         let place = 12 - passed;

@@ -30,6 +30,7 @@ use Rattle.mb_dirs.specs.declared.makes.NewInode.{NewInode}
 use Rattle.mb_fsops.specs.Creating.{CreatesAt, IsOpenAt, PerformsWith}
 use Rattle.mb_fsops.specs.Places.{FindsName, IsDirectoryWith}
 use Rattle.mb_fsops.specs.declared.places.NamePlace.TheVariants as place
+use Rattle.mb_fsops.proofs.FreeNumbers.{v7_pick}
 use Rattle.mb_fsops.proofs.Linking.{room_there}
 use Rattle.mb_fsops.proofs.Names.{near_one, number_there}
 use Rattle.mb_fsops.proofs.Steps.{acts_fitting, changed_there, none_within, stored_first}
@@ -71,6 +72,7 @@ module _ (dir : ℕ) (name : List ℕ) (new : NewInode) where
               let stored = stored_after image tree (next tree links can.parent ino) (touches tree op) [] now got.2 in
               operation_done shown image tree (next tree links can.parent ino) (touches tree op) (count_of opens) op demanded (Some ino) now volume fits got.0
               (after tree links gap can (count_of opens) ino ∙ room_there (with_changes image now) (next tree links can.parent ino) stored.0 stored.1) got.2 (makes.0 (none_within shown)));
+          picks = v7_pick shown demanded ino makes.2;
         }
 
     pub create_refused : CreatesIn shown old now dir links gap name new demanded chosen.NoneLeft → CreatesAt shown dir links gap name new demanded (acted.Refused ENOSPC)
@@ -81,6 +83,7 @@ module _ (dir : ℕ) (name : List ℕ) (new : NewInode) where
           answer = λ image tree part volume can opens fits.
               (let got = short image tree volume.chain part (stored_first shown image tree part volume) (touches tree op) can.parent can.slots (look tree links gap can) can.stands fits.picked in
               operation_refused tree (count_of opens) op demanded got.picked ENOSPC got.picks (after_refused tree links gap can (count_of opens) got.picked got.full));
+          picks = tt;
         }
 
     pub create_asks : (need : Need) → CreatesIn shown old now dir links gap name new demanded (chosen.Need need) → CreatesAt shown dir links gap name new demanded (acted.Need need)
@@ -91,6 +94,7 @@ module _ (dir : ℕ) (name : List ℕ) (new : NewInode) where
           answer = λ image tree part volume can opens fits.
               (near_touched image tree op need.first).1
               (asks.1 image tree volume.chain part (stored_first shown image tree part volume) (touches tree op) can.parent can.slots (look tree links gap can) can.stands fits.picked);
+          picks = tt;
         }
 
   module _ (shown : ℕ → Option (List ℕ)) (demanded : Option ℕ) where

@@ -1,11 +1,17 @@
--- There is a lawful pick on each tree: the demanded number, else a free one, else none.
-use Rattle.std.proofs.Common.{ℕ, zero, suc, ◌≡◌, ◌≤◌, ◌⊎◌, inl, inr, Option, Some, None, refl, sym, subst, ◌∙◌, arith}
+-- The number of a new inode: there is a lawful pick on each tree, the demanded number, else a free one, else none; and
+-- V7's pick before any change is the volume's.
+use Rattle.std.proofs.Common.{ℕ, zero, suc, List, [], ◌≡◌, ◌≤◌, ◌⊎◌, inl, inr, Option, Some, None, refl, sym, subst, ◌∙◌, arith}
 use Rattle.std.specs.FinMap as fin
 use Rattle.std.proofs.lemmas.Bool.{cases_eq, cases_lt}
+use Rattle.mb_kinds.specs.Image.{Image}
 use Rattle.mb_tree.specs.Step.{IsFreeNumber}
 use Rattle.mb_tree.specs.declared.nodes.Node.{Node}
 use Rattle.mb_tree.specs.declared.trees.Tree.{Tree}
 use Rattle.mb_iface.specs.Acting.{PicksNumber}
+use Rattle.mb_moves.proofs.InARow.{itself}
+use Rattle.mb_dirs.specs.Choosing.{IsChoice, IsPickOf}
+use Rattle.mb_fsops.specs.Creating.{IsV7Pick}
+use Rattle.mb_fsops.proofs.Steps.{stored_first}
 
 -- there is a free number, or none up to this one is free
 abbrev Found : Tree → ℕ → Type 0
@@ -42,3 +48,10 @@ some_pick tree None = elim (free_below tree tree.last) [
   | inl got ↦ (Some got.0, got.1)
   | inr none ↦ (None, λ ino free. none ino free.within free)
 ]
+
+pub v7_pick : (shown : ℕ → Option (List ℕ)) (demanded : Option ℕ) (ino : ℕ) → IsChoice shown [] demanded ino → demanded ≡ None → IsV7Pick shown ino
+v7_pick shown (Some number) ino choice undemanded = absurd (some_none undemanded)
+  where
+    some_none : {n : ℕ} → Some n ≡ None → ⊥
+    some_none e = cc
+v7_pick shown None ino choice undemanded = λ image tree part volume. subst (λ (i : Image). IsPickOf i.at ino) (itself image) (choice image tree volume.chain part (stored_first shown image tree part volume))

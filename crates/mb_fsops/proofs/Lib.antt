@@ -1,9 +1,13 @@
+pub mod Apart
+pub mod Asking
 pub mod Creating
 pub mod Fields
 pub mod FreeNumbers
 pub mod Linking
 pub mod MakingDirs
 pub mod Names
+pub mod Performing
 pub mod Releasing
+pub mod Removing
 pub mod Steps
 pub mod Unlinking

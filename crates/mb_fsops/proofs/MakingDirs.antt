@@ -32,7 +32,7 @@ use Rattle.mb_fsops.specs.Creating.{PerformsWith}
 use Rattle.mb_fsops.specs.MakingDirs.{IsOpenBelow, MakesDirAt}
 use Rattle.mb_fsops.specs.Places.{FindsName, IsDirectoryWith}
 use Rattle.mb_fsops.specs.declared.places.NamePlace.TheVariants as place
-use Rattle.mb_fsops.proofs.FreeNumbers.{some_pick}
+use Rattle.mb_fsops.proofs.FreeNumbers.{some_pick, v7_pick}
 use Rattle.mb_fsops.proofs.Linking.{few_links, links_are, many_links, room_there}
 use Rattle.mb_fsops.proofs.Names.{near_one, number_there}
 use Rattle.mb_fsops.proofs.Steps.{acts_fitting, changed_there, none_within, stored_first}
@@ -82,6 +82,7 @@ module _ (dir : ℕ) (name : List ℕ) (new : NewInode) where
               let stored = stored_after image tree (next tree links can.parent ino) (touches tree op) [] now got.2 in
               operation_done shown image tree (next tree links can.parent ino) (touches tree op) (count_of opens) op demanded (Some ino) now volume fits got.0
               (after tree links gap can (count_of opens) ino ∙ room_there (with_changes image now) (next tree links can.parent ino) stored.0 stored.1) got.2 (makes.0 (none_within shown)));
+          picks = v7_pick shown demanded ino makes.2;
         }
 
     pub dir_refused : MakesDirectoryIn shown old now dir links gap name new demanded chosen.NoneLeft → MakesDirAt shown dir links gap name new demanded (acted.Refused ENOSPC)
@@ -92,6 +93,7 @@ module _ (dir : ℕ) (name : List ℕ) (new : NewInode) where
           answer = λ image tree part volume can opens fits.
               (let got = short image tree volume.chain part (stored_first shown image tree part volume) (touches tree op) can.parent can.slots (look tree links gap can) can.stands fits.picked in
               operation_refused tree (count_of opens) op demanded got.picked ENOSPC got.picks (after_refused tree links gap can (count_of opens) got.picked got.full));
+          picks = tt;
         }
 
     pub dir_asks : (need : Need) → MakesDirectoryIn shown old now dir links gap name new demanded (chosen.Need need) → MakesDirAt shown dir links gap name new demanded (acted.Need need)
@@ -102,6 +104,7 @@ module _ (dir : ℕ) (name : List ℕ) (new : NewInode) where
           answer = λ image tree part volume can opens fits.
               (near_touched image tree op need.first).1
               (asks.1 image tree volume.chain part (stored_first shown image tree part volume) (touches tree op) can.parent can.slots (look tree links gap can) can.stands fits.picked);
+          picks = tt;
         }
 
   module _ (shown : ℕ → Option (List ℕ)) (demanded : Option ℕ) where

@@ -5,3 +5,4 @@ pub mod MakingDirs
 pub mod Performing
 pub mod Places
 pub mod Releasing
+pub mod Removing

@@ -13,6 +13,7 @@ use Rattle.mb_iface.specs.declared.replies.Acted.{Acted}
 use Rattle.mb_dirs.specs.Entering.{IsGap}
 use Rattle.mb_dirs.specs.declared.enters.Gap.{Gap}
 use Rattle.mb_dirs.specs.declared.makes.NewInode.{NewInode}
+use Rattle.mb_fsops.specs.Creating.{PicksAsV7}
 use Rattle.mb_fsops.specs.Performing.{OpenFiles}
 use Rattle.mb_fsops.specs.Places.{IsDirectoryWith}
 
@@ -30,3 +31,4 @@ pub record MakesDirAt (shown : ℕ → Option (List ℕ)) (dir links : ℕ) (gap
   pub need : ActsFor shown result
   pub answer : (image : Image) (tree : Tree) → IsPart shown image.at → IsVolume image tree → IsOpenBelow tree dir links gap
       → (opens : OpenFiles) → Acts shown image tree opens (MakeDir dir name new.mode new.uid new.gid new.moment) demanded result
+  pub picks : PicksAsV7 shown demanded result

@@ -1,5 +1,5 @@
 ghost use Rattle.mb_tree.specs.declared.operations.FsOp.TheVariants.{Create};
-ghost use Rattle.mb_fsops.specs.Creating.{CreatesAt, PerformsWith};
+ghost use Rattle.mb_fsops.specs.Creating.{CreatesAt, PerformsWith, PicksAsV7};
 
 use crate::places::{NamePlace, find_name};
 use mb_dirs::{Chosen, Gap, NewInode, create_in};
@@ -18,7 +18,8 @@ pub fn create<V: View>(
     new: &NewInode,
     demanded: Option<u16>,
 ) -> Acted
-    ensures { PerformsWith (V.shown view.now) (Create dir name.now new.now.mode new.now.uid new.now.gid new.now.moment) demanded result }
+    ensures performs { PerformsWith (V.shown view.now) (Create dir name.now new.now.mode new.now.uid new.now.gid new.now.moment) demanded result }
+    ensures picks { PicksAsV7 (V.shown view.now) demanded result }
 {
     match find_name(alloc, view, dir, name) {
         NamePlace::Open { links, gap } => {

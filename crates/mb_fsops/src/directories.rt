@@ -1,5 +1,5 @@
 ghost use Rattle.mb_tree.specs.declared.operations.FsOp.TheVariants.{MakeDir};
-ghost use Rattle.mb_fsops.specs.Creating.{PerformsWith};
+ghost use Rattle.mb_fsops.specs.Creating.{PerformsWith, PicksAsV7};
 ghost use Rattle.mb_fsops.specs.MakingDirs.{MakesDirAt};
 
 use crate::places::{NamePlace, find_name};
@@ -22,7 +22,8 @@ pub fn make_dir<V: View>(
     new: &NewInode,
     demanded: Option<u16>,
 ) -> Acted
-    ensures { PerformsWith (V.shown view.now) (MakeDir dir name.now new.now.mode new.now.uid new.now.gid new.now.moment) demanded result }
+    ensures performs { PerformsWith (V.shown view.now) (MakeDir dir name.now new.now.mode new.now.uid new.now.gid new.now.moment) demanded result }
+    ensures picks { PicksAsV7 (V.shown view.now) demanded result }
 {
     match find_name(alloc, view, dir, name) {
         NamePlace::Open { links, gap } => {

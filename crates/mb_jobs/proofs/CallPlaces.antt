@@ -1,5 +1,5 @@
 -- The places of calls among their callers' calls, one call further on.
-use Rattle.std.proofs.Common.{List, [], ◌∷◌, ◌++◌, ℕ, zero, suc, ◌+◌, ◌<◌, ◌≡◌, Bool, true, false, cond, nat_eq, drop, take, set, get_or, length, replicate, refl, ap, sym, ◌∙◌, inl, inr, append_assoc, arith, ne_eqb}
+use Rattle.std.proofs.Common.{List, [], ◌∷◌, ◌++◌, ℕ, zero, suc, ◌+◌, ◌<◌, ◌≡◌, true, false, cond, nat_eq, drop, take, set, get_or, length, replicate, refl, ap, sym, ◌∙◌, inl, inr, append_assoc, arith, ne_eqb}
 use Rattle.std.specs.Prelude.{slice_index}
 use Rattle.std.proofs.lemmas.Bool.{cases_eq}
 use Rattle.std.proofs.lemmas.List.{drop_more, get_or-set_other, get_or-set_same, length-set, take_more}

@@ -1,5 +1,5 @@
 -- The added calls, one caller further on.
-use Rattle.std.proofs.Common.{List, ◌∷◌, ◌++◌, ℕ, ◌+◌, ◌<◌, ◌≡◌, drop, length, ◌∙◌, append_assoc}
+use Rattle.std.proofs.Common.{List, ◌++◌, ℕ, ◌+◌, ◌<◌, ◌≡◌, drop, length, ◌∙◌, append_assoc}
 use Rattle.std.proofs.lemmas.List.{drop_more}
 use Rattle.mb_jobs.specs.declared.jobs.Caller.{Caller}
 use Rattle.mb_jobs.specs.declared.jobs.JobCall.{JobCall}

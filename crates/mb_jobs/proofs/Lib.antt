@@ -4,3 +4,4 @@ pub mod ExitPlaces
 pub mod Listed
 pub mod RuleWords
 pub mod StrokeLists
+pub mod TakenCalls

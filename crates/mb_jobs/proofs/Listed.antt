@@ -1,5 +1,5 @@
 -- What is kept of the calls that are read so far, at the beginning.
-use Rattle.std.proofs.Common.{List, [], ◌∷◌, ℕ, zero, suc, ◌≡◌, Bool, false, replicate, refl, arith}
+use Rattle.std.proofs.Common.{[], ℕ, zero, suc, ◌≡◌, false, replicate, refl, arith}
 use Rattle.std.specs.Prelude.{slice_index_or}
 use Rattle.mb_jobs.specs.Lists.{IsListed}
 

@@ -1,5 +1,5 @@
 -- The strokes of a list of words, one stroke further on, and words that write none.
-use Rattle.std.proofs.Common.{List, [], ◌∷◌, ◌++◌, ℕ, ◌<◌, ◌≤◌, ◌≡◌, ◌≢◌, Option, Some, None, false, length, get_or, map, option_map, codes, refl, ap, sym, ◌∙◌, append_assoc, arith}
+use Rattle.std.proofs.Common.{List, [], ◌∷◌, ◌++◌, ℕ, ◌<◌, ◌≤◌, ◌≡◌, ◌≢◌, Option, Some, None, false, length, get_or, map, option_map, codes, refl, ap, ◌∙◌, append_assoc, arith}
 use Rattle.std.specs.Prelude.{bytes_eq}
 use Rattle.mb_edge.specs.declared.strokes.Stroke.{Stroke}
 use Rattle.mb_jobs.specs.Rules.{strokes_in, strokes_with}

@@ -1,5 +1,5 @@
 -- A job's callers: `NAME UID GID`, with NAME a letter from `a` (97) to `h` (104).
-use Rattle.std.specs.Prelude.{List, [], ◌∷◌, ◌++◌, ℕ, ◌+◌, ◌==◌, ◌&&◌, Bool, not, nat_eq, nat_le, length, Option, Some, None, if◌then◌else◌}
+use Rattle.std.specs.Prelude.{List, [], ◌∷◌, ℕ, ◌&&◌, Bool, nat_eq, nat_le, length, Option, Some, None, if◌then◌else◌}
 use Rattle.std.specs.List.{list_any}
 use Rattle.std.specs.Result.{result_ok}
 use Rattle.mb_jobs.specs.declared.jobs.Caller.{Caller}

@@ -1,5 +1,5 @@
 -- The text of one call: a verb and its arguments, as a table of the verbs.
-use Rattle.std.specs.Prelude.{List, ℕ, bytes_eq, codes, replicate, Option, Some, None, option_map, option_and_then, if◌then◌else◌}
+use Rattle.std.specs.Prelude.{List, ℕ, bytes_eq, codes, replicate, Option, Some, None, option_and_then, if◌then◌else◌}
 use Rattle.mb_kinds.specs.declared.calls.Call.{Call}
 use Rattle.mb_kinds.specs.declared.calls.Call.TheVariants.{Open, Creat, Close, Read, Write, Lseek, Dup, Link, Unlink, Mkdir, Rmdir, Chdir, Stat, Fstat, Chmod, Chown, Utime, Access, Umask, Sync, Exit}
 use Rattle.mb_jobs.specs.declared.verbs.Verb.{Verb}

@@ -1,5 +1,5 @@
 -- The keys of a job's table, and what each of them may hold.
-use Rattle.std.specs.Prelude.{List, [], ◌∷◌, ℕ, ◌≡◌, ◌≤◌, pos, negsuc, ◌&&◌, ◌||◌, Bool, not, nat_le, bytes_eq, codes, length, Option, Some, None, Result, Ok, Err, option_map, option_and_then, if◌then◌else◌}
+use Rattle.std.specs.Prelude.{List, [], ◌∷◌, ℕ, ◌≡◌, ◌≤◌, pos, ◌&&◌, ◌||◌, Bool, nat_le, bytes_eq, codes, length, Option, Some, None, Result, Ok, Err, option_map, option_and_then, if◌then◌else◌}
 use Rattle.std.specs.Cmp.Lexicographic.{slice_cmp}
 use Rattle.std.specs.Ordering.{is_lt, nat_cmp}
 use Rattle.toml.specs.Data.{Data, string, integer, array, Items, no_items, item, Members, no_members, member, get_member}
@@ -27,10 +27,6 @@ given missing read None = Some missing
 -- `callers`: 1 to 8 texts that each write a caller
 abbrev pub some_callers : Data → Option (List Caller)
 some_callers value = option_and_then callers_in (texts_in value)
-
--- `calls`, which may not be missing
-abbrev pub call_texts : Members → Option (List (List ℕ))
-call_texts members = option_and_then texts_in (get_member (codes "calls") members)
 
 -- `faults`: at most 1000 texts
 abbrev pub few_texts : List (List ℕ) → Option (List (List ℕ))
@@ -69,17 +65,22 @@ abbrev pub needs : {A B : Type 0} → List ℕ → Option A → (A → Result B 
 needs key (Some found) go = go found
 needs key None go = Err key
 
--- the known keys, in byte order, or the first of them that is bad
-abbrev pub known_fields : Members → Result Fields (List ℕ)
-known_fields members =
+-- the known keys, in byte order, or the first of them that is bad; the value of `calls` stands apart
+abbrev pub known_beside : Option Data → Members → Result Fields (List ℕ)
+known_beside calls members =
     needs (codes "callers") (given (the_caller ∷ []) some_callers (get_member (codes "callers") members)) (λ callers.
-    needs (codes "calls") (call_texts members) (λ calls.
+    -- it may not be missing
+    needs (codes "calls") (option_and_then texts_in calls) (λ calls.
     needs (codes "faults") (given [] some_faults (get_member (codes "faults") members)) (λ faults.
     needs (codes "limit") (given 255 (whole_from 0 255) (get_member (codes "limit") members)) (λ limit.
     needs (codes "order") (given None some_order (get_member (codes "order") members)) (λ order.
     needs (codes "start") (given 0 (whole_from 0 1000000000) (get_member (codes "start") members)) (λ start.
     needs (codes "threshold") (given 64 (whole_from 1 4096) (get_member (codes "threshold") members)) (λ threshold.
     Ok (record { callers = callers; calls = calls; faults = faults; limit = limit; order = order; start = start; threshold = threshold }))))))))
+
+-- the same of the whole table
+abbrev pub known_fields : Members → Result Fields (List ℕ)
+known_fields members = known_beside (get_member (codes "calls") members) members
 
 -- one of the seven known keys
 abbrev pub is_known : List ℕ → Bool
@@ -105,6 +106,10 @@ or_unknown (Some key) (Err bad) = Err (lesser key bad)
 -- what a table holds, or its first bad key: unknown, missing, of another type, or out of range
 abbrev pub fields_in : Members → Result Fields (List ℕ)
 fields_in members = or_unknown (unknown_key members) (known_fields members)
+
+-- the same where the value of `calls` stands apart
+abbrev pub fields_beside : Option Data → Members → Result Fields (List ℕ)
+fields_beside calls members = or_unknown (unknown_key members) (known_beside calls members)
 
 -- what was answered are the fields or the bad key, unless memory ran out
 abbrev pub GivesFields : Result Fields JobFault → Result Fields (List ℕ) → Type 0

@@ -1,5 +1,5 @@
 -- The text of one fault: `CALL KIND SKIP TIMES` and any number of strokes.
-use Rattle.std.specs.Prelude.{List, [], ◌∷◌, ℕ, ◌-◌, bytes_eq, codes, length, replicate, slice_index, slice_get, Option, Some, None, Result, option_map, option_and_then, if◌then◌else◌}
+use Rattle.std.specs.Prelude.{List, [], ◌∷◌, ℕ, ◌-◌, bytes_eq, codes, length, replicate, slice_index, slice_get, Option, Some, None, Result, option_map, if◌then◌else◌}
 use Rattle.std.specs.Option.{option_map_or}
 use Rattle.mb_kinds.specs.declared.faults.Kind.{Kind}
 use Rattle.mb_kinds.specs.declared.faults.Kind.TheVariants.{Enter, Gather, Finish, Leave, Remount, Replay}

@@ -80,12 +80,12 @@ fn place_of(callers: &[Caller], letter: u8) -> Option<u8>
 pub(crate) fn call_of(
     alloc: Global,
     callers: &[Caller],
-    text: &[u8],
+    text: Text,
 ) -> Result<Option<JobCall>, AllocError>
     requires { length callers.now ≤ 8 }
-    ensures { IfOk result (λ found. found ≡ call_in callers.now text.now) }
+    ensures { IfOk result (λ found. found ≡ call_in callers.now text) }
 {
-    let [letter, b' ', line @ ..] = text else {
+    let [letter, b' ', line @ ..] = text.as_slice() else {
         return Ok(None);
     };
     let Some(caller) = place_of(callers, *letter) else {
@@ -94,7 +94,7 @@ pub(crate) fn call_of(
     match line_call(alloc, line)? {
         Some(call) => Ok(Some(JobCall {
             caller,
-            text: Text::from_vec(line.to_vec(alloc)?),
+            text: text.behind_two(),
             call,
         })),
         None => Ok(None),

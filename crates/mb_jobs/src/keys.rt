@@ -3,11 +3,11 @@ ghost use Rattle.std.specs.Option.{option_and_then};
 ghost use Rattle.toml.specs.Data.{get_member};
 ghost use Rattle.toml.specs.View.{table_view, view};
 ghost use Rattle.mb_jobs.specs.Callers.{the_caller};
-ghost use Rattle.mb_jobs.specs.Keys.{GivesFields, HasFew, call_texts, few_texts, fields_in, given, known_fields, lesser, or_unknown, some_callers, some_faults, some_order, whole_from};
+ghost use Rattle.mb_jobs.specs.Keys.{GivesFields, HasFew, few_texts, fields_beside, fields_in, given, known_beside, lesser, or_unknown, some_callers, some_faults, some_order, texts_in, whole_from};
 
 use crate::callers::{callers_of, one_caller};
 use crate::jobs::{Caller, JobFault};
-use crate::tables::{texts_of, unknown_key, whole_from};
+use crate::tables::{texts_of, texts_out_of, unknown_key, whole_from};
 use crate::texts::Text;
 use std::alloc::{AllocError, Global};
 use std::cmp::Ordering;
@@ -18,7 +18,7 @@ use toml::{Table, Value};
 #[derive(Drop)]
 pub(crate) struct Fields<'a> {
     pub callers: Vec<Caller>,
-    pub calls: Vec<&'a [u8]>,
+    pub calls: Vec<Text>,
     pub faults: Vec<&'a [u8]>,
     pub limit: u32,
     pub order: Option<&'a [u8]>,
@@ -32,7 +32,7 @@ impl<'a> Model for Fields<'a> {
 
     ghost Value = { Fields };
 
-    ghost view = { λ a. record { callers = a.callers.items; calls = map (λ text. text.now) a.calls.items; faults = map (λ text. text.now) a.faults.items; limit = a.limit; order = option_map (λ text. text.now) a.order; start = a.start; threshold = a.threshold } };
+    ghost view = { λ a. record { callers = a.callers.items; calls = a.calls.items; faults = map (λ text. text.now) a.faults.items; limit = a.limit; order = option_map (λ text. text.now) a.order; start = a.start; threshold = a.threshold } };
 }
 
 /// The value of a table under a key.
@@ -64,12 +64,12 @@ fn callers_at(alloc: Global, table: &Table) -> Result<Option<Vec<Caller>>, Alloc
     }
 }
 
-/// The texts of a table's calls.
-fn calls_at(alloc: Global, table: &Table) -> Result<Option<Vec<&[u8]>>, AllocError>
-    ensures { IfOk result (λ found. option_map (λ texts. map (λ text. text.now) texts.items) found ≡ call_texts (table_view table.now)) }
+/// The texts of the calls, taken over from their value.
+fn calls_of(alloc: Global, calls: Option<Value>) -> Result<Option<Vec<Text>>, AllocError>
+    ensures { IfOk result (λ found. option_map (λ texts. texts.items) found ≡ option_and_then texts_in (option_map view calls)) }
 {
-    match value_at(table, "calls") {
-        Some(value) => texts_of(alloc, value),
+    match calls {
+        Some(value) => texts_out_of(alloc, value),
         None => Ok(None),
     }
 }
@@ -153,15 +153,20 @@ fn bad<'a>(alloc: Global, key: &[u8]) -> Result<Result<Fields<'a>, Text>, AllocE
     Ok(Err(Text::from_vec(key.to_vec(alloc)?)))
 }
 
-/// What a table holds under the known keys, or the first of them that is bad.
-fn known_fields(alloc: Global, table: &Table) -> Result<Result<Fields<'_>, Text>, AllocError>
-    ensures exact { IfOk result (λ found. found ≡ known_fields (table_view table.now)) }
+/// What a table holds under the known keys, or the first of them that is bad, where the value of
+/// `calls` is taken out of it.
+fn known_fields(
+    alloc: Global,
+    calls: Option<Value>,
+    table: &Table,
+) -> Result<Result<Fields<'_>, Text>, AllocError>
+    ensures exact { IfOk result (λ found. found ≡ known_beside (option_map view calls) (table_view table.now)) }
     ensures few { IfOk result (λ found. IfOk found HasFew) }
 {
     let Some(callers) = callers_at(alloc, table)? else {
         return bad(alloc, b"callers");
     };
-    let Some(calls) = calls_at(alloc, table)? else {
+    let Some(calls) = calls_of(alloc, calls)? else {
         return bad(alloc, b"calls");
     };
     let Some(faults) = faults_at(alloc, table)? else {
@@ -219,12 +224,24 @@ fn or_unknown<'a>(
     }
 }
 
-/// What a table holds under its keys. The error is `BadKey` with the first bad key, or `NoMemory`.
-pub(crate) fn fields_of(alloc: Global, table: &Table) -> Result<Fields<'_>, JobFault>
-    ensures exact { GivesFields result (fields_in (table_view table.now)) }
+/// Takes the value of `calls` out of a table, so that its texts need no copies.
+pub(crate) fn take_calls(table: &mut Table) -> Option<Value>
+    ensures { fields_beside (option_map view result) (table_view table.new) ≡ fields_in (table_view table.old) }
+{
+    table.remove("calls")
+}
+
+/// What a table holds under its keys, where the value of `calls` is taken out of it. The error is
+/// `BadKey` with the first bad key, or `NoMemory`.
+pub(crate) fn fields_of(
+    alloc: Global,
+    calls: Option<Value>,
+    table: &Table,
+) -> Result<Fields<'_>, JobFault>
+    ensures exact { GivesFields result (fields_beside (option_map view calls) (table_view table.now)) }
     ensures few { IfOk result HasFew }
 {
-    let known = known_fields(alloc, table)?;
+    let known = known_fields(alloc, calls, table)?;
     match or_unknown(alloc, unknown_key(table), known)? {
         Ok(fields) => Ok(fields),
         Err(key) => Err(JobFault::BadKey { key }),

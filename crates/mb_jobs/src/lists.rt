@@ -4,6 +4,7 @@ ghost use Rattle.mb_jobs.specs.Lists.{IsListed, calls_in, count_of, is_exit, may
 
 use crate::calls::call_of;
 use crate::jobs::{Caller, JobCall};
+use crate::texts::Text;
 use mb_kinds::Call;
 use std::alloc::{AllocError, Global};
 
@@ -55,11 +56,11 @@ fn next_call(
     alloc: Global,
     callers: &[Caller],
     listed: &Listed,
-    text: &[u8],
+    text: Text,
 ) -> Result<Option<JobCall>, AllocError>
     requires few { length callers.now ≤ 8 }
     requires listed { IsListed listed.now.calls.items listed.now.moved listed.now.ended }
-    ensures exact { IfOk result (λ found. found ≡ next_call callers.now listed.now.calls.items text.now) }
+    ensures exact { IfOk result (λ found. found ≡ next_call callers.now listed.now.calls.items text) }
     ensures may { IfOk result (λ found. IfSome found (λ call. may_follow listed.now.calls.items call ≡ true)) }
 {
     match call_of(alloc, callers, text)? {
@@ -86,10 +87,10 @@ fn add(listed: &mut Listed, call: JobCall) -> Result<(), AllocError>
 pub(crate) fn calls_of(
     alloc: Global,
     callers: &[Caller],
-    texts: &[&[u8]],
+    texts: Vec<Text>,
 ) -> Result<Result<Vec<JobCall>, u32>, AllocError>
     requires few { length callers.now ≤ 8 }
-    ensures exact { IfOk result (λ found. result_map_both (λ calls. calls.items) (λ index. index) found ≡ calls_in callers.now (map (λ text. text.now) texts.now)) }
+    ensures exact { IfOk result (λ found. result_map_both (λ calls. calls.items) (λ index. index) found ≡ calls_in callers.now texts.items) }
     ensures short { IfOk result (λ found. IfOk found (λ calls. length calls.items ≤ 100000)) }
 {
     let mut listed = Listed {

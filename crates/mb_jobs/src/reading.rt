@@ -6,7 +6,7 @@ ghost use Rattle.mb_jobs.specs.Lists.{calls_in};
 
 use crate::exits::with_exits;
 use crate::jobs::{Job, JobCall, JobFault};
-use crate::keys::{Fields, fields_of};
+use crate::keys::{Fields, fields_of, take_calls};
 use crate::lists::calls_of;
 use crate::orders::bad_in;
 use crate::rules::rules_of;
@@ -14,6 +14,7 @@ use crate::texts::Text;
 use mb_kinds::Seq;
 use mb_plan::{Plan, Rule};
 use std::alloc::{AllocError, Global};
+use std::mem;
 use toml::Table;
 
 /// The greatest length of a job's text.
@@ -85,11 +86,12 @@ fn planned(alloc: Global, fields: Fields<'_>, calls: Vec<JobCall>) -> Result<Job
 }
 
 /// The job of a table's fields.
-fn job_of_fields(alloc: Global, fields: Fields<'_>) -> Result<Job, JobFault>
+fn job_of_fields(alloc: Global, mut fields: Fields<'_>) -> Result<Job, JobFault>
     requires few { HasFew fields }
     ensures { Gives result (job_called fields.entry (calls_in fields.entry.callers fields.entry.calls)) }
 {
-    match calls_of(alloc, &fields.callers, &fields.calls)? {
+    let texts = mem::replace(&mut fields.calls, Vec::new(alloc));
+    match calls_of(alloc, &fields.callers, texts)? {
         Ok(calls) => planned(alloc, fields, calls),
         Err(index) => Err(JobFault::BadCall { index }),
     }
@@ -107,7 +109,8 @@ pub fn job_of(alloc: Global, bytes: &[u8]) -> Result<Job, JobFault>
     if bytes.len() > MOST_TEXT {
         return Err(JobFault::TooLong);
     }
-    let table = table_of(alloc, bytes)?;
-    let fields = fields_of(alloc, &table)?;
+    let mut table = table_of(alloc, bytes)?;
+    let calls = take_calls(&mut table);
+    let fields = fields_of(alloc, calls, &table)?;
     job_of_fields(alloc, fields)
 }

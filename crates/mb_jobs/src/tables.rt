@@ -2,6 +2,7 @@ ghost use Rattle.std.specs.Prelude.{◌≡◌, ◌≤◌, IfOk, IfSome, List, �
 ghost use Rattle.toml.specs.View.{array_view, table_view, view};
 ghost use Rattle.mb_jobs.specs.Keys.{few_texts, some_faults, some_order, texts_in, texts_of, unknown_key, is_known, whole_from};
 
+use crate::texts::Text;
 use std::alloc::{AllocError, Global};
 use toml::value::Array;
 use toml::{Table, Value};
@@ -18,6 +19,30 @@ fn texts_of_array(alloc: Global, array: &Array) -> Result<Option<Vec<&[u8]>>, Al
         }
     }
     Ok(Some(texts))
+}
+
+/// The texts of an array, taken over, or `None` where it holds something else.
+fn texts_out_of_array(alloc: Global, array: Array) -> Result<Option<Vec<Text>>, AllocError>
+    ensures { IfOk result (λ found. option_map (λ texts. texts.items) found ≡ texts_of (array_view array)) }
+{
+    let mut texts = Vec::with_capacity(alloc, array.len())?;
+    'values: for value in array {
+        match value {
+            Value::String(text) => texts.push(Text::from_vec(text.into_bytes()))?,
+            _ => return Ok(None),
+        }
+    }
+    Ok(Some(texts))
+}
+
+/// The texts of a value that is an array of texts, taken over, or `None` where it is none.
+pub(crate) fn texts_out_of(alloc: Global, value: Value) -> Result<Option<Vec<Text>>, AllocError>
+    ensures { IfOk result (λ found. option_map (λ texts. texts.items) found ≡ texts_in (view value)) }
+{
+    match value {
+        Value::Array(array) => texts_out_of_array(alloc, array),
+        _ => Ok(None),
+    }
 }
 
 /// The texts of a value that is an array of texts, or `None` where it is none.

@@ -1,4 +1,4 @@
-ghost use Rattle.std.specs.Prelude.{◌≡◌};
+ghost use Rattle.std.specs.Prelude.{◌≡◌, ◌≤◌, drop, length};
 
 use std::marker::Model;
 
@@ -21,6 +21,17 @@ impl Text {
     pub fn from_vec(bytes: Vec<u8>) -> Text
         ensures { result ≡ bytes.items }
     {
+        Text { bytes }
+    }
+
+    /// What stands behind the first two bytes, in the same memory.
+    pub(crate) fn behind_two(self) -> Text
+        requires { 2 ≤ length self }
+        ensures { result ≡ drop 2 self }
+    {
+        let mut bytes = self.bytes;
+        bytes.remove(0);
+        bytes.remove(0);
         Text { bytes }
     }
 

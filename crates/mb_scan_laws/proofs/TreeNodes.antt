@@ -161,13 +161,13 @@ module _ (blocks : ℕ → List ℕ) (ino : ℕ) where
     body = (body_fits keeps).has;
   })
 
-get_tree : (image : Image) (ino : ℕ) → ino ≤ last_inode image.at → fin.get (tree_of image).nodes ino ≡ node_at image.at ino
+pub get_tree : (image : Image) (ino : ℕ) → ino ≤ last_inode image.at → fin.get (tree_of image).nodes ino ≡ node_at image.at ino
 unfolding nodes_in
 get_tree image ino low =
     ap (λ m. fin.get m ino) (tree_nodes image) ∙ get_cells (map (node_at image.at) (range_with_len 0 (last_inode image.at + 1))) ino
     ∙ cell_row (node_at image.at) 0 (last_inode image.at + 1) ino (omega (arith, low)) ∙ ap (node_at image.at) (let e : 0 + ino ≡ ino = omega arith in e)
 
-get_past : (image : Image) (ino : ℕ) → last_inode image.at < ino → fin.get (tree_of image).nodes ino ≡ None
+pub get_past : (image : Image) (ino : ℕ) → last_inode image.at < ino → fin.get (tree_of image).nodes ino ≡ None
 unfolding nodes_in
 get_past image ino past =
     ap (λ m. fin.get m ino) (tree_nodes image) ∙ get_cells (map (node_at image.at) (range_with_len 0 (last_inode image.at + 1))) ino

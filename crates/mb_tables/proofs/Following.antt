@@ -12,13 +12,13 @@ use Rattle.mb_tree.specs.declared.operations.FsOp.{FsOp}
 use Rattle.mb_tree.specs.declared.operations.FsOp.TheVariants.{Create, Empty, MakeDir, RemoveDir, Enlink, Delink, Put, SetMode, SetOwner, SetTimes, Hold, Release}
 use Rattle.mb_tree.specs.declared.trees.Tree.{Tree}
 use Rattle.mb_oplog.specs.declared.oplogs.Logged.{Logged}
-use Rattle.mb_core_spec.specs.Copies.{TableCounts}
+use Rattle.mb_session.specs.OpenFiles.{TellsCounts}
 use Rattle.mb_core_spec.specs.Histories.{as_picked}
 use Rattle.mb_tables.proofs.OneCount.{hold_counts, release_counts}
 use Rattle.mb_tables.specs.Follows.{followed, followed_if}
 
 -- by the operation
-pub follows_op : (opens : OpenCounts) (held : ℕ → ℕ) → TableCounts opens held → ((ino : ℕ) → held ino < 4294967295) → (op : FsOp) (pick : Option ℕ) → TableCounts (followed opens op pick) (opens_after held op pick)
+pub follows_op : (opens : OpenCounts) (held : ℕ → ℕ) → TellsCounts opens held → ((ino : ℕ) → held ino < 4294967295) → (op : FsOp) (pick : Option ℕ) → TellsCounts (followed opens op pick) (opens_after held op pick)
 follows_op opens held counts few (Create dir name mode uid gid moment) None = counts
 follows_op opens held counts few (Create dir name mode uid gid moment) (Some ino) = hold_counts opens held ino counts (few ino)
 follows_op opens held counts few (Empty ino moment) pick = hold_counts opens held ino counts (few ino)
@@ -42,13 +42,13 @@ effect_opens : (tree : Tree) (opens : ℕ → ℕ) (op : FsOp) (pick : Option �
 effect_opens tree opens op pick held leads = opens_of (tree_after tree opens op pick) (opens_after opens op pick) held leads
 
 pub follows_effect : (opens : OpenCounts) (tree : Tree) (op : Option FsOp) (pick : Option ℕ) (held : TreeAndOpens) → ((ino : ℕ) → count_of opens ino < 4294967295)
-    → effect_of tree (count_of opens) op pick ≡ Ok held → TableCounts (followed_if opens op pick) held.opens
+    → effect_of tree (count_of opens) op pick ≡ Ok held → TellsCounts (followed_if opens op pick) held.opens
 follows_effect opens tree None pick held few leads = λ ino. ap (λ (h : TreeAndOpens). h.opens ino) (same_ok (record { tree = tree; opens = count_of opens }) held leads)
 follows_effect opens tree (Some op) pick held few leads = λ ino.
     follows_op opens (count_of opens) (λ other. refl) few op pick ino ∙ ap (λ (counts : Counts). counts ino) (effect_opens tree (count_of opens) op pick held leads)
 
-pub follows_replay : (opens : OpenCounts) (logged : Logged) (made next : TreeAndOpens) → TableCounts opens made.opens → ((ino : ℕ) → made.opens ino ≤ 136)
-    → IsCarriedOut made (as_picked logged) next → TableCounts (followed opens logged.op logged.pick) next.opens
+pub follows_replay : (opens : OpenCounts) (logged : Logged) (made next : TreeAndOpens) → TellsCounts opens made.opens → ((ino : ℕ) → made.opens ino ≤ 136)
+    → IsCarriedOut made (as_picked logged) next → TellsCounts (followed opens logged.op logged.pick) next.opens
 follows_replay opens logged made next counts few carried = λ ino.
     follows_op opens made.opens counts (λ other. omega (arith, few other)) logged.op logged.pick ino
     ∙ ap (λ (held : Counts). held ino) (effect_opens made.tree made.opens logged.op logged.pick next carried.leads)

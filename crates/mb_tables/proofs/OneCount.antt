@@ -1,15 +1,17 @@
 -- One count set, one open file more or less, against the counts of the reference model.
-use Rattle.std.proofs.Common.{◌≡◌, ◌≢◌, inl, inr, ℕ, ◌+◌, ◌-◌, ◌^◌, ◌<◌, min, Bool, true, false, cond, if◌then◌else◌, List, [], ◌∷◌, Option, Some, None, unwrap_or, nat_eq, refl, sym, ap, ◌∙◌, arith}
+use Rattle.std.proofs.Common.{◌≡◌, ◌≢◌, inl, inr, ℕ, ◌+◌, ◌-◌, ◌^◌, ◌<◌, ◌≤◌, min, Bool, true, false, cond, if◌then◌else◌, List, [], ◌∷◌, drop, length, slice_get, Option, Some, None, unwrap_or, nat_eq, refl, sym, ap, ◌∙◌, arith}
 use Rattle.std.proofs.lemmas.Bool.Decides.{nat_tests}
-use Rattle.std.proofs.lemmas.List.Sums.{sum_by-cons}
+use Rattle.std.proofs.lemmas.List.Sums.{count_by-le-length, sum_by-cons}
 use Rattle.std.specs.Prelude.{count_by}
 use Rattle.std.specs.FinMap as fin
+use Rattle.std.specs.Ordering.{nat_cmp}
 use Rattle.mb_edge.specs.Damage.{OpenCounts}
+use Rattle.mb_cache.proofs.PageLoops.{next_first}
 use Rattle.mb_iface.proofs.CountMaps.{with_none, with_some}
 use Rattle.mb_iface.specs.OpenCounts.{AreCounts, count_of, with_count}
 use Rattle.mb_tree.proofs.FiniteMaps.{one_or_not, same, get_here, get_there, gone_here, gone_there}
 use Rattle.mb_tree.specs.Effect.{hold, release}
-use Rattle.mb_core_spec.specs.Copies.{TableCounts}
+use Rattle.mb_session.specs.OpenFiles.{TellsCounts}
 use Rattle.mb_tables.specs.Follows.{held_once_more, released_each}
 
 -- ---- one count set
@@ -34,7 +36,7 @@ hold_here held ino other is = let test : nat_eq other ino ≡ true = grind (arit
 hold_there : (held : ℕ → ℕ) (ino other : ℕ) → other ≢ ino → hold held ino other ≡ held other
 hold_there held ino other apart = let test : nat_eq other ino ≡ false = grind (arith, nat_tests) in ap (λ b. if b then held other + 1 else held other) test
 
-pub hold_counts : (opens : OpenCounts) (held : ℕ → ℕ) (ino : ℕ) → TableCounts opens held → held ino < 4294967295 → TableCounts (held_once_more opens ino) (hold held ino)
+pub hold_counts : (opens : OpenCounts) (held : ℕ → ℕ) (ino : ℕ) → TellsCounts opens held → held ino < 4294967295 → TellsCounts (held_once_more opens ino) (hold held ino)
 hold_counts opens held ino counts low other = elim (one_or_not other ino) [
   | inl is ↦
       let here = count_here opens ino (min (count_of opens ino + 1) (2 ^ 32 - 1)) in
@@ -43,7 +45,7 @@ hold_counts opens held ino counts low other = elim (one_or_not other ino) [
   | inr apart ↦ count_there opens ino (min (count_of opens ino + 1) (2 ^ 32 - 1)) other apart ∙ counts other ∙ sym (hold_there held ino other apart)
 ]
 
-one_released : (opens : OpenCounts) (held : ℕ → ℕ) (ino : ℕ) → TableCounts opens held → TableCounts (with_count opens ino (count_of opens ino - 1)) (λ other. held other - cond (nat_eq other ino) 1 0)
+one_released : (opens : OpenCounts) (held : ℕ → ℕ) (ino : ℕ) → TellsCounts opens held → TellsCounts (with_count opens ino (count_of opens ino - 1)) (λ other. held other - cond (nat_eq other ino) 1 0)
 one_released opens held ino counts other = elim (one_or_not other ino) [
   | inl is ↦
       let test : nat_eq other ino ≡ true = grind (arith, nat_tests) in
@@ -58,7 +60,7 @@ less_more : (held : ℕ) (b : Bool) (count : ℕ) → held - cond b 1 0 - count 
 less_more held true count = omega arith
 less_more held false count = omega arith
 
-pub release_counts : (opens : OpenCounts) (held : ℕ → ℕ) (inos : List ℕ) → TableCounts opens held → TableCounts (released_each opens inos) (release held inos)
+pub release_counts : (opens : OpenCounts) (held : ℕ → ℕ) (inos : List ℕ) → TellsCounts opens held → TellsCounts (released_each opens inos) (release held inos)
 release_counts opens held [] counts other = counts other ∙ omega arith
 release_counts opens held (ino ∷ inos) counts other =
     let rest = release_counts (with_count opens ino (count_of opens ino - 1)) (λ k. held k - cond (nat_eq k ino) 1 0) inos (one_released opens held ino counts) other in
@@ -79,3 +81,25 @@ none_less opens ino count above is none =
       | inl here ↦ ap (fin.get opens) here ∙ absent ∙ sym (gone_here opens ino) ∙ ap (fin.get (fin.remove opens ino)) (sym here)
       | inr apart ↦ sym (gone_there opens ino other apart)
     ]) ∙ sym gone
+
+-- ---- an open file for each of a list
+
+count_first : (ino x : ℕ) (rest : List ℕ) (test : Bool) → nat_eq ino x ≡ test → count_by (nat_eq ino) (x ∷ rest) ≡ cond test 1 0 + count_by (nat_eq ino) rest
+count_first ino x rest test is = sum_by-cons (λ y. cond (nat_eq ino y) 1 0) x rest ∙ ap (λ b. cond b 1 0 + count_by (nat_eq ino) rest) is
+
+pub counted_more : (opens new : OpenCounts) (inos : List ℕ) (at x : ℕ) → ((ino : ℕ) → count_of opens ino + count_by (nat_eq ino) (drop at inos) ≡ count_by (nat_eq ino) inos) → slice_get inos at ≡ Some x → length inos < 4294967296
+    → new ≡ held_once_more opens x → (ino : ℕ) → count_of new ino + count_by (nat_eq ino) (drop (at + 1) inos) ≡ count_by (nat_eq ino) inos
+counted_more opens new inos at x so_far here few one ino =
+    let rest = drop (at + 1) inos in
+    let first : drop at inos ≡ x ∷ rest = next_first inos at x here in
+    let own : count_by (nat_eq x) (drop at inos) ≡ 1 + count_by (nat_eq x) rest = ap (count_by (nat_eq x)) first ∙ count_first x x rest true (grind (arith, nat_tests)) in
+    let most : count_by (nat_eq x) inos ≤ length inos = count_by-le-length (nat_eq x) inos in
+    let low : count_of opens x < 4294967295 = (let sum = so_far x in omega (arith, sum, own, most, few)) in
+    let held : count_of new ino ≡ hold (count_of opens) x ino = ap (λ o. count_of o ino) one ∙ hold_counts opens (count_of opens) x (λ other. refl) low ino in
+    elim (one_or_not ino x) [
+      | inl is ↦ (let more = hold_here (count_of opens) x ino is in let count = ap (count_by (nat_eq ino)) first ∙ count_first ino x rest true (grind (arith, nat_tests, is)) in let sum = so_far ino in omega (arith, held, more, count, sum))
+      | inr apart ↦ (let same = hold_there (count_of opens) x ino apart in let count = ap (count_by (nat_eq ino)) first ∙ count_first ino x rest false (grind (arith, nat_tests, apart)) in let sum = so_far ino in omega (arith, held, same, count, sum))
+    ]
+
+pub nothing_counted : (ino : ℕ) → count_of fin.empty ino ≡ 0
+nothing_counted ino = ap (λ (o : Option ℕ). unwrap_or o 0) (fin.get-empty {X = ℕ} nat_cmp ino)

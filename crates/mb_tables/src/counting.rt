@@ -1,11 +1,14 @@
-ghost use Rattle.std.specs.Prelude.{◌≡◌, ◌∷◌, [], OnOk, OnErr};
+ghost use Rattle.std.specs.Prelude.{◌≡◌, ◌<◌, ◌∷◌, [], length, IfOk, OnOk, OnErr};
 ghost use Rattle.std.specs.FinMap as fin;
 ghost use Rattle.mb_edge.specs.Damage.{count_replaced};
+ghost use Rattle.mb_tree.specs.Sweep.{opens_of_list};
+ghost use Rattle.mb_session.specs.OpenFiles.{TellsCounts};
 ghost use Rattle.mb_tables.specs.Follows.{count_stroke, counts_damaged, followed, followed_if, held_once_more, is_seen, opens_any, released_each};
 
 use mb_edge::{Damage, NoMemory, Stroke};
 use mb_iface::Opens;
 use mb_tree::{FsOp, SessionChange};
+use std::alloc::Global;
 
 /// Whether another call can see what a call with this operation and session change does to the tables.
 pub(crate) fn is_seen(op: &Option<FsOp>, change: &SessionChange) -> bool
@@ -70,6 +73,18 @@ fn hold(opens: &mut Opens, ino: u16) -> Result<(), NoMemory>
     let count = opens.count(ino).saturating_add(1);
     opens.set(ino, count)?;
     Ok(())
+}
+
+/// A table with an open file for each time that an inode's number stands in a list. The only error is want of memory.
+pub fn counts_of(alloc: Global, inos: &[u16]) -> Result<Opens, NoMemory>
+    requires { length inos.now < 4294967296 }
+    ensures { IfOk result (λ opens. TellsCounts opens (opens_of_list inos.now)) }
+{
+    let mut opens = Opens::new(alloc);
+    for ino in inos {
+        hold(&mut opens, *ino)?;
+    }
+    Ok(opens)
 }
 
 /// One open file less for each of the inodes, where there is one; needs no memory.

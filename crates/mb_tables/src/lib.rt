@@ -11,5 +11,6 @@ mod counting;
 mod laws;
 mod tables;
 
+pub use counting::counts_of;
 pub use laws::{counts_follow_operations, damage_of_counts, tables_move};
 pub use tables::Tables;

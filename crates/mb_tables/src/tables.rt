@@ -1,6 +1,6 @@
 ghost use Rattle.std.specs.Prelude.{◌≡◌, ◌<◌, ◌^◌, ◌-◌, IfOk, OnOk, OnErr, length, map};
 ghost use Rattle.std.specs.FinMap as fin;
-ghost use Rattle.mb_core_spec.specs.Copies.{TableCounts};
+ghost use Rattle.mb_session.specs.OpenFiles.{TellsCounts};
 ghost use Rattle.mb_tree.specs.Opening.{first_seat};
 ghost use Rattle.mb_tree.specs.Sessions.{HasDescriptorInRange, counts};
 ghost use Rattle.mb_tables.specs.Follows.{counts_damaged, followed, tables_after};
@@ -123,7 +123,7 @@ impl Tables {
     /// as before.
     pub fn reopen(&mut self, alloc: Global) -> Result<(), NoMemory>
         ensures same { self.new ≡ record self.old { opens = self.new.opens } }
-        ensures ok { OnOk result (TableCounts self.new.opens (counts self.old.saved)) }
+        ensures ok { OnOk result (TellsCounts self.new.opens (counts self.old.saved)) }
         ensures err { OnErr result (self.new ≡ self.old) }
     {
         self.opens = self.saved.counts(alloc)?;

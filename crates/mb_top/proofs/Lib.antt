@@ -1,12 +1,15 @@
 pub mod BeginLemmas
+pub mod BuiltLemmas
 pub mod ComesLemmas
 pub mod ContentLemmas
 pub mod Endings
+pub mod JobLemmas
 pub mod MayLemmas
 pub mod NameLemmas
 pub mod OpeningLemmas
 pub mod PerformingLemmas
 pub mod PlainLemmas
+pub mod PlainNames
 pub mod PlanLemmas
 pub mod ReadLemmas
 pub mod RecordLemmas

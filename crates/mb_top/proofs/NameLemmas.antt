@@ -2,7 +2,6 @@
 use Rattle.std.proofs.Common.{List, [], ◌∷◌, ℕ, zero, suc, ◌≡◌, ◌≢◌, ◌≤◌, Bool, true, false, ◌&&◌, slice_get, get_or, cond, bytes_eq, refl, ap, sym, subst, ◌∙◌, arith, Option, Some, None, Ok, Err, IfSome, option_map, find}
 use Rattle.std.proofs.lemmas.Bool.Decides.{nat_tests}
 use Rattle.std.proofs.lemmas.Slice.Eq.{bytes_eq-Decides}
-use Rattle.mb_job.specs.Small.{IsPlainName, IsPlainPath}
 use Rattle.mb_kinds.specs.Image.{Image}
 use Rattle.mb_kinds.specs.declared.errors.Errno.TheVariants.{ENOENT}
 use Rattle.mb_tree.specs.Answers.{◌>>=◌, some}
@@ -17,6 +16,7 @@ use Rattle.mb_top.specs.Plain.{IsPlainFile}
 use Rattle.mb_top.specs.Serving.{Finds, LeadsFromRoot}
 use Rattle.mb_top.specs.Simple.{HasSmallRoot, root_slots}
 use Rattle.mb_top.proofs.PlainLemmas.{regular_file, root_seen}
+use Rattle.mb_top.proofs.PlainNames.{IsPlainName, IsPlainPath}
 use Rattle.mb_top.proofs.PlanLemmas.{find_in_root, one_component}
 
 -- an element that was found stands somewhere and passes

@@ -1,8 +1,8 @@
--- Each call of a small job, performed over a plain volume, is the reference model's step.
+-- Each plain call, performed over a plain volume, is the reference model's step.
 use Rattle.std.proofs.Common.{List, [], ◌∷◌, ℕ, ◌+◌, ◌-◌, ◌≡◌, ◌<◌, ◌≤◌, true, false, length, min, bit_and, nat_eq, refl, ap, sym, subst, ◌∙◌, arith, Option, Some, None, Result, Ok, Err, IfOk, IfSome, Bool, ◌==◌}
 use Rattle.std.specs.List.{list_any}
+use Rattle.std.proofs.lemmas.Bool.{and_parts, false≢true}
 use Rattle.std.proofs.lemmas.Bool.Decides.{nat_tests}
-use Rattle.mb_job.specs.Small.{IsPlainCall, IsPlainPath}
 use Rattle.mb_kinds.specs.Image.{Image, put}
 use Rattle.mb_kinds.specs.declared.calls.Call.{Call}
 use Rattle.mb_kinds.specs.declared.calls.Call.TheVariants as call
@@ -32,11 +32,13 @@ use Rattle.mb_core.specs.Pages.{PageList}
 use Rattle.mb_core.specs.declared.answers.ReadFault.{ReadFault}
 use Rattle.mb_core.specs.declared.ready.Ready.{Ready}
 use Rattle.mb_core.proofs.Replays.{mode_put}
+use Rattle.mb_top.specs.Built.{is_plain_call, is_plain_path, reads_alone}
 use Rattle.mb_top.specs.Contents.{inode_at, direct_part, bytes_in}
 use Rattle.mb_top.specs.Serving.{Comes, IsPerformedAt, LeadsFromRoot, alone, unchanged}
 use Rattle.mb_top.proofs.ComesLemmas as comes
 use Rattle.mb_top.proofs.NameLemmas.{found, missing}
 use Rattle.mb_top.proofs.PlainLemmas.{file_kept, file_read, no_more, plain_kept}
+use Rattle.mb_top.proofs.PlainNames.{IsPlainPath}
 use Rattle.mb_top.proofs.PlanLemmas.{open_missing, open_full, open_done, read_bad, read_unreadable, read_done, close_bad, close_shared, close_last, exit_empty, exit_full, chmod_missing, chmod_done}
 use Rattle.mb_top.proofs.SeatLemmas.{never_one, file_small, fresh_ready, move_ready, free_ready, clear_ready}
 
@@ -190,6 +192,12 @@ pub called_ok : (told : Option Image) (seat : Seat) (made other : Call) (moment 
 called_ok told seat made other moment (Ok ready) is performed = called told seat made other moment ready is performed
 called_ok told seat made other moment (Err fault) is performed = tt
 
+reads_from : (how : How) → reads_alone how ≡ true → how ≡ Reading
+reads_from Reading holds = refl
+reads_from _ holds = absurd (false≢true holds)
+
 -- a plain open is one for reading
-pub opens_reading : (made : Call) (path : List ℕ) (how : How) → made ≡ call.Open path how → IsPlainCall made → made ≡ call.Open path Reading
-opens_reading made path how is plain = is ∙ ap (call.Open path) (subst IsPlainCall is plain).0
+pub opens_reading : (made : Call) (path : List ℕ) (how : How) → made ≡ call.Open path how → is_plain_call made ≡ true → made ≡ call.Open path Reading
+opens_reading made path how is plain =
+    let parts = and_parts (reads_alone how) (is_plain_path path) (ap is_plain_call (sym is) ∙ plain) in
+    is ∙ ap (call.Open path) (reads_from how parts.0)

@@ -1,4 +1,4 @@
--- What the reference model plans for the calls of a small job, for a caller with uid 0.
+-- What the reference model plans for plain calls, for a caller with uid 0.
 use Rattle.std.proofs.Common.{List, [], ◌∷◌, ℕ, ◌+◌, ◌≡◌, ◌≢◌, ◌≤◌, ◌==◌, Bool, true, false, not, cond, length, map, bit_and, ◌<◌, refl, ap, sym, ◌∙◌, arith, Option, Some, None, Ok, Err, All, filter}
 use Rattle.std.specs.FinMap as fin
 use Rattle.std.specs.List.{slice_split}

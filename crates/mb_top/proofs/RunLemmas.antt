@@ -7,9 +7,8 @@ use Rattle.mb_core.specs.Holds.{Right}
 use Rattle.mb_core.specs.Numbering.{open_calls}
 use Rattle.mb_core.specs.State.{CoreState}
 use Rattle.mb_core.specs.declared.config.Config.{Config}
-use Rattle.mb_job.specs.Small.{IsSmall}
-use Rattle.mb_job.specs.declared.jobs.Job.{Job}
-use Rattle.mb_job.specs.declared.jobs.JobCall.{JobCall}
+use Rattle.mb_jobs.specs.declared.jobs.Job.{Job}
+use Rattle.mb_jobs.specs.declared.jobs.JobCall.{JobCall}
 use Rattle.mb_kinds.specs.Image.{Image}
 use Rattle.mb_kinds.specs.Own.{own}
 use Rattle.mb_kinds.specs.declared.entries.Entry.{Entry}
@@ -20,6 +19,7 @@ use Rattle.mb_top.specs.Plain.{IsPlainNow}
 use Rattle.mb_top.specs.Records.{AreTaken, first_finish}
 use Rattle.mb_top.specs.Runs.{HasOwnCalls, HasMoments, BeginsJob, IsRunOver}
 use Rattle.mb_top.specs.Underway.{Keeps, HasRun, IsStruck}
+use Rattle.mb_top.proofs.BuiltLemmas.{IsBuilt}
 use Rattle.mb_top.proofs.RecordLemmas.{rules_after, rules_most, rules_fall, taken_none, taken_more, struck_few}
 
 -- what holds after so many calls of a job
@@ -87,12 +87,12 @@ more_begin told faults job calls old new done begins so_far same low =
     let most : new.config.most ≡ old.config.most = ap (λ (c : Config). c.most) so_far.keeps.config in
     omega (arith, begun_is told faults new so_far.right so_far.free, so_far.count, begins.most, ap length same)
 
-pub few_records : {D : Type 0} (told : D → Option Image) (faults : D → ℕ) (job : Job) (calls : List JobCall) (old new : CoreState D) (done : ℕ) → IsSmall job → BeginsJob job old
+pub few_records : {D : Type 0} (told : D → Option Image) (faults : D → ℕ) (job : Job) (calls : List JobCall) (old new : CoreState D) (done : ℕ) → IsBuilt job → BeginsJob job old
     → GoesOn told faults job.plan calls old new done → fires job.plan (first_finish (length new.history + 1)) ≡ true → length new.stand.struck < new.config.limit
-few_records told faults job calls old new done small begins so_far fired =
+few_records told faults job calls old new done built begins so_far fired =
     let limit : new.config.limit ≡ 255 = ap (λ (c : Config). c.limit) so_far.keeps.config ∙ begins.limit in
     let here : fires job.plan (first_finish (done + 1)) ≡ true = subst (λ n. fires job.plan (first_finish (n + 1)) ≡ true) so_far.count fired in
-    omega (arith, rules_fall job.plan done here, so_far.few, small.few_rules)
+    omega (arith, rules_fall job.plan done here, so_far.few, built.few_rules)
 
 pub run_over : {D : Type 0} (told : D → Option Image) (faults : D → ℕ) (job : Job) (calls : List JobCall) (old new : CoreState D) (done : ℕ) → calls ≡ job.calls → length calls ≤ done
     → GoesOn told faults job.plan calls old new done → IsRunOver told faults job old new
@@ -127,9 +127,9 @@ same_calls (entry ∷ entries) (made ∷ calls) caller mine theirs same =
     (own entries caller) (filter (λ (m : JobCall). nat_eq m.caller caller) calls) (ap (λ n. nat_eq n caller) (first ∙ sym again)) one more
 
 -- the history of a job's one caller has each of its calls once, in order
-pub own_calls : {D : Type 0} (told : D → Option Image) (faults : D → ℕ) (job : Job) (core : CoreState D) → IsSmall job → Right told faults core
+pub own_calls : {D : Type 0} (told : D → Option Image) (faults : D → ℕ) (job : Job) (core : CoreState D) → IsBuilt job → Right told faults core
     → map (λ (e : Entry). e.call) core.history ≡ map (λ (made : JobCall). made.call) job.calls → HasOwnCalls job core.history
-own_calls told faults job core small right same = λ caller. same_calls core.history job.calls caller right.orderly.numbered.callers small.callers same
+own_calls told faults job core built right same = λ caller. same_calls core.history job.calls caller right.orderly.numbered.callers built.callers same
 
 -- the moments are those after the start
 pub moments : {D : Type 0} (told : D → Option Image) (faults : D → ℕ) (job : Job) (core : CoreState D) → core.config.start ≡ job.start → Right told faults core → HasMoments job core.history

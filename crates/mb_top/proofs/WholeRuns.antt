@@ -7,10 +7,9 @@ use Rattle.mb_core.specs.Pages.{under}
 use Rattle.mb_core.specs.State.{CoreState}
 use Rattle.mb_core.specs.declared.config.Config.{Config}
 use Rattle.mb_edge.specs.Causes.{Rose}
-use Rattle.mb_job.specs.Job.{the_caller}
-use Rattle.mb_job.specs.Small.{IsSmall}
-use Rattle.mb_job.specs.declared.jobs.Caller.{Caller}
-use Rattle.mb_job.specs.declared.jobs.Job.{Job}
+use Rattle.mb_jobs.specs.Callers.{the_caller}
+use Rattle.mb_jobs.specs.declared.jobs.Caller.{Caller}
+use Rattle.mb_jobs.specs.declared.jobs.Job.{Job}
 use Rattle.mb_kinds.specs.Image.{Image}
 use Rattle.mb_kinds.specs.declared.entries.Entry.{Entry}
 use Rattle.mb_tree.specs.History.{Legal, after}
@@ -30,12 +29,13 @@ use Rattle.mb_top.specs.Simple.{IsSimple}
 use Rattle.mb_top.specs.declared.outcomes.Outcome.{Outcome}
 use Rattle.mb_top.specs.declared.outcomes.Outcome.TheVariants as outcome
 use Rattle.mb_top.proofs.BeginLemmas.{names_of_simple, plain_when_begun}
+use Rattle.mb_top.proofs.BuiltLemmas.{IsBuilt}
 use Rattle.mb_top.proofs.RunLemmas.{own_calls, moments}
 
 -- the model is plain when a job begins on a simple image
-pub plain_begun : {D : Type 0} (told : D → Option Image) (job : Job) (core : CoreState D) → IsSmall job → IsBegunFor job core → IfSome (told core.first) IsSimple → IsPlainNow told core
-plain_begun told job core small begins simple =
-    plain_when_begun told core the_caller.cred simple begins.begun.history (begins.callers ∙ ap (map (λ (caller : Caller). caller.cred)) small.alone) refl
+pub plain_begun : {D : Type 0} (told : D → Option Image) (job : Job) (core : CoreState D) → IsBuilt job → IsBegunFor job core → IfSome (told core.first) IsSimple → IsPlainNow told core
+plain_begun told job core built begins simple =
+    plain_when_begun told core the_caller.cred simple begins.begun.history (begins.callers ∙ ap (map (λ (caller : Caller). caller.cred)) built.alone) refl
 
 -- an image that the disk still tells
 record Tells {D : Type 0} (told : D → Option Image) (disk : D) : Type 0 where
@@ -84,7 +84,7 @@ module _ {D : Type 0} (told : D → Option Image) (faults : D → ℕ) (job : Jo
         )
 
 -- the calls and the end of a run
-module _ {D : Type 0} (told : D → Option Image) (faults : D → ℕ) (job : Job) (old over new : CoreState D) (small : IsSmall job) (begins : IsBegunFor job old)
+module _ {D : Type 0} (told : D → Option Image) (faults : D → ℕ) (job : Job) (old over new : CoreState D) (built : IsBuilt job) (begins : IsBegunFor job old)
     (run : IsRunOver told faults job old over) (stays : Stays faults over new) (right : Right told faults new) where
   first : new.first ≡ old.first
   first = stays.first ∙ run.keeps.first
@@ -104,7 +104,7 @@ module _ {D : Type 0} (told : D → Option Image) (faults : D → ℕ) (job : Jo
     first = first;
     callers = callers;
     start = start;
-    own_calls = own_calls told faults job new small right (ap (map (λ (e : Entry). e.call)) stays.history ∙ run.calls);
+    own_calls = own_calls told faults job new built right (ap (map (λ (e : Entry). e.call)) stays.history ∙ run.calls);
     moments = moments told faults job new start right;
     legal = has_history told faults job old.first new right first callers start;
     records = subst (λ h. AreTaken job.plan h new.stand.struck) (sym stays.history) (subst (AreTaken job.plan over.history) (sym stays.struck) run.records);
@@ -123,9 +123,10 @@ module _ {D : Type 0} (told : D → Option Image) (faults : D → ℕ) (job : Jo
   comes_ran (outcome.Ran text) clean is = ran_with text clean is
   comes_ran outcome.OutOfMemory clean is = tt
   comes_ran outcome.WordsRefused clean is = absurd is
+  comes_ran outcome.CommandNotBuilt clean is = absurd is
+  comes_ran (outcome.Made line) clean is = absurd is
   comes_ran outcome.InputFault clean is = absurd is
-  comes_ran outcome.TooLong clean is = absurd is
-  comes_ran outcome.NotToml clean is = absurd is
+  comes_ran (outcome.JobRefused line) clean is = absurd is
   comes_ran outcome.JobNotBuilt clean is = absurd is
   comes_ran outcome.DiskFault clean is = absurd is
   comes_ran outcome.NoBlocks clean is = absurd is
@@ -147,9 +148,10 @@ module _ {D : Type 0} (told : D → Option Image) (faults : D → ℕ) (job : Jo
     comes_unsettled (outcome.Unsettled text) is = record { run = is_run; fewer = fewer; printed = is }
     comes_unsettled outcome.OutOfMemory is = tt
     comes_unsettled outcome.WordsRefused is = absurd is
+    comes_unsettled outcome.CommandNotBuilt is = absurd is
+    comes_unsettled (outcome.Made line) is = absurd is
     comes_unsettled outcome.InputFault is = absurd is
-    comes_unsettled outcome.TooLong is = absurd is
-    comes_unsettled outcome.NotToml is = absurd is
+    comes_unsettled (outcome.JobRefused line) is = absurd is
     comes_unsettled outcome.JobNotBuilt is = absurd is
     comes_unsettled outcome.DiskFault is = absurd is
     comes_unsettled outcome.NoBlocks is = absurd is

@@ -2,8 +2,8 @@
 use Rattle.std.specs.Prelude.{◌≡◌, ◌≤◌, length, map}
 use Rattle.mb_core.specs.Begun.{IsBegun}
 use Rattle.mb_core.specs.State.{CoreState}
-use Rattle.mb_job.specs.declared.jobs.Caller.{Caller}
-use Rattle.mb_job.specs.declared.jobs.Job.{Job}
+use Rattle.mb_jobs.specs.declared.jobs.Caller.{Caller}
+use Rattle.mb_jobs.specs.declared.jobs.Job.{Job}
 
 -- nothing happened yet, and the core has the job's callers, its start, the limit of 255 faults, and room for its calls
 pub record IsBegunFor {D : Type 0} (job : Job) (core : CoreState D) : Type 0 where

@@ -3,8 +3,8 @@ use Rattle.std.specs.Prelude.{ℕ, ◌≡◌, Option, Some, map}
 use Rattle.mb_core.specs.Devices.{FewDevices}
 use Rattle.mb_core.specs.Holds.{Right}
 use Rattle.mb_core.specs.State.{CoreState}
-use Rattle.mb_job.specs.declared.jobs.Caller.{Caller}
-use Rattle.mb_job.specs.declared.jobs.Job.{Job}
+use Rattle.mb_jobs.specs.declared.jobs.Caller.{Caller}
+use Rattle.mb_jobs.specs.declared.jobs.Job.{Job}
 use Rattle.mb_kinds.specs.Image.{Image}
 use Rattle.mb_tree.specs.History.{Legal}
 use Rattle.mb_tree.specs.Volume.{IsVolume}

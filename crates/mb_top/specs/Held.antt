@@ -19,3 +19,8 @@ IsGivenBack told disk (held.Core core) = ⊥
 abbrev pub IsDriven : {D : Type 0} → Held D → (CoreState D → Type 0) → Type 0
 IsDriven (held.Disk disk) Fact = ⊥
 IsDriven (held.Core core) Fact = Fact core
+
+-- the disk itself is held
+abbrev pub IsDisk : {D : Type 0} → Held D → (D → Type 0) → Type 0
+IsDisk (held.Disk disk) Fact = Fact disk
+IsDisk (held.Core core) Fact = ⊥

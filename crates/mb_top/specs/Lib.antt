@@ -1,5 +1,5 @@
 pub mod Beginnings
-pub mod Commands
+pub mod Built
 pub mod Completes
 pub mod Contents
 pub mod Headline
@@ -12,6 +12,5 @@ pub mod Records
 pub mod Runs
 pub mod Serving
 pub mod Settling
-pub mod Silent
 pub mod Simple
 pub mod Underway

@@ -1,53 +1,61 @@
 -- How the program ends: the order of the causes, and for each of them its status and its text.
-use Rattle.std.specs.Prelude.{List, ◌++◌, ℕ, ◌+◌, ◌-◌, ◌^◌, ◌≡◌, ◌≢◌, ◌<◌, ◌≤◌, ◌⊎◌, codes, true, false, length, take, count_by, Option, Ok, Err, IfSome}
+use Rattle.std.specs.Prelude.{List, ◌++◌, ℕ, ◌+◌, ◌-◌, ◌^◌, ◌≡◌, ◌≢◌, ◌<◌, ◌≤◌, ◌⊎◌, codes, true, false, length, take, count_by, Option, None, Some, Result, Ok, Err, IfSome}
 use Rattle.std.specs.Io.KnownBytes.{Appends}
 use Rattle.mb_edge.specs.Transfers.{TakesFront}
-use Rattle.mb_job.specs.Job.{job_in}
-use Rattle.mb_job.specs.Transcript.{transcript_text, end_text}
-use Rattle.mb_job.specs.declared.jobs.Job.{Job}
-use Rattle.mb_job.specs.declared.jobs.JobFault.TheVariants as fault
+use Rattle.mb_commands.specs.Makes.{HasMade}
+use Rattle.mb_commands.specs.Words.{command_of}
+use Rattle.mb_commands.specs.declared.commands.Command.{Command}
+use Rattle.mb_commands.specs.declared.commands.Command.TheVariants.{Mkfs, Run}
+use Rattle.mb_mkfs.specs.Sizes.{AreSizes}
+use Rattle.mb_jobs.specs.Job.{job_in}
+use Rattle.mb_jobs.specs.declared.jobs.Job.{Job}
+use Rattle.mb_jobs.specs.declared.jobs.JobFault.{JobFault}
 use Rattle.mb_kinds.specs.Image.{Image}
 use Rattle.mb_kinds.specs.declared.entries.Entry.{Entry}
 use Rattle.mb_core.specs.declared.OpenFault.{OpenFault}
 use Rattle.mb_core.specs.declared.OpenFault.TheVariants as opens
 use Rattle.mb_core.specs.Devices.{is_device}
 use Rattle.mb_core.specs.State.{CoreState}
+use Rattle.mb_print.specs.Causes.{refused_text}
+use Rattle.mb_print.specs.Transcript.{transcript_text, end_text}
 use Rattle.mb_tree.specs.Volume.{HasSizes}
-use Rattle.mb_top.specs.Commands.{is_run}
+use Rattle.mb_top.specs.Built.{is_built}
 use Rattle.mb_top.specs.Headline.{IsRun, LeavesImage}
-use Rattle.mb_top.specs.Held.{IsDriven, IsGivenBack}
+use Rattle.mb_top.specs.Held.{IsDisk, IsDriven, IsGivenBack}
 use Rattle.mb_top.specs.Simple.{IsSimple}
 use Rattle.mb_top.specs.declared.finish.Held.{Held}
 use Rattle.mb_top.specs.declared.outcomes.Outcome.{Outcome}
-use Rattle.mb_top.specs.declared.outcomes.Outcome.TheVariants.{WordsRefused, InputFault, TooLong, NotToml, JobNotBuilt, DiskFault, NoBlocks, BadSizes, ImageNotBuilt, OutOfMemory, Unsettled, Ran}
+use Rattle.mb_top.specs.declared.outcomes.Outcome.TheVariants.{WordsRefused, CommandNotBuilt, InputFault, JobRefused, JobNotBuilt, DiskFault, NoBlocks, BadSizes, ImageNotBuilt, OutOfMemory, Made, Unsettled, Ran}
 
 -- the program's status
 abbrev pub status_of : Outcome → ℕ
 status_of WordsRefused = 1
+status_of CommandNotBuilt = 9
 status_of InputFault = 8
-status_of TooLong = 2
-status_of NotToml = 2
+status_of (JobRefused line) = 2
 status_of JobNotBuilt = 9
 status_of DiskFault = 5
 status_of NoBlocks = 3
 status_of BadSizes = 3
 status_of ImageNotBuilt = 9
 status_of OutOfMemory = 6
+status_of (Made line) = 0
 status_of (Unsettled text) = 5
 status_of (Ran text) = 0
 
 -- what it prints
 abbrev pub text_of : Outcome → List ℕ
 text_of WordsRefused = codes "words refused\n"
+text_of CommandNotBuilt = codes "not built\n"
 text_of InputFault = codes "input fault\n"
-text_of TooLong = codes "job refused: too long\n"
-text_of NotToml = codes "job refused: not toml\n"
+text_of (JobRefused line) = line
 text_of JobNotBuilt = codes "not built\n"
 text_of DiskFault = codes "disk fault\n"
 text_of NoBlocks = codes "volume refused: block 1 rule 1\n"
 text_of BadSizes = codes "volume refused: block 1 rule 2\n"
 text_of ImageNotBuilt = codes "not built\n"
 text_of OutOfMemory = codes "no memory\n"
+text_of (Made line) = line
 text_of (Unsettled text) = text
 text_of (Ran text) = text
 
@@ -102,7 +110,7 @@ IsUnsettled text (Unsettled given) = given ≡ text
 IsUnsettled text OutOfMemory = Unit {0}
 IsUnsettled text _ = ⊥
 
--- the disk failed, at the opening or in the end of a run
+-- the disk failed, at the opening, in a `mkfs`, or in the end of a run
 abbrev pub IsDiskFault : Outcome → Type 0
 IsDiskFault DiskFault = Unit {0}
 IsDiskFault (Unsettled text) = Unit {0}
@@ -120,30 +128,66 @@ IsRefusedAs fault outcome = ⊥
 abbrev pub OfBytes : Option (List ℕ) → (List ℕ → Type 0) → Type 0
 OfBytes left Fact = IfSome left (λ bytes. Fact (take 4194305 bytes))
 
--- why there is no job
+-- a line says why a job is refused
+abbrev pub SaysWhy : Result Job JobFault → List ℕ → Type 0
+SaysWhy (Ok job) line = ⊥
+SaysWhy (Err fault) line = line ≡ refused_text fault
+
+-- a job is of a form that is not run yet
+abbrev pub IsNotBuilt : Result Job JobFault → Type 0
+IsNotBuilt (Ok job) = is_built job ≡ false
+IsNotBuilt (Err fault) = ⊥
+
+-- what comes of a job that is refused: the line that says why, or want of memory
+abbrev pub IsRefusal : Result Job JobFault → Outcome → Type 0
+IsRefusal found (JobRefused line) = SaysWhy found line
+IsRefusal found OutOfMemory = Unit {0}
+IsRefusal found _ = ⊥
+
+-- why no job is run
 abbrev pub IsJobRefused : Option (List ℕ) → Outcome → Type 0
 IsJobRefused left InputFault = Unit {0}
 IsJobRefused left OutOfMemory = Unit {0}
-IsJobRefused left TooLong = OfBytes left (λ bytes. job_in bytes ≡ Err fault.TooLong)
-IsJobRefused left NotToml = OfBytes left (λ bytes. job_in bytes ≡ Err fault.NotToml)
-IsJobRefused left JobNotBuilt = OfBytes left (λ bytes. job_in bytes ≡ Err fault.NotBuilt)
+IsJobRefused left (JobRefused line) = OfBytes left (λ bytes. SaysWhy (job_in bytes) line)
+IsJobRefused left JobNotBuilt = OfBytes left (λ bytes. IsNotBuilt (job_in bytes))
 IsJobRefused left _ = ⊥
 
--- a job that is read, and what came of it
+-- a job of the form that is run, and what came of it
 pub record IsJobRun {D : Type 0} (told : D → Option Image) (faults : D → ℕ) (bytes : List ℕ) (disk : D) (held : Held D) (outcome : Outcome) : Type 0 where
   pub job : Job
   pub read : job_in bytes ≡ Ok job
+  pub built : is_built job ≡ true
   pub over : ComesOfJob told faults job disk held outcome
 
--- the causes, in their order: the words, the input, the job, and then what comes of it
+-- what comes of a `run`, by the causes in their order: the input, the job, and then what comes of it
+abbrev pub ComesOfRunWords : {D : Type 0} → (D → Option Image) → (D → ℕ) → Option (List ℕ) → D → Held D → Outcome → Type 0
+ComesOfRunWords told faults left disk held WordsRefused = ⊥
+ComesOfRunWords told faults left disk held CommandNotBuilt = ⊥
+ComesOfRunWords told faults left disk held (Made line) = ⊥
+ComesOfRunWords told faults left disk held InputFault = IsGivenBack told disk held
+ComesOfRunWords told faults left disk held OutOfMemory = Unit {0}
+ComesOfRunWords told faults left disk held (JobRefused line) = IsGivenBack told disk held × OfBytes left (λ bytes. SaysWhy (job_in bytes) line)
+ComesOfRunWords told faults left disk held JobNotBuilt = IsGivenBack told disk held × OfBytes left (λ bytes. IsNotBuilt (job_in bytes))
+ComesOfRunWords told faults left disk held outcome = OfBytes left (λ bytes. IsJobRun told faults bytes disk held outcome)
+
+-- what comes of a `mkfs`: the words are refused where no volume has these sizes, and then the disk is as it was
+abbrev pub ComesOfMkfs : {D : Type 0} → (D → Option Image) → D → ℕ → ℕ → Held D → Outcome → Type 0
+ComesOfMkfs told disk blocks inodes held (Made line) = IsDisk held (λ new. HasMade (told disk) (told new) blocks inodes line)
+ComesOfMkfs told disk blocks inodes held WordsRefused = (AreSizes blocks inodes → ⊥) × IsGivenBack told disk held
+ComesOfMkfs told disk blocks inodes held DiskFault = AreSizes blocks inodes × IsDisk held (λ new. Unit {0})
+ComesOfMkfs told disk blocks inodes held OutOfMemory = AreSizes blocks inodes × IsDisk held (λ new. Unit {0})
+ComesOfMkfs told disk blocks inodes held _ = ⊥
+
+-- what comes of a command, or of words that are none; `check`, `soak` and threads are not built yet
+abbrev pub ComesOfCommand : {D : Type 0} → (D → Option Image) → (D → ℕ) → Option Command → Option (List ℕ) → D → Held D → Outcome → Type 0
+ComesOfCommand told faults None left disk held outcome = (outcome ≡ WordsRefused) × IsGivenBack told disk held
+ComesOfCommand told faults (Some (Mkfs blocks inodes)) left disk held outcome = ComesOfMkfs told disk blocks inodes held outcome
+ComesOfCommand told faults (Some (Run false)) left disk held outcome = ComesOfRunWords told faults left disk held outcome
+ComesOfCommand told faults (Some command) left disk held outcome = (outcome ≡ CommandNotBuilt) × IsGivenBack told disk held
+
+-- how the program ends
 abbrev pub IsOutcome : {D : Type 0} → (D → Option Image) → (D → ℕ) → List (List ℕ) → Option (List ℕ) → D → Held D → Outcome → Type 0
-IsOutcome told faults words left disk held WordsRefused = (is_run words ≡ false) × IsGivenBack told disk held
-IsOutcome told faults words left disk held InputFault = (is_run words ≡ true) × IsGivenBack told disk held
-IsOutcome told faults words left disk held OutOfMemory = is_run words ≡ true
-IsOutcome told faults words left disk held TooLong = (is_run words ≡ true) × IsGivenBack told disk held × OfBytes left (λ bytes. job_in bytes ≡ Err fault.TooLong)
-IsOutcome told faults words left disk held NotToml = (is_run words ≡ true) × IsGivenBack told disk held × OfBytes left (λ bytes. job_in bytes ≡ Err fault.NotToml)
-IsOutcome told faults words left disk held JobNotBuilt = (is_run words ≡ true) × IsGivenBack told disk held × OfBytes left (λ bytes. job_in bytes ≡ Err fault.NotBuilt)
-IsOutcome told faults words left disk held outcome = (is_run words ≡ true) × OfBytes left (λ bytes. IsJobRun told faults bytes disk held outcome)
+IsOutcome told faults words left disk held outcome = ComesOfCommand told faults (command_of words) left disk held outcome
 
 -- the program printed its text and ended with its status, or the output failed after a front of the text
 pub record IsPrinted (outcome : Outcome) (old new : Option (List ℕ)) (status : ℕ) : Type 0 where

@@ -2,9 +2,9 @@
 -- calls stand once, in its order.
 use Rattle.std.specs.Prelude.{List, [], ℕ, ◌+◌, ◌≤◌, ◌≡◌, Option, None, map, filter, nat_eq, length}
 use Rattle.std.specs.List.{range_with_len}
-use Rattle.mb_job.specs.declared.jobs.Caller.{Caller}
-use Rattle.mb_job.specs.declared.jobs.Job.{Job}
-use Rattle.mb_job.specs.declared.jobs.JobCall.{JobCall}
+use Rattle.mb_jobs.specs.declared.jobs.Caller.{Caller}
+use Rattle.mb_jobs.specs.declared.jobs.Job.{Job}
+use Rattle.mb_jobs.specs.declared.jobs.JobCall.{JobCall}
 use Rattle.mb_kinds.specs.Image.{Image}
 use Rattle.mb_kinds.specs.Own.{own}
 use Rattle.mb_kinds.specs.declared.calls.Call.{Call}

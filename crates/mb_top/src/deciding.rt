@@ -1,28 +1,32 @@
-ghost use Rattle.std.specs.Prelude.{◌≡◌, ◌≤◌, ◌++◌, false, true, length, map, Option, Some, None, Ok, IfOk, IfErr, IfSome, OnOk, codes};
+ghost use Rattle.std.specs.Prelude.{◌≡◌, ◌≤◌, ◌++◌, false, true, length, map, Option, Some, None, Result, Ok, Err, IfOk, IfErr, IfSome, OnOk, codes};
 ghost use Rattle.mb_edge.specs.Causes.{Rose};
 ghost use Rattle.mb_core.specs.Begun.{IsBegun, IsConfig};
 ghost use Rattle.mb_core.specs.Holds.{Right};
-ghost use Rattle.mb_job.specs.Job.{job_in};
-ghost use Rattle.mb_job.specs.Small.{IsSmall};
-ghost use Rattle.mb_job.specs.Transcript.{transcript_text};
-ghost use Rattle.mb_job.specs.declared.Caller.{Caller};
-ghost use Rattle.mb_job.specs.declared.Job.{Job};
+ghost use Rattle.mb_jobs.specs.Job.{Gives, job_in};
+ghost use Rattle.mb_jobs.specs.declared.jobs.Caller.{Caller};
+ghost use Rattle.mb_jobs.specs.declared.jobs.Job.{Job};
+ghost use Rattle.mb_jobs.specs.declared.jobs.JobFault.{JobFault};
+ghost use Rattle.mb_print.specs.Transcript.{transcript_text};
+ghost use Rattle.mb_top.specs.Built.{is_built};
 ghost use Rattle.mb_top.specs.Held.{held_disk};
 ghost use Rattle.mb_top.specs.Beginnings.{IsBegunFor};
-ghost use Rattle.mb_top.specs.Outcomes.{IsDiskFault, IsJobRefused, IsOutcome, IsRan, IsRefusedAs, ComesOfJob, ComesOfRun, IsUnsettled, OfBytes, run_text, unsettled_text};
+ghost use Rattle.mb_top.specs.Outcomes.{ComesOfMkfs, ComesOfRunWords, IsDiskFault, IsJobRefused, IsOutcome, IsRan, IsRefusedAs, ComesOfJob, ComesOfRun, IsRefusal, IsUnsettled, OfBytes, run_text, unsettled_text};
 ghost use Rattle.mb_tree.specs.Volume.{HasSizes};
 ghost use Rattle.mb_top.specs.Simple.{IsSimple};
 
+use crate::built::is_built;
 use crate::finish::Held;
 use crate::opening::is_simple;
 use crate::outcomes::Outcome;
 use crate::runs::run_calls;
 use crate::settling::settle;
-use crate::words::{Words, is_run};
+use mb_commands::{Command, Made, command_of, make_volume};
 use mb_core::{Config, Core, OpenFault, ReadFault, Refusal, RollFault};
 use mb_edge::{Disk, NoMemory, Source, read_whole};
-use mb_job::{Job, JobFault, Text, job_of, last_line, transcript};
+use mb_host::Words;
+use mb_jobs::{Job, JobFault, Text, job_of};
 use mb_kinds::Creds;
+use mb_print::{last_line, text_of_cause, transcript};
 use std::alloc::{AllocError, Global};
 
 /// What came of the words, the job and the disk, and what is held.
@@ -31,19 +35,57 @@ pub struct Decided<D: Disk> {
     pub held: Held<D>,
 }
 
-/// Reads the job and runs it, up to what is to be printed.
+/// Does what the words ask for, up to what is to be printed.
 pub fn decide<S: Source, D: Disk>(alloc: Global, words: &Words, job: &mut S, disk: D) -> Decided<D>
     ensures outcome { IsOutcome D.told D.faults words.now (S.left job.old) disk result.held result.outcome }
     ensures input { result.outcome ≡ Outcome.InputFault → Rose (S.faults job.old) (S.faults job.new) }
     ensures device { IsDiskFault result.outcome → Rose (D.faults disk) (D.faults (held_disk result.held)) }
     ensures later { D.faults disk ≤ D.faults (held_disk result.held) }
 {
-    if !is_run(words) {
-        return Decided {
-            outcome: Outcome::WordsRefused,
-            held: Held::Disk(disk),
-        };
+    match command_of(words) {
+        None => untouched(disk, Outcome::WordsRefused),
+        Some(Command::Mkfs { blocks, inodes }) => make_over(alloc, disk, blocks, inodes),
+        Some(Command::Run { threads: false }) => run_job(alloc, job, disk),
+        Some(_) => untouched(disk, Outcome::CommandNotBuilt),
     }
+}
+
+// A disk that was not asked.
+fn untouched<D: Disk>(disk: D, outcome: Outcome) -> Decided<D>
+    ensures outcome { result.outcome ≡ outcome }
+    ensures held { result.held ≡ Held.Disk disk }
+{
+    Decided {
+        outcome,
+        held: Held::Disk(disk),
+    }
+}
+
+// Makes a fresh volume.
+fn make_over<D: Disk>(alloc: Global, mut disk: D, blocks: u32, inodes: u32) -> Decided<D>
+    ensures comes { ComesOfMkfs D.told disk blocks inodes result.held result.outcome }
+    ensures device { IsDiskFault result.outcome → Rose (D.faults disk) (D.faults (held_disk result.held)) }
+    ensures later { D.faults disk ≤ D.faults (held_disk result.held) }
+{
+    let outcome = match make_volume(alloc, &mut disk, blocks, inodes) {
+        Made::Line(line) => Outcome::Made(line),
+        Made::BadSizes => Outcome::WordsRefused,
+        Made::DiskFault => Outcome::DiskFault,
+        Made::NoMemory => Outcome::OutOfMemory,
+    };
+    Decided {
+        outcome,
+        held: Held::Disk(disk),
+    }
+}
+
+// Reads the job and runs it.
+fn run_job<S: Source, D: Disk>(alloc: Global, job: &mut S, disk: D) -> Decided<D>
+    ensures comes { ComesOfRunWords D.told D.faults (S.left job.old) disk result.held result.outcome }
+    ensures input { result.outcome ≡ Outcome.InputFault → Rose (S.faults job.old) (S.faults job.new) }
+    ensures device { IsDiskFault result.outcome → Rose (D.faults disk) (D.faults (held_disk result.held)) }
+    ensures later { D.faults disk ≤ D.faults (held_disk result.held) }
+{
     match read_job(alloc, job) {
         Ok(job) => run_over(alloc, disk, &job),
         Err(outcome) => Decided {
@@ -53,10 +95,10 @@ pub fn decide<S: Source, D: Disk>(alloc: Global, words: &Words, job: &mut S, dis
     }
 }
 
-// The job that the source holds, or why there is none.
+// The job that the source holds, where it is run, or why none is.
 fn read_job<S: Source>(alloc: Global, source: &mut S) -> Result<Job, Outcome>
     ensures job { IfOk result (λ job. OfBytes (S.left source.old) (λ bytes. job_in bytes ≡ Ok job)) }
-    ensures small { IfOk result IsSmall }
+    ensures built { IfOk result (λ job. is_built job ≡ true) }
     ensures refused { IfErr result (IsJobRefused (S.left source.old)) }
     ensures input { IfErr result (λ outcome. outcome ≡ Outcome.InputFault → Rose (S.faults source.old) (S.faults source.new)) }
 {
@@ -66,17 +108,33 @@ fn read_job<S: Source>(alloc: Global, source: &mut S) -> Result<Job, Outcome>
         Err(mb_edge::ReadError::NoMemory) => return Err(Outcome::OutOfMemory),
     };
     match job_of(alloc, bytes.as_slice()) {
-        Ok(job) => Ok(job),
-        Err(JobFault::TooLong) => Err(Outcome::TooLong),
-        Err(JobFault::NotToml) => Err(Outcome::NotToml),
-        Err(JobFault::NotBuilt) => Err(Outcome::JobNotBuilt),
-        Err(JobFault::NoMemory) => Err(Outcome::OutOfMemory),
+        Ok(job) => {
+            if is_built(&job) {
+                Ok(job)
+            } else {
+                Err(Outcome::JobNotBuilt)
+            }
+        }
+        Err(fault) => Err(refusal(alloc, &fault)),
+    }
+}
+
+// The line of a job that is refused.
+fn refusal(alloc: Global, fault: &JobFault) -> Outcome
+    ensures { (found : Result Job JobFault) → Gives (Err fault.now) found → IsRefusal found result }
+{
+    if let JobFault::NoMemory = fault {
+        return Outcome::OutOfMemory;
+    }
+    match text_of_cause(alloc, fault) {
+        Ok(line) => Outcome::JobRefused(line),
+        Err(_) => Outcome::OutOfMemory,
     }
 }
 
 // Begins a core over the disk and runs a job with it.
 fn run_over<D: Disk>(alloc: Global, disk: D, job: &Job) -> Decided<D>
-    requires { IsSmall job.now }
+    requires { is_built job.now ≡ true }
     ensures over { ComesOfJob D.told D.faults job.now disk result.held result.outcome }
     ensures device { IsDiskFault result.outcome → Rose (D.faults disk) (D.faults (held_disk result.held)) }
     ensures later { D.faults disk ≤ D.faults (held_disk result.held) }
@@ -98,7 +156,7 @@ fn run_over<D: Disk>(alloc: Global, disk: D, job: &Job) -> Decided<D>
 
 // What a core is begun with for a job: no call is struck twice, and there are at most 255 faults.
 fn config_of(alloc: Global, job: &Job) -> Result<Config, NoMemory>
-    requires { IsSmall job.now }
+    requires { is_built job.now ≡ true }
     ensures config { IfOk result IsConfig }
     ensures callers { IfOk result (λ config. config.callers ≡ map (λ (caller : Caller). caller.cred) job.now.callers) }
     ensures start { IfOk result (λ config. config.start ≡ job.now.start) }
@@ -133,7 +191,7 @@ fn refused(fault: OpenFault) -> Outcome
 
 // Looks at the form of the image, and runs a job over a simple one.
 fn run_begun<D: Disk>(alloc: Global, mut core: Core<D>, job: &Job) -> Decided<D>
-    requires small { IsSmall job.now }
+    requires built { is_built job.now ≡ true }
     requires begun { IsBegunFor job.now core }
     requires right { Right D.told D.faults core }
     requires told { D.told core.disk ≡ D.told core.first }
@@ -169,7 +227,7 @@ fn given_back<D: Disk>(core: Core<D>, outcome: Outcome) -> Decided<D>
 
 // Runs a job over a simple image, and ends the run.
 fn run_simple<D: Disk>(alloc: Global, core: &mut Core<D>, job: &Job) -> Outcome
-    requires small { IsSmall job.now }
+    requires built { is_built job.now ≡ true }
     requires begun { IsBegunFor job.now core.old }
     requires told { D.told core.old.disk ≡ D.told core.old.first }
     requires simple { IfSome (D.told core.old.first) IsSimple }

@@ -1,11 +1,12 @@
 //! The program: it takes its words, a job from standard input and the image from a file, and ends with a
-//! status. `adapters` is the trusted edge: it counts each error of the system, and tells nothing of what
-//! files and pipes hold. `stand_ins` keeps the image from standing at a descriptor that was closed. `words`
-//! says which words are a command, by `specs/Commands.antt`.
+//! status. The adapters of `mb_host` are the trusted edge: they count each error of the system, and tell nothing of
+//! what files and pipes hold. `mb_commands` says which words are a command.
 #![tactic(auto)]
 
-mod adapters;
 mod blocks;
+mod built;
+#[cfg(test)]
+mod command_tests;
 mod deciding;
 #[cfg(test)]
 mod example_tests;
@@ -13,6 +14,8 @@ mod example_tests;
 mod fault_tests;
 mod files;
 mod finish;
+#[cfg(test)]
+mod job_tests;
 mod laws;
 mod membrane;
 mod opening;
@@ -23,24 +26,19 @@ mod roots;
 mod run_tests;
 mod runs;
 mod settling;
-mod stand_ins;
-#[cfg(test)]
-mod tests;
 #[cfg(test)]
 mod volumes;
-mod words;
 
-use adapters::{FileDisk, InSource, OutSink};
 use finish::Finish;
+use mb_commands::{Command, command_of, image_name};
 use mb_edge::write_whole;
+use mb_host::{FileDisk, InSource, OutSink, StandIns, Word8, Words};
 use membrane::membrane;
-use stand_ins::StandIns;
 use std::alloc::AllocError;
 use std::env::Env;
 use std::io::ErrorKind;
 use std::process::ExitCode;
 use std::{env, io};
-use words::{Word8, Words, image_name};
 
 // Words that are no text are no command.
 fn words_of<R: Env + AllocGlobal>(rt: &R) -> Result<Words, AllocError> {
@@ -75,7 +73,14 @@ fn main(rt: HostRuntime) -> ExitCode {
         return ExitCode::from(6);
     };
     let mut job = InSource::new(rt.reader());
-    let disk = FileDisk::new(&rt, Word8::from_vec(path), false);
+    let makes = matches!(
+        command_of(&words),
+        Some(Command::Mkfs {
+            blocks: _,
+            inodes: _
+        })
+    );
+    let disk = FileDisk::new(&rt, Word8::from_vec(path), makes);
     let Finish { status, held } = membrane(rt.alloc(), &words, &mut job, disk, &mut out);
     let _disk = held.into_disk();
     ExitCode::from(status)

@@ -6,16 +6,17 @@ ghost use Rattle.mb_top.specs.Outcomes.{HasEnded, IsPrinted, status_of, text_of}
 use crate::deciding::{Decided, decide};
 use crate::finish::Finish;
 use crate::outcomes::Outcome;
-use crate::words::Words;
 use mb_edge::{Disk, Sink, Source, write_whole};
+use mb_host::Words;
 use std::alloc::Global;
 
-/// The program over any source, disk and sink: reads the job, runs it over the disk's image, prints what
-/// comes of it, and gives the disk back.
+/// The program over any source, disk and sink: does what the words ask for, prints what comes of it, and gives the
+/// disk back. A `mkfs` makes a fresh volume on the disk; a `run` reads the job and runs it over the disk's image.
 ///
-/// The statuses: 0 done; 1 the words are no command; 2 the job is refused; 3 the volume is refused; 5 the
-/// disk failed at the opening or in the end of the run; 6 want of memory; 7 the output failed; 8 the input failed; 9 a job or an
-/// image of a form that is not read yet. `specs/Outcomes.antt` says when each comes.
+/// The statuses: 0 done; 1 the words are no command, or no volume has the sizes of a `mkfs`; 2 the job is refused; 3
+/// the volume is refused; 5 the disk failed at the opening, in `mkfs`, or in the end of the run; 6 want of memory; 7
+/// the output failed; 8 the input failed; 9 a command, a job or an image of a form that a later version has.
+/// `specs/Outcomes.antt` says when each comes.
 pub fn membrane<S: Source, D: Disk, K: Sink>(
     alloc: Global,
     words: &Words,
@@ -51,14 +52,14 @@ fn status_of(outcome: &Outcome) -> u8
     ensures { result ≡ status_of outcome.now }
 {
     match outcome {
-        Outcome::Ran(_) => 0,
+        Outcome::Ran(_) | Outcome::Made(_) => 0,
         Outcome::WordsRefused => 1,
-        Outcome::TooLong | Outcome::NotToml => 2,
+        Outcome::JobRefused(_) => 2,
         Outcome::NoBlocks | Outcome::BadSizes => 3,
         Outcome::DiskFault | Outcome::Unsettled(_) => 5,
         Outcome::OutOfMemory => 6,
         Outcome::InputFault => 8,
-        Outcome::JobNotBuilt | Outcome::ImageNotBuilt => 9,
+        Outcome::CommandNotBuilt | Outcome::JobNotBuilt | Outcome::ImageNotBuilt => 9,
     }
 }
 
@@ -68,13 +69,16 @@ fn text_of(outcome: &Outcome) -> &[u8]
     match outcome {
         Outcome::WordsRefused => b"words refused\n",
         Outcome::InputFault => b"input fault\n",
-        Outcome::TooLong => b"job refused: too long\n",
-        Outcome::NotToml => b"job refused: not toml\n",
         Outcome::DiskFault => b"disk fault\n",
         Outcome::NoBlocks => b"volume refused: block 1 rule 1\n",
         Outcome::BadSizes => b"volume refused: block 1 rule 2\n",
         Outcome::OutOfMemory => b"no memory\n",
-        Outcome::JobNotBuilt | Outcome::ImageNotBuilt => b"not built\n",
-        Outcome::Unsettled(text) | Outcome::Ran(text) => text.as_slice(),
+        Outcome::CommandNotBuilt | Outcome::JobNotBuilt | Outcome::ImageNotBuilt => {
+            b"not built\n"
+        }
+        Outcome::Made(line) => line.as_slice(),
+        Outcome::JobRefused(text) | Outcome::Unsettled(text) | Outcome::Ran(text) => {
+            text.as_slice()
+        }
     }
 }

@@ -1,29 +1,32 @@
-use mb_job::Text;
+use mb_commands::Line;
+use mb_jobs::Text;
 
 /// How the program ended, before it printed. `specs/Outcomes.antt` says when each comes, with its status
 /// and its text.
 #[derive(Drop)]
 pub enum Outcome {
-    /// The words are no command.
+    /// The words are no command, or no volume has the sizes of a `mkfs`.
     WordsRefused,
+    /// The command is one that a later version has.
+    CommandNotBuilt,
     /// The job could not be read.
     InputFault,
-    /// The job's text is too long.
-    TooLong,
-    /// The job's text is no TOML document.
-    NotToml,
-    /// The job is of a form that is not read yet.
+    /// The job's text is none; the text is the line with the first cause.
+    JobRefused(Text),
+    /// The job is of a form that is not run yet.
     JobNotBuilt,
-    /// The disk failed while the image was opened.
+    /// The disk failed while the image was opened, or made.
     DiskFault,
     /// The disk has no block 1 (rule 1).
     NoBlocks,
     /// The sizes in the super-block are out of their ranges (rule 2).
     BadSizes,
-    /// The image is of a form that is not read yet.
+    /// The image is of a form that is not run yet.
     ImageNotBuilt,
     /// There was no memory.
     OutOfMemory,
+    /// A fresh volume was made; the text is its line.
+    Made(Line),
     /// The job was run, and the disk failed in the end of the run; the text is its transcript and the line of the
     /// fault.
     Unsettled(Text),

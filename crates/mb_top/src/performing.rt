@@ -1,13 +1,13 @@
-ghost use Rattle.std.specs.Prelude.{◌≡◌, ◌≤◌, ◌∷◌, [], ℕ, Option, Some, None, OnOk, IfOk, IsErrOf, false};
+ghost use Rattle.std.specs.Prelude.{◌≡◌, ◌≤◌, ◌∷◌, [], ℕ, Option, Some, None, OnOk, IfOk, IsErrOf, true, false};
 ghost use Rattle.mb_core.specs.Events.{ended_by_device, logging};
 ghost use Rattle.mb_core.specs.Holds.{Right};
 ghost use Rattle.mb_core.specs.Ready.{MayFinish};
 ghost use Rattle.mb_core.specs.State.{seen};
 ghost use Rattle.mb_edge.specs.Causes.{Rose};
-ghost use Rattle.mb_job.specs.Small.{IsPlainCall, IsPlainPath};
 ghost use Rattle.mb_kinds.specs.Image.{Image};
 ghost use Rattle.mb_kinds.specs.declared.calls.How.TheVariants.{Reading};
 ghost use Rattle.mb_kinds.specs.declared.entries.Flight.{Flight};
+ghost use Rattle.mb_top.specs.Built.{is_plain_call, is_plain_path};
 ghost use Rattle.mb_top.specs.Plain.{Flies, IsPlainNow};
 ghost use Rattle.mb_top.specs.Reads.{ReadsOn};
 ghost use Rattle.mb_top.specs.Serving.{IsPerformedAt, LeadsFromRoot, MayLog, unchanged};
@@ -35,7 +35,7 @@ pub fn perform<D: Disk>(
     call: &Call,
     moment: u32,
 ) -> Result<Ready, ReadFault>
-    requires call { IsPlainCall call.now }
+    requires call { is_plain_call call.now ≡ true }
     requires flight { Flies core.old ticket.now call.now moment }
     requires running { core.old.recovers ≡ false }
     requires right { Right D.told D.faults core.old }
@@ -63,7 +63,7 @@ fn answer<D: Disk>(
     call: &Call,
     moment: u32,
 ) -> Result<Ready, ReadFault>
-    requires call { IsPlainCall call.now }
+    requires call { is_plain_call call.now ≡ true }
     requires right { Right D.told D.faults core.old }
     ensures performed { IfOk result (IsPerformedAt (seen D.told core.old) seat.now call.now moment) }
     ensures logs { IfOk result MayLog }
@@ -131,7 +131,7 @@ fn open<D: Disk>(
     seat: &Seat,
     path: &Path,
 ) -> Result<Ready, ReadFault>
-    requires path { IsPlainPath path.now }
+    requires path { is_plain_path path.now ≡ true }
     requires right { Right D.told D.faults core.old }
     ensures performed { IfOk result (λ ready. (moment : ℕ) → IsPerformedAt (seen D.told core.old) seat.now (Call.Open path.now Reading) moment ready) }
     ensures logs { IfOk result MayLog }
@@ -222,7 +222,7 @@ fn chmod<D: Disk>(
     mode: u16,
     moment: u32,
 ) -> Result<Ready, ReadFault>
-    requires path { IsPlainPath path.now }
+    requires path { is_plain_path path.now ≡ true }
     requires right { Right D.told D.faults core.old }
     ensures performed { IfOk result (IsPerformedAt (seen D.told core.old) seat.now (Call.Chmod path.now mode) moment) }
     ensures logs { IfOk result MayLog }

@@ -2,8 +2,8 @@ use crate::example_tests::HELLO_JOB;
 use crate::finish::Finish;
 use crate::membrane::membrane;
 use crate::volumes::{hello_volume, put, volume_with};
-use crate::words::{Word8, Words};
 use mb_edge::{Bytes, Fails, MemDisk, MemSink, MemSource};
+use mb_host::{Word8, Words};
 use std::alloc::{AllocError, Global};
 use std::test::Fail;
 

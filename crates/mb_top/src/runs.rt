@@ -3,11 +3,11 @@ ghost use Rattle.mb_core.specs.Enters.{LacksEntry};
 ghost use Rattle.mb_core.specs.Holds.{Right};
 ghost use Rattle.mb_core.specs.Ready.{MayFinish};
 ghost use Rattle.mb_core.specs.Results.{IsTicketOf};
-ghost use Rattle.mb_job.specs.Small.{IsPlainCall, IsSmall};
 ghost use Rattle.mb_kinds.specs.declared.calls.Call.{Call};
 ghost use Rattle.mb_kinds.specs.declared.entries.Flight.{Flight};
 ghost use Rattle.mb_plan.specs.Fires.{fires, IsSingle};
 ghost use Rattle.mb_plan.specs.declared.rules.Rule.{Rule};
+ghost use Rattle.mb_top.specs.Built.{is_built, is_plain_call};
 ghost use Rattle.mb_top.specs.Plain.{Flies, IsPlainNow};
 ghost use Rattle.mb_top.specs.Records.{first_finish};
 ghost use Rattle.mb_top.specs.Runs.{BeginsJob, IsRunOver};
@@ -16,7 +16,7 @@ ghost use Rattle.mb_top.specs.Underway.{Asks, HasRun, IsOpen, Keeps, Logs, Turns
 use crate::performing::perform;
 use mb_core::{Core, Enter, Finished, ReadFault, Ready, RollFault};
 use mb_edge::{Crossings, Disk, Hook, NoMemory, Word};
-use mb_job::Job;
+use mb_jobs::Job;
 use mb_kinds::{Call, Kind, Ticket};
 use mb_plan::PlanHook;
 use std::alloc::Global;
@@ -88,7 +88,7 @@ fn attempt<D: Disk>(
     ticket: &Ticket,
     call: &Call,
 ) -> Turn
-    requires call { IsPlainCall call.now }
+    requires call { is_plain_call call.now ≡ true }
     requires flight { Flies core.old ticket.now call.now ticket.now.moment }
     requires running { core.old.recovers ≡ false }
     requires single { All IsSingle hook.old.rules }
@@ -144,7 +144,7 @@ fn take_turn<D: Disk>(
     crossings: &mut Crossings,
     call: &Call,
 ) -> Turn
-    requires call { IsPlainCall call.now }
+    requires call { is_plain_call call.now ≡ true }
     requires mine { IsOpen call.now core.old.stand.flight }
     requires more { core.old.stand.flight ≡ None → core.old.stand.begun < core.old.config.most }
     requires single { All IsSingle hook.old.rules }
@@ -177,7 +177,7 @@ pub fn run_call<D: Disk>(
     call: &Call,
     ordinal: u32,
 ) -> Result<(), NoMemory>
-    requires call { IsPlainCall call.now }
+    requires call { is_plain_call call.now ≡ true }
     requires free { core.old.stand.flight ≡ None }
     requires ordinal { ordinal ≡ length core.old.history + 1 }
     requires more { core.old.stand.begun < core.old.config.most }
@@ -208,7 +208,7 @@ pub fn run_call<D: Disk>(
 /// Runs the calls of a job in the order of their indices, through the faults of its plan. The disk is read and not
 /// written. The only error is want of memory.
 pub fn run_calls<D: Disk>(alloc: Global, core: &mut Core<D>, job: &Job) -> Result<(), NoMemory>
-    requires small { IsSmall job.now }
+    requires built { is_built job.now ≡ true }
     requires begins { BeginsJob job.now core.old }
     requires right { Right D.told D.faults core.old }
     requires plain { IsPlainNow D.told core.old }

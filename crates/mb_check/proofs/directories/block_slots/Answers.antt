@@ -1,5 +1,4 @@
-use Rattle.std.proofs.Common.{◌≡◌, ℕ, List, ◌+◌, ◌*◌, ◌/◌, sym, ap, subst, ◌∙◌, Ok, Err, ◌<◌, refl, arith}
-use Rattle.mb_rules.specs.Items.{each_from, walked}
+use Rattle.std.proofs.Common.{◌≡◌, ◌+◌, ◌*◌, sym, ap, subst, ◌<◌, refl, arith}
 use Rattle.mb_rules.specs.Slots.{slot_items}
 use Rattle.mb_check.specs.SlotTests.{KnowsNames}
 use Rattle.mb_check_files.proofs.Eachs.{each_none, each_more, each_stops}

@@ -1,4 +1,4 @@
-use Rattle.std.proofs.Common.{◌≡◌, sym, ap, ◌∙◌, true, false}
+use Rattle.std.proofs.Common.{sym, ◌∙◌}
 use Rattle.mb_check.proofs.SlotWalks.{dots_fail, leads_fail, named_fail, slot_passes, once_by_names, knows_more}
 use Rattle.mb_check.proofs.directories.slot.Goals as goal
 

@@ -1,4 +1,4 @@
-use Rattle.std.proofs.Common.{◌≡◌, sym, ap, ◌∙◌, Some, slice_get}
+use Rattle.std.proofs.Common.{sym, ◌∙◌}
 use Rattle.mb_check.proofs.Leading.{found_at, leads_some}
 use Rattle.mb_check.proofs.slots.leads_there.Goals as goal
 

@@ -42,5 +42,6 @@ returns-clause-tells g c = if_told (g.D.Disk.told c.args.disk.now) _ (λ image t
     record {
       last = ap (λ n. 8 * (n - 2)) (sym are.low);
       table = told_of (g.D.Disk.told c.super_block.new.disk) image _ (c.super_block.ensures.told ∙ told) c.in_ok-held.ensures.kept (c.in_ok-table.ensures.none image.at);
+      few = c.in_ok-held.ensures.few;
       space = record { paid = (let p = tells.paid in let e = c.in_ok-held.held-is in cc); chain = (let p = tells.chain in let e = c.in_ok-held.free-is in cc) };
     })

@@ -11,8 +11,8 @@ returns-in-Need-collect g c = asked_walking (g.V.View.shown c.args.view.now) c.a
 
 pub returns-in-Done : goal.returns-in-Done
 returns-in-Done g c =
-    let same : c.deref.result.now ≡ c.in-Blocks.list.items = cc in
-    clears_by (g.V.View.shown c.args.view.now) c.args.changes.now c.put_all_back.new.changes c.args.ino c.args.moment c.in-Here.inode c.in-Here.ensures c.write_inode.new.changes c.in-Blocks.list.items c.in-Done.ensures.bytes.within
+    let same : c.deref.result.now ≡ c.arrange.new.list.items = cc in
+    clears_by (g.V.View.shown c.args.view.now) c.args.changes.now c.put_all_back.new.changes c.args.ino c.args.moment c.in-Here.inode c.in-Here.ensures c.write_inode.new.changes c.in-Blocks.list.items c.arrange.new.list.items c.arrange.ensures c.in-Done.ensures.bytes.within
     (λ blocks part. subst (IsDinodeWritten (over blocks (changed c.args.changes.now)) (over blocks (changed c.write_inode.new.changes)) c.args.ino) c.without_parts-holes.ensures (c.in-Done.ensures.written blocks part))
     c.in-Blocks.ensures c.put_all_back.result
     (subst (λ (xs : List ℕ). PutsAllBack (g.V.View.shown c.args.view.now) c.write_inode.new.changes c.put_all_back.new.changes xs c.put_all_back.result) same c.put_all_back.ensures)

@@ -1,9 +1,6 @@
 use Rattle.std.proofs.Common.{refl}
-use Rattle.mb_file.proofs.PuttingWhole.{whole_asked_own, whole_refused, whole_by}
+use Rattle.mb_file.proofs.PuttingWhole.{whole_refused, whole_by}
 use Rattle.mb_file.proofs.puts.put_whole.Goals as goal
-
-pub returns-in-Some : goal.returns-in-Some
-returns-in-Some g c = whole_asked_own (g.V.View.shown c.args.view.now) c.args.changes.now c.args.changes.now c.args.ino c.args.offset c.args.bytes.now c.args.moment c.in-Some.need c.in-Some.ensures
 
 pub returns-in-NoneLeft : goal.returns-in-NoneLeft
 returns-in-NoneLeft g c = whole_refused (g.V.View.shown c.args.view.now) c.args.changes.now c.put_bytes.new.changes c.args.ino c.args.offset c.args.bytes.now c.args.moment c.put_bytes.new.changes c.in-NoneLeft.ensures

@@ -11,9 +11,9 @@ returns-then-most-eq0-clause-answer g c = λ image tree part volume.
     found_nothing (g.V.View.shown c.args.view.now) c.new-changes.result c.new-changes.ensures image tree part volume c.args.ino c.args.offset c.args.count c.in-Here.inode c.readable-most.ensures.small c.in-Here.ensures c.readable-most.result c.readable-most.ensures.most c.if-most-eq0.true
     c.from_vec.result (c.from_vec.ensures ∙ c.new.ensures.items)
 
-pub returns-in-Some-clause-answer : goal.returns-in-Some-clause-answer
-returns-in-Some-clause-answer g c = λ image tree part volume.
-    asked_reading (g.V.View.shown c.args.view.now) c.new-changes.result c.new-changes.ensures image tree part volume c.args.ino c.args.offset c.args.count c.in-Some.need c.in-Some.ensures
+pub returns-in-Need-look-clause-answer : goal.returns-in-Need-look-clause-answer
+returns-in-Need-look-clause-answer g c = λ image tree part volume.
+    asked_reading (g.V.View.shown c.args.view.now) c.new-changes.result c.new-changes.ensures image tree part volume c.args.ino c.args.offset c.args.count c.in-Need-look.need c.in-Need-look.ensures
 
 pub returns-in-Bytes-clause-answer : goal.returns-in-Bytes-clause-answer
 returns-in-Bytes-clause-answer g c = λ image tree part volume.

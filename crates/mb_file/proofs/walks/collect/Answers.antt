@@ -1,4 +1,4 @@
-use Rattle.std.proofs.Common.{◌≡◌, ◌+◌, ◌-◌, subst, arith}
+use Rattle.std.proofs.Common.{◌≡◌, ◌+◌, ◌-◌, refl, subst, arith}
 use Rattle.mb_file.proofs.Listing.{HasCollected, collected_next, collected_all, asked_among}
 use Rattle.mb_file.proofs.walks.collect.Goals as goal
 
@@ -16,3 +16,9 @@ loop-passed-preserved g c =
 
 pub returns : goal.returns
 returns g c = collected_all (g.V.View.shown c.args.view.now) c.args.changes.now c.args.inode.now c.loop-passed.list.items (13 - c.loop-passed.passed) (omega (arith, c.loop-passed-test.false)) c.loop-passed.invariant
+
+pub returns-in-Some : goal.returns-in-Some
+returns-in-Some g c = (
+  c.in-Some.ensures.0,
+  asked_among (g.V.View.shown c.args.view.now) c.args.changes.now c.args.inode.now c.loop-place.place (c.loop-place.place - 9) c.address.result c.in-Some.need.first (omega (arith, c.loop-place-test.true)) refl c.address.ensures c.in-Some.ensures.1,
+)

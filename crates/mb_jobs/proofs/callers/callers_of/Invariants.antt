@@ -1,4 +1,4 @@
-use Rattle.std.proofs.Common.{◌≡◌, ◌≤◌, [], drop, length, map}
+use Rattle.std.proofs.Common.{◌≡◌, [], drop, length, map}
 use Rattle.mb_jobs.specs.Callers.{next_caller}
 use Rattle.mb_jobs.specs.Folds.{read_all}
 use Rattle.mb_jobs.proofs.callers.callers_of.Given as goal

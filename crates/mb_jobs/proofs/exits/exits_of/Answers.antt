@@ -1,4 +1,4 @@
-use Rattle.std.proofs.Common.{◌≡◌, ◌∷◌, get_or, length, sym, ◌∙◌, arith, append_assoc}
+use Rattle.std.proofs.Common.{arith}
 use Rattle.mb_jobs.proofs.ExitPlaces.{exits_more}
 use Rattle.mb_jobs.proofs.exits.exits_of.Goals as goal
 

@@ -1,4 +1,4 @@
-use Rattle.std.proofs.Common.{◌≡◌, ◌≤◌, [], drop, length, map}
+use Rattle.std.proofs.Common.{◌≡◌, drop, length, map}
 use Rattle.mb_jobs.specs.Rules.{rules_in, rule_in}
 use Rattle.mb_jobs.specs.Folds.{read_all}
 use Rattle.mb_jobs.proofs.rules.rules_over.Given as goal

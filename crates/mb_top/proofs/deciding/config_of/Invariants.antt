@@ -1,5 +1,5 @@
 use Rattle.std.proofs.Common.{◌≡◌, map, take}
-use Rattle.mb_job.specs.declared.jobs.Caller.{Caller}
+use Rattle.mb_jobs.specs.declared.jobs.Caller.{Caller}
 use Rattle.mb_top.proofs.deciding.config_of.Given as goal
 
 abbrev pub invariant-loop-caller : goal.invariant-loop-caller

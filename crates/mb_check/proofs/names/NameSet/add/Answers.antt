@@ -1,4 +1,4 @@
-use Rattle.std.proofs.Common.{◌≡◌, not, ap, ◌∙◌, sym}
+use Rattle.std.proofs.Common.{not, ap, ◌∙◌}
 use Rattle.mb_check.proofs.Naming.{named_keys, named_more}
 use Rattle.mb_check.proofs.names.NameSet.add.Goals as goal
 

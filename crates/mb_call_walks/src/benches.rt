@@ -1,0 +1,118 @@
+ghost use Rattle.std.specs.Prelude.{◌<◌, IfOk, length};
+ghost use Rattle.mb_tree.specs.Sessions.{HasDescriptorInRange};
+
+use crate::volumes::{Gathered, fresh, gather, nothing};
+use mb_calls::{Performed, Performing, Ready, perform, walks_go_on};
+use mb_fsops::V7;
+use mb_iface::Opens;
+use mb_kinds::{Call, Cred, Creds, Reply};
+use mb_tables::Tables;
+use mb_tree::Seat;
+use std::alloc::Global;
+use std::test::Fail;
+
+/// A volume in memory with its callers' sessions and the counts of their open files.
+#[derive(Drop)]
+pub struct Bench {
+    heap: Global,
+    disk: Gathered,
+    tables: Tables,
+}
+
+/// What a call was answered, and the number of the inode that it made.
+#[derive(Drop)]
+pub struct Answered {
+    pub reply: Reply,
+    pub pick: Option<u16>,
+}
+
+/// Goes on with a call until it asks for no block any longer.
+fn ready(
+    heap: Global,
+    disk: &Gathered,
+    seats: &[Seat],
+    opens: &Opens,
+    caller: u8,
+    call: &Call,
+    moment: u32,
+) -> Result<Ready, Fail>
+    requires { caller < length seats.now }
+    ensures { IfOk result (λ ready. HasDescriptorInRange ready.session) }
+{
+    walks_go_on();
+    let mut view = nothing(heap);
+    let mut performing = Performing::new(&seats[usize::from(caller)]);
+    for _ in 0..400 {
+        match performing.go(heap, &V7, &view, seats, opens, caller, call, moment) {
+            Performed::Ready(ready) => return Ok(ready),
+            Performed::Need(need) => gather(disk, &mut view, need)?,
+            Performed::NoMemory => return Err("no memory".into()),
+        }
+    }
+    Err("a call asks too often".into())
+}
+
+impl Bench {
+    /// The fresh volume of 100 blocks and 16 inodes, with callers that begin.
+    pub fn new(heap: Global, callers: &Creds) -> Result<Bench, Fail> {
+        Ok(Bench {
+            heap,
+            disk: fresh(heap)?,
+            tables: Tables::new(heap, callers)?,
+        })
+    }
+
+    /// The same with one caller, of uid 0 and gid 0.
+    pub fn of_root(heap: Global) -> Result<Bench, Fail> {
+        let creds = Creds::from_vec([Cred { uid: 0, gid: 0 }].to_vec(heap)?);
+        Bench::new(heap, &creds)
+    }
+
+    /// The sessions of all callers.
+    fn seats(&self) -> Result<Vec<Seat>, Fail> {
+        let sessions = self.tables.sessions();
+        let mut seats = Vec::new(self.heap);
+        for caller in 0..sessions.callers() {
+            seats.push(sessions.seat(caller).copied())?;
+        }
+        Ok(seats)
+    }
+
+    /// What a call comes to, before anything is changed.
+    fn planned(&self, caller: u8, call: &Call, moment: u32) -> Result<Ready, Fail>
+        ensures { IfOk result (λ ready. HasDescriptorInRange ready.session) }
+    {
+        let seats = self.seats()?;
+        if usize::from(caller) >= seats.len() {
+            return Err("there is no such caller".into());
+        }
+        let opens = self.tables.opens();
+        ready(self.heap, &self.disk, &seats, opens, caller, call, moment)
+    }
+
+    /// What a call of the first caller comes to where all blocks are there from the beginning.
+    pub fn performed(&self, call: &Call, moment: u32) -> Result<Performed, Fail> {
+        let seats = self.seats()?;
+        if seats.is_empty() {
+            return Err("there is no caller".into());
+        }
+        let opens = self.tables.opens();
+        let performed = perform(self.heap, &V7, &self.disk, &seats, opens, 0, call, moment);
+        Ok(performed)
+    }
+
+    /// Makes a call.
+    pub fn call(&mut self, caller: u8, call: &Call, moment: u32) -> Result<Answered, Fail> {
+        let ready = self.planned(caller, call, moment)?;
+        if caller >= self.tables.sessions().callers() || self.tables.stamp() == u64::MAX {
+            return Err("a session cannot change".into());
+        }
+        self.tables
+            .log(caller, &ready.op, ready.pick, ready.session)?;
+        self.disk.blocks.absorb(ready.changes)?;
+        Ok(Answered {
+            reply: ready.reply,
+            pick: ready.pick,
+        })
+    }
+}

@@ -1,0 +1,69 @@
+ghost use Rattle.std.specs.Prelude.{◌≡◌, ◌≤◌, ◌<◌, ◌+◌, [], ℕ, Some, length, OnOk, OnErr, option_copied};
+ghost use Rattle.mb_cache.specs.State.{ReadHasCause, seen};
+ghost use Rattle.mb_callers.specs.Reads.{GathersSeen};
+
+use crate::copies::Copies;
+use crate::reads::{Reads, fetch};
+use mb_cache::{Cache, ReadFault};
+use mb_edge::Disk;
+use mb_iface::{Need, View};
+use std::alloc::Global;
+use std::marker::Model;
+
+/// Blocks as they are seen, gathered for an operation that is done again: they are not pinned, and kept for no call. A
+/// contract sees their copies, each block once.
+#[derive(Drop)]
+pub struct Blocks {
+    copies: Copies,
+    reads: Reads,
+}
+
+impl Model for Blocks {
+    ghost use Rattle.mb_core_spec.specs.Copies.{CopyList};
+
+    ghost Value = { CopyList };
+
+    ghost view = { λ b. b.copies.items };
+}
+
+impl Blocks {
+    /// No block; needs no memory.
+    pub fn new(alloc: Global) -> Blocks
+        ensures { result ≡ [] }
+    {
+        Blocks {
+            copies: Copies::new(alloc),
+            reads: Reads::new(alloc),
+        }
+    }
+
+    /// Gathers what is needed, as it is seen. `Device` comes only where the disk's count of faults rose; on an error
+    /// nothing has changed but the disk.
+    pub fn gather<D: Disk>(&mut self, cache: &mut Cache<D>, need: Need) -> Result<(), ReadFault>
+        requires first { need.first < 262144 }
+        requires count { need.count ≤ 32 }
+        ensures ok { OnOk result (GathersSeen (seen D.told cache.old) need.first need.count self.old self.new) }
+        ensures err { OnErr result (self.new ≡ self.old) }
+        ensures rest { cache.new ≡ record cache.old { disk = cache.new.disk } }
+        ensures told { D.told cache.new.disk ≡ D.told cache.old.disk }
+        ensures cause { ReadHasCause (D.faults cache.old.disk) (D.faults cache.new.disk) result }
+    {
+        fetch(cache, &mut self.reads, need.first, need.count)?;
+        self.copies.reserve(self.reads.len())?;
+        self.copies.store(&self.reads);
+        Ok(())
+    }
+}
+
+impl View for Blocks {
+    ghost use Rattle.mb_core_spec.specs.Copies.{shown};
+
+    ghost shown = { λ b. shown b };
+
+    fn get(&self, block: u32) -> Option<&[u8; 512]> {
+        match self.copies.get(block) {
+            Some(kept) => Some(kept.bytes()),
+            None => None,
+        }
+    }
+}

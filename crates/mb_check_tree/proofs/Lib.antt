@@ -1,0 +1,5 @@
+pub mod Fillings
+pub mod NodesRead
+pub mod SlotListings
+pub mod SweptNodes
+pub mod WholeFiles

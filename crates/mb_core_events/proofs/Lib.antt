@@ -1,0 +1,9 @@
+mod Kept
+mod Knowing
+mod Phases
+mod RightsOfCalls
+mod RightsOfEnter
+mod RightsOfFinish
+mod RightsOfGather
+mod RightsOfRecovery
+mod RightsOfRedo

@@ -1,0 +1,52 @@
+use crate::volumes::{Ended, cost, empty_on, free, fresh, put_on, size};
+use mb_kinds::Errno;
+use std::test::Fail;
+
+/// 94 parts and one index block use the 95 free blocks up.
+#[test]
+fn file_fills_the_volume(rt: HostRuntime) -> Result<(), Fail> {
+    let mut disk = fresh(rt.alloc())?;
+    assert_eq!(rt; (cost(&disk), free(&disk)), (1, 95));
+    let bytes = vec![in rt.alloc(); 65; 48_128]?;
+    let _ = put_on(rt.alloc(), &mut disk, 0, &bytes)?;
+    assert_eq!(rt; (cost(&disk), free(&disk), size(&disk)), (96, 0, 48_128));
+    Ok(())
+}
+
+/// One byte more has no block, and the same bytes again need none.
+#[test]
+fn full_volume_refuses_a_byte(rt: HostRuntime) -> Result<(), Fail> {
+    let mut disk = fresh(rt.alloc())?;
+    let bytes = vec![in rt.alloc(); 65; 48_128]?;
+    let _ = put_on(rt.alloc(), &mut disk, 0, &bytes)?;
+    let more = put_on(rt.alloc(), &mut disk, 48_128, &[1])?;
+    assert_eq!(rt; matches!(more, Ended::Refused(Errno::ENOSPC, _)), true);
+    let again = put_on(rt.alloc(), &mut disk, 0, &bytes)?;
+    assert_eq!(rt; matches!(again, Ended::Done(_)), true);
+    assert_eq!(rt; (cost(&disk), size(&disk)), (96, 48_128));
+    Ok(())
+}
+
+/// No byte stands at the greatest size or past it.
+#[test]
+fn greatest_size_is_kept(rt: HostRuntime) -> Result<(), Fail> {
+    let mut disk = fresh(rt.alloc())?;
+    let past = put_on(rt.alloc(), &mut disk, 1_082_201_088, &[1])?;
+    assert_eq!(rt; past, Ended::Refused(Errno::EFBIG, 0));
+    let over = put_on(rt.alloc(), &mut disk, 1_082_201_087, &[1, 1])?;
+    assert_eq!(rt; over, Ended::Refused(Errno::EFBIG, 0));
+    Ok(())
+}
+
+/// An emptied file gives all back, and its last byte needs three index blocks.
+#[test]
+fn emptied_file_gives_its_blocks_back(rt: HostRuntime) -> Result<(), Fail> {
+    let mut disk = fresh(rt.alloc())?;
+    let bytes = vec![in rt.alloc(); 65; 48_128]?;
+    let _ = put_on(rt.alloc(), &mut disk, 0, &bytes)?;
+    let _ = empty_on(rt.alloc(), &mut disk)?;
+    assert_eq!(rt; (cost(&disk), free(&disk), size(&disk)), (1, 95, 0));
+    let _ = put_on(rt.alloc(), &mut disk, 1_082_201_087, &[1])?;
+    assert_eq!(rt; (cost(&disk), free(&disk)), (5, 91));
+    Ok(())
+}

@@ -1,0 +1,179 @@
+use mb_edge::{Bytes, Disk, Fails, MemDisk};
+use mb_file::{empty, put, read};
+use mb_iface::{Acted, Answer, Asked, Changes, Need, View};
+use mb_kinds::{Errno, Octets};
+use mb_layout::Dinode;
+use mb_mkfs::make;
+use mb_word::{long_at, word_at};
+use std::alloc::Global;
+use std::test::Fail;
+
+/// The blocks that somebody has gathered.
+#[derive(Drop)]
+pub struct Gathered {
+    pub blocks: Changes,
+}
+
+impl View for Gathered {
+    ghost use Rattle.mb_iface.specs.Changed.{changed};
+
+    ghost shown = { λ g. changed g.blocks };
+
+    fn get(&self, block: u32) -> Option<&[u8; 512]> {
+        self.blocks.get(block)
+    }
+}
+
+/// No block.
+fn nothing(heap: Global) -> Gathered {
+    Gathered {
+        blocks: Changes::new(heap),
+    }
+}
+
+/// The fresh volume of 100 blocks and 16 inodes, in which inode 3 is a regular file of no bytes.
+pub fn fresh(heap: Global) -> Result<Gathered, Fail> {
+    let image = Bytes::from_vec(Vec::new(heap));
+    let never = Fails::new(heap);
+    let mut device = MemDisk::new(heap, image, 100, never, Fails::new(heap), Fails::new(heap))?;
+    if make(&mut device, 100, 16).is_err() {
+        return Err("no volume is made".into());
+    }
+    let mut disk = nothing(heap);
+    let mut bytes = [0; 512];
+    for block in 0..100 {
+        if device.read(block, &mut bytes).is_err() {
+            return Err("a block is not read".into());
+        }
+        disk.blocks.put(block, &bytes)?;
+    }
+    // the mode 0100644, in the third inode of the i-list's first block
+    let _ = disk.blocks.patch(2, 128, &[0xa4, 0x81]);
+    Ok(disk)
+}
+
+/// Gathers the blocks that are asked for, the first of which has to be lacking.
+fn gather(disk: &Gathered, view: &mut Gathered, need: Need) -> Result<(), Fail> {
+    if view.get(need.first).is_some() {
+        return Err("a block is asked for that is there".into());
+    }
+    for block in need.first..need.first.saturating_add(need.count).min(100) {
+        if let Some(bytes) = disk.get(block) {
+            view.blocks.put(block, bytes)?;
+        }
+    }
+    Ok(())
+}
+
+/// What an operation came to: its changes are made, or it is refused, with how often it asked.
+#[derive(Clone, Copy, Debug, PartialEq, Drop)]
+pub enum Ended {
+    Done(u32),
+    Refused(Errno, u32),
+}
+
+/// Puts bytes into inode 3, from a view of nothing.
+pub fn put_on(heap: Global, disk: &mut Gathered, offset: u32, bytes: &[u8]) -> Result<Ended, Fail> {
+    let mut view = nothing(heap);
+    for asked in 0..400 {
+        match put(heap, &view, 3, offset, bytes, 7) {
+            Acted::Done { changes, .. } => {
+                disk.blocks.absorb(changes)?;
+                return Ok(Ended::Done(asked));
+            }
+            Acted::Refused(error) => return Ok(Ended::Refused(error, asked)),
+            Acted::Need(need) => gather(disk, &mut view, need)?,
+            Acted::NoMemory => return Err("no memory".into()),
+        }
+    }
+    Err("a put asks too often".into())
+}
+
+/// Empties inode 3, from a view of nothing.
+pub fn empty_on(heap: Global, disk: &mut Gathered) -> Result<Ended, Fail> {
+    let mut view = nothing(heap);
+    for asked in 0..400 {
+        match empty(heap, &view, 3, 8) {
+            Acted::Done { changes, .. } => {
+                disk.blocks.absorb(changes)?;
+                return Ok(Ended::Done(asked));
+            }
+            Acted::Refused(error) => return Ok(Ended::Refused(error, asked)),
+            Acted::Need(need) => gather(disk, &mut view, need)?,
+            Acted::NoMemory => return Err("no memory".into()),
+        }
+    }
+    Err("an emptying asks too often".into())
+}
+
+/// Reads bytes of inode 3, from a view of nothing.
+pub fn read_on(heap: Global, disk: &Gathered, offset: u32, count: u16) -> Result<Octets, Fail> {
+    let mut view = nothing(heap);
+    for _ in 0..400 {
+        match read(heap, &view, 3, offset, count) {
+            Asked::Found(Answer::Bytes(bytes)) => return Ok(bytes),
+            Asked::Need(need) => gather(disk, &mut view, need)?,
+            _ => return Err("no bytes are read".into()),
+        }
+    }
+    Err("a read asks too often".into())
+}
+
+/// How many blocks an address leads to, so many levels of index blocks down.
+fn held_under(disk: &Gathered, address: u32, levels: u8) -> u32 {
+    if address == 0 {
+        return 0;
+    }
+    let mut held = 1u32;
+    if levels > 0 {
+        if let Some(index) = disk.get(address) {
+            for place in 0..128usize {
+                let below = held_under(disk, long_at(index, 4 * place), levels - 1);
+                held = held.saturating_add(below);
+            }
+        }
+    }
+    held
+}
+
+/// The blocks in use: the root's, and those that inode 3 holds.
+pub fn cost(disk: &Gathered) -> u32 {
+    let Some(inodes) = disk.get(2) else {
+        return 0;
+    };
+    let inode = Dinode::read(inodes, 2);
+    let mut held = 1u32;
+    for place in 0..13u8 {
+        let levels = place.saturating_sub(9);
+        held = held.saturating_add(held_under(disk, inode.address(place), levels));
+    }
+    held
+}
+
+/// The blocks of the free chain, list after list.
+pub fn free(disk: &Gathered) -> u32 {
+    let mut free = 0u32;
+    let mut holder = 1;
+    for _ in 0..100 {
+        let Some(list) = disk.get(holder) else {
+            return free;
+        };
+        let at = if holder == 1 { 6 } else { 0 };
+        let count = u32::from(word_at(list, at));
+        let next = long_at(list, at + 2);
+        if next == 0 {
+            return free.saturating_add(count.saturating_sub(1));
+        }
+        free = free.saturating_add(count);
+        holder = next;
+    }
+    free
+}
+
+/// The size of inode 3.
+pub fn size(disk: &Gathered) -> u32 {
+    let Some(inodes) = disk.get(2) else {
+        return 0;
+    };
+    Dinode::read(inodes, 2).size
+}

@@ -1,0 +1,345 @@
+use mb_edge::{Bytes, Disk, Fails, MemDisk};
+use mb_fsops::V7;
+use mb_iface::{Acted, Answer, Asked, Changes, FileSys, Need, Opens, Query, View};
+use mb_kinds::{Cred, Errno, Name, Octets, Path, Stat};
+use mb_mkfs::make;
+use mb_tree::{FsOp, Inos};
+use std::alloc::Global;
+use std::test::Fail;
+
+/// The root directory.
+pub const ROOT: u16 = 2;
+
+/// The blocks that somebody has gathered.
+#[derive(Drop)]
+pub struct Gathered {
+    pub blocks: Changes,
+}
+
+impl View for Gathered {
+    ghost use Rattle.mb_iface.specs.Changed.{changed};
+
+    ghost shown = { λ g. changed g.blocks };
+
+    fn get(&self, block: u32) -> Option<&[u8; 512]> {
+        self.blocks.get(block)
+    }
+}
+
+/// No block.
+fn nothing(heap: Global) -> Gathered {
+    Gathered {
+        blocks: Changes::new(heap),
+    }
+}
+
+/// A volume in memory with the open files on it.
+#[derive(Drop)]
+pub struct Volume {
+    heap: Global,
+    blocks: Gathered,
+    opens: Opens,
+}
+
+/// What an operation came to.
+#[derive(Clone, Copy, Debug, PartialEq, Drop)]
+pub enum Ended {
+    Done(Option<u16>),
+    Refused(Errno),
+}
+
+/// The fresh volume of 100 blocks and 16 inodes, which has the root alone.
+pub fn fresh(heap: Global) -> Result<Volume, Fail> {
+    let none = Fails::new(heap);
+    let mut disk = MemDisk::new(
+        heap,
+        Bytes::new(heap),
+        100,
+        none,
+        Fails::new(heap),
+        Fails::new(heap),
+    )?;
+    if make(&mut disk, 100, 16).is_err() {
+        return Err("no volume is made".into());
+    }
+    Ok(Volume {
+        heap,
+        blocks: whole(heap, &mut disk)?,
+        opens: Opens::new(heap),
+    })
+}
+
+/// All blocks of a disk of 100.
+fn whole(heap: Global, disk: &mut MemDisk) -> Result<Gathered, Fail> {
+    let mut all = nothing(heap);
+    let mut bytes = [0; 512];
+    for block in 0..100 {
+        if disk.read(block, &mut bytes).is_err() {
+            return Err("a block is not read".into());
+        }
+        all.blocks.put(block, &bytes)?;
+    }
+    Ok(all)
+}
+
+/// Gathers the blocks that are asked for, the first of which has to be lacking.
+fn gather(disk: &Gathered, view: &mut Gathered, need: Need) -> Result<(), Fail> {
+    if view.get(need.first).is_some() {
+        return Err("a block is asked for that is there".into());
+    }
+    for block in need.first..need.first.saturating_add(need.count).min(100) {
+        if let Some(bytes) = disk.get(block) {
+            view.blocks.put(block, bytes)?;
+        }
+    }
+    Ok(())
+}
+
+/// Asks a file system until it asks for no block any longer.
+fn asked<F: FileSys>(fs: F, heap: Global, disk: &Gathered, query: &Query) -> Result<Asked, Fail> {
+    let mut view = nothing(heap);
+    for _ in 0..100 {
+        match fs.ask(heap, &view, query) {
+            Asked::Need(need) => gather(disk, &mut view, need)?,
+            other => return Ok(other),
+        }
+    }
+    Err("a query asks too often".into())
+}
+
+/// Lets a file system act until it asks for no block any longer.
+fn acted<F: FileSys>(
+    fs: F,
+    heap: Global,
+    disk: &Gathered,
+    opens: &Opens,
+    op: &FsOp,
+    pick: Option<u16>,
+) -> Result<Acted, Fail> {
+    let mut view = nothing(heap);
+    for _ in 0..100 {
+        match fs.act(heap, &view, opens, op, pick) {
+            Acted::Need(need) => gather(disk, &mut view, need)?,
+            other => return Ok(other),
+        }
+    }
+    Err("an operation asks too often".into())
+}
+
+/// Does an operation on the volume, with a demanded number or without one.
+fn perform(volume: &mut Volume, op: &FsOp, pick: Option<u16>) -> Result<Ended, Fail> {
+    match acted(V7, volume.heap, &volume.blocks, &volume.opens, op, pick)? {
+        Acted::Done { changes, pick } => {
+            volume.blocks.blocks.absorb(changes)?;
+            Ok(Ended::Done(pick))
+        }
+        Acted::Refused(error) => Ok(Ended::Refused(error)),
+        _ => Err("no end".into()),
+    }
+}
+
+/// Does an operation, which has to end so.
+fn ends(volume: &mut Volume, op: &FsOp, wanted: Ended) -> Result<(), Fail> {
+    if perform(volume, op, None)? == wanted {
+        Ok(())
+    } else {
+        Err("another end".into())
+    }
+}
+
+/// A name as a slot has it.
+fn named(text: &[u8]) -> Name {
+    let mut name = [0; 14];
+    for (k, byte) in text.iter().enumerate() {
+        if k < 14 {
+            name[k] = *byte;
+        }
+    }
+    name
+}
+
+/// The making of a file under a name of the directory.
+fn creation(dir: u16, text: &[u8]) -> FsOp {
+    FsOp::Create {
+        dir,
+        name: named(text),
+        mode: 0o644,
+        uid: 5,
+        gid: 6,
+        moment: 7,
+    }
+}
+
+/// Makes a file under a name of a directory.
+pub fn creates(volume: &mut Volume, dir: u16, text: &[u8], wanted: Ended) -> Result<(), Fail> {
+    ends(volume, &creation(dir, text), wanted)
+}
+
+/// Makes a file with a demanded number under a name of the root.
+pub fn creates_as(volume: &mut Volume, text: &[u8], ino: u16) -> Result<(), Fail> {
+    if perform(volume, &creation(ROOT, text), Some(ino))? == Ended::Done(Some(ino)) {
+        Ok(())
+    } else {
+        Err("another number".into())
+    }
+}
+
+/// Makes a directory under a name of the root.
+pub fn makes_dir(volume: &mut Volume, text: &[u8], wanted: Ended) -> Result<(), Fail> {
+    let op = FsOp::MakeDir {
+        dir: ROOT,
+        name: named(text),
+        mode: 0o755,
+        uid: 5,
+        gid: 6,
+        moment: 7,
+    };
+    ends(volume, &op, wanted)
+}
+
+/// Removes a directory by its name in the root.
+pub fn removes_dir(volume: &mut Volume, text: &[u8], wanted: Ended) -> Result<(), Fail> {
+    let op = FsOp::RemoveDir {
+        dir: ROOT,
+        name: named(text),
+        moment: 8,
+    };
+    ends(volume, &op, wanted)
+}
+
+/// Enters a further name of an inode in the root.
+pub fn enlinks(volume: &mut Volume, text: &[u8], ino: u16, wanted: Ended) -> Result<(), Fail> {
+    let op = FsOp::Enlink {
+        dir: ROOT,
+        name: named(text),
+        ino,
+        moment: 8,
+    };
+    ends(volume, &op, wanted)
+}
+
+/// Takes a name out of the root.
+pub fn delinks(volume: &mut Volume, text: &[u8], wanted: Ended) -> Result<(), Fail> {
+    let op = FsOp::Delink {
+        dir: ROOT,
+        name: named(text),
+        moment: 8,
+    };
+    ends(volume, &op, wanted)
+}
+
+/// Puts bytes into a file.
+pub fn puts(volume: &mut Volume, ino: u16, offset: u32, text: &[u8]) -> Result<(), Fail> {
+    if text.len() > 65_535 {
+        return Err("too many bytes".into());
+    }
+    let op = FsOp::Put {
+        ino,
+        offset,
+        bytes: Octets::from_vec(text.to_vec(volume.heap)?),
+        moment: 9,
+    };
+    ends(volume, &op, Ended::Done(None))
+}
+
+/// Counts one open file on an inode.
+pub fn opens(volume: &mut Volume, ino: u16) -> Result<(), Fail> {
+    volume.opens.set(ino, 1)?;
+    Ok(())
+}
+
+/// Lets the one open file on an inode go.
+pub fn releases(volume: &mut Volume, ino: u16) -> Result<(), Fail> {
+    let op = FsOp::Release {
+        inos: Inos::from_vec([ino].to_vec(volume.heap)?),
+    };
+    ends(volume, &op, Ended::Done(None))?;
+    volume.opens.set(ino, 0)?;
+    Ok(())
+}
+
+/// Finds a path.
+fn found(volume: &Volume, text: &[u8]) -> Result<Asked, Fail> {
+    if text.len() > 255 || text.contains(&0) {
+        return Err("no path".into());
+    }
+    let query = Query::Find {
+        cwd: ROOT,
+        cred: Cred { uid: 5, gid: 6 },
+        path: Path::from_vec(text.to_vec(volume.heap)?),
+    };
+    asked(V7, volume.heap, &volume.blocks, &query)
+}
+
+/// A path leads to this inode.
+pub fn leads_to(volume: &Volume, text: &[u8], ino: u16) -> Result<(), Fail> {
+    match found(volume, text)? {
+        Asked::Found(Answer::Node(stat)) => {
+            if stat.ino == ino {
+                Ok(())
+            } else {
+                Err("another inode is found".into())
+            }
+        }
+        _ => Err("no inode is found".into()),
+    }
+}
+
+/// A path leads nowhere.
+pub fn is_missing(volume: &Volume, text: &[u8]) -> Result<(), Fail> {
+    match found(volume, text)? {
+        Asked::Refused(Errno::ENOENT) => Ok(()),
+        _ => Err("the path is there".into()),
+    }
+}
+
+/// What stat tells of an inode.
+fn info(volume: &Volume, ino: u16) -> Result<Stat, Fail> {
+    match asked(V7, volume.heap, &volume.blocks, &Query::Info { ino })? {
+        Asked::Found(Answer::Node(stat)) => Ok(stat),
+        _ => Err("no inode".into()),
+    }
+}
+
+/// An inode has this mode, so many links and so many bytes.
+pub fn is_so(volume: &Volume, ino: u16, mode: u16, nlink: u16, size: u32) -> Result<(), Fail> {
+    let stat = info(volume, ino)?;
+    if stat.mode == mode && stat.nlink == nlink && stat.size == size {
+        Ok(())
+    } else {
+        Err("another mode, count of links or size".into())
+    }
+}
+
+/// So many slots of a directory are in use.
+pub fn counts(volume: &Volume, ino: u16, wanted: u32) -> Result<(), Fail> {
+    match asked(V7, volume.heap, &volume.blocks, &Query::Used { ino })? {
+        Asked::Found(Answer::Used(count)) => {
+            if count == wanted {
+                Ok(())
+            } else {
+                Err("another count".into())
+            }
+        }
+        _ => Err("no count".into()),
+    }
+}
+
+/// A read of 100 bytes of a file gets these.
+pub fn reads(volume: &Volume, ino: u16, offset: u32, wanted: &[u8]) -> Result<(), Fail> {
+    let query = Query::Bytes {
+        ino,
+        offset,
+        count: 100,
+    };
+    match asked(V7, volume.heap, &volume.blocks, &query)? {
+        Asked::Found(Answer::Bytes(bytes)) => {
+            if bytes.as_slice() == wanted {
+                Ok(())
+            } else {
+                Err("other bytes".into())
+            }
+        }
+        _ => Err("no bytes".into()),
+    }
+}

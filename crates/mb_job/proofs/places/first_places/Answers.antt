@@ -1,5 +1,0 @@
-use Rattle.mb_job.proofs.Remaining.{zero_anywhere}
-use Rattle.mb_job.proofs.places.first_places.Goals as goal
-
-pub returns : goal.returns
-returns c = λ caller. zero_anywhere 256 caller

@@ -1,6 +1,0 @@
-use Rattle.std.proofs.Common.{sym}
-use Rattle.mb_job.proofs.Strokes.{rule_of_words-short}
-use Rattle.mb_job.proofs.rules.of_words.Goals as goal
-
-pub returns-in_default : goal.returns-in_default
-returns-in_default c = sym (rule_of_words-short (λ word. word.now) c.args.count c.args.words.now c.in_default.len_below)

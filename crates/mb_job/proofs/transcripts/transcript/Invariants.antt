@@ -1,5 +1,0 @@
-use Rattle.mb_job.proofs.Remaining.{Goes}
-use Rattle.mb_job.proofs.transcripts.transcript.Given as goal
-
-abbrev pub invariant-entries : goal.invariant-entries
-invariant-entries l = Goes l.callers l.calls l.history l.places l.index l.out.items
