@@ -13,7 +13,7 @@ use Rattle.mb_kinds.specs.declared.faults.Ticket.{Ticket}
 use Rattle.mb_run.specs.Events.{Stays, Strikes}
 use Rattle.mb_run.specs.Served.{Acts}
 use Rattle.mb_run.specs.Sights.{Sight}
-use Rattle.mb_run.proofs.Lists.{all_both, own_other}
+use Rattle.mb_run.proofs.Lists.{all_both}
 
 pub acts_same : (caller : ℕ) (s : Sight) → Acts caller s s
 acts_same caller s = record {

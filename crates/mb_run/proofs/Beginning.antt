@@ -1,13 +1,12 @@
 -- A job at its beginning.
-use Rattle.std.proofs.Common.{◌≡◌, List, [], ◌∷◌, ℕ, zero, suc, ◌+◌, ◌<◌, ◌≤◌, Bool, refl, ap, sym, subst, ◌∙◌, arith, Option, None, Some, length, take, slice_get, slice_index}
+use Rattle.std.proofs.Common.{◌≡◌, List, [], ◌∷◌, ℕ, zero, suc, ◌+◌, ◌<◌, ◌≤◌, Bool, refl, ap, sym, subst, ◌∙◌, arith, Option, None, Some, length, take, slice_get}
 use Rattle.std.proofs.lemmas.List.{length-take-le}
 use Rattle.std.proofs.lemmas.Option.{same_Some, slice_get_within}
-use Rattle.mb_edge.specs.Crossings.{place_of}
 use Rattle.mb_edge.specs.declared.crossings.Crossing.{Crossing}
 use Rattle.mb_jobs.specs.declared.jobs.Job.{Job}
 use Rattle.mb_jobs.specs.declared.jobs.JobCall.{JobCall}
 use Rattle.mb_run.specs.Drives.{AreNew, HasEachMoment, IsBegun, IsComplete, IsDriven, IsLinedUp, IsRunnable, new_runner}
-use Rattle.mb_run.specs.Served.{AreCounts, AreSound, IsAfter, IsBalanced, IsCounted, IsRunInOrder, IsServed, Underway, calls_in, calls_of, moments_in}
+use Rattle.mb_run.specs.Served.{AreCounts, IsAfter, IsBalanced, IsRunInOrder, IsServed, Underway, calls_of, moments_in}
 use Rattle.mb_run.specs.Sights.{IsOrderly, Limits, Seat, Sight}
 use Rattle.mb_run.specs.declared.runner.Runner.{Runner}
 use Rattle.mb_run.proofs.Completing.{calls_few, each_moment}

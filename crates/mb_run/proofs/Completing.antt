@@ -1,5 +1,5 @@
 -- A job of which every call is answered.
-use Rattle.std.proofs.Common.{◌≡◌, ◌≢◌, ◌⊎◌, List, [], ◌∷◌, ℕ, zero, suc, ◌+◌, ◌<◌, ◌≤◌, Bool, true, false, cond, nat_eq, inl, inr, refl, ap, sym, subst, ◌∙◌, arith, add-zero, Option, None, Some, length, filter, map, take, get_or, slice_get, slice_set, slice_index, get_or-set_same, get_or-set_other}
+use Rattle.std.proofs.Common.{◌≡◌, ◌≢◌, List, [], ◌∷◌, ℕ, zero, suc, ◌+◌, ◌<◌, ◌≤◌, Bool, true, false, cond, nat_eq, inl, inr, refl, ap, sym, subst, ◌∙◌, arith, add-zero, Option, None, Some, length, filter, map, take, get_or, slice_get, slice_set, slice_index, get_or-set_same, get_or-set_other}
 use Rattle.std.proofs.lemmas.Bool.{eq-eqb}
 use Rattle.std.proofs.lemmas.List.{take_all}
 use Rattle.std.proofs.lemmas.Option.{same_Some, slice_get_within, slice_get-get_or}
@@ -11,22 +11,22 @@ use Rattle.mb_kinds.specs.declared.entries.Entry.{Entry}
 use Rattle.mb_kinds.specs.declared.entries.Flight.{Flight}
 use Rattle.mb_run.specs.Drives.{HasEachMoment, IsComplete}
 use Rattle.mb_run.specs.Orders.{AreCounted, AreRunOut, Grows, IsReached, done_at, done_by}
-use Rattle.mb_run.specs.Served.{IsAtBy, IsBalanced, Underway, calls_in, calls_of, moments_in}
+use Rattle.mb_run.specs.Served.{IsAtBy, IsBalanced, Underway, calls_in, calls_of}
 use Rattle.mb_run.specs.Sights.{IsOrderly, Sight}
 use Rattle.mb_run.specs.declared.runner.Runner.{Runner}
 use Rattle.mb_run.proofs.Counting.{same_or_not}
-use Rattle.mb_run.proofs.Everybody.{got, own_calls, some_call}
+use Rattle.mb_run.proofs.Everybody.{own_calls}
 use Rattle.mb_run.proofs.InOrder.{as_one, counts_more, runner_at}
-use Rattle.mb_run.proofs.Lists.{all_map, neq}
+use Rattle.mb_run.proofs.Lists.{neq}
 
 -- ---- how many calls of a caller stand among the first ones of a job
 
 cons_few : (made : JobCall) (calls : List JobCall) (caller : ℕ) → (length (calls_of (made ∷ calls) caller) ≤ length (calls_of calls caller) + 1) × (length (calls_of calls caller) ≤ length (calls_of (made ∷ calls) caller))
 cons_few made calls caller = elim (nat_eq made.caller caller) as (λ b. (length (map (λ (m : JobCall). m.call) (cond b (made ∷ filter (λ (m : JobCall). nat_eq m.caller caller) calls) (filter (λ (m : JobCall). nat_eq m.caller caller) calls))) ≤ length (calls_of calls caller) + 1)
     × (length (calls_of calls caller) ≤ length (map (λ (m : JobCall). m.call) (cond b (made ∷ filter (λ (m : JobCall). nat_eq m.caller caller) calls) (filter (λ (m : JobCall). nat_eq m.caller caller) calls))))) [
-  | true ↦ (omega arith, omega arith)
-  | false ↦ (omega arith, omega arith)
-]
+      | true ↦ (omega arith, omega arith)
+      | false ↦ (omega arith, omega arith)
+    ]
 
 pub calls_few : (calls : List JobCall) (caller : ℕ) → length (calls_of calls caller) ≤ length calls
 calls_few [] caller = omega arith
@@ -37,7 +37,7 @@ take_few calls zero caller = omega arith
 take_few [] (suc index) caller = omega arith
 take_few (made ∷ calls) (suc index) caller = let rest = take_few calls index caller in
     elim (nat_eq made.caller caller) as (λ b. length (map (λ (m : JobCall). m.call) (cond b (made ∷ filter (λ (m : JobCall). nat_eq m.caller caller) (take index calls)) (filter (λ (m : JobCall). nat_eq m.caller caller) (take index calls))))
-        ≤ length (map (λ (m : JobCall). m.call) (cond b (made ∷ filter (λ (m : JobCall). nat_eq m.caller caller) calls) (filter (λ (m : JobCall). nat_eq m.caller caller) calls)))) [
+    ≤ length (map (λ (m : JobCall). m.call) (cond b (made ∷ filter (λ (m : JobCall). nat_eq m.caller caller) calls) (filter (λ (m : JobCall). nat_eq m.caller caller) calls)))) [
       | true ↦ omega (arith, rest)
       | false ↦ omega (arith, rest)
     ]
@@ -106,8 +106,8 @@ free_by list made done begun (Some flight) past at = let low = slice_get_within 
 pub complete : (calls : List JobCall) (test : Option (Crossing → Bool)) (sight : Sight) (runners : List Runner) → Underway calls test sight runners → IsBalanced sight → AreRunOut calls runners (length calls) → IsComplete calls (length runners) test sight
 complete calls test sight runners underway even out =
     let past : (caller : ℕ) (low : caller < length runners) → length (calls_of calls caller) ≤ (runner_at runners caller low).0.done =
-        λ caller low. (let is = ap done_by (runner_at runners caller low).1 in let all = ap (λ ms. length (calls_of ms caller)) (take_all (length calls) calls (omega arith)) in
-            let enough = out caller low in omega (arith, is, all, enough)) in
+    λ caller low. (let is = ap done_by (runner_at runners caller low).1 in let all = ap (λ ms. length (calls_of ms caller)) (take_all (length calls) calls (omega arith)) in
+    let enough = out caller low in omega (arith, is, all, enough)) in
     record {
       own_calls = λ caller low. own_calls calls test sight runners caller (runner_at runners caller low).0 underway (runner_at runners caller low).1 (past caller low);
       begun = (let none : sight.open_calls ≡ 0 = underway.right.open_calls (λ caller few. (let low : caller < length runners = omega (arith, few, underway.callers) in

@@ -11,7 +11,6 @@ use Rattle.mb_kinds.specs.declared.faults.Kind.{Kind}
 use Rattle.mb_kinds.specs.declared.faults.Kind.TheVariants.{Enter, Gather, Finish, Leave, Remount, Replay}
 use Rattle.mb_kinds.specs.declared.faults.Ticket.{Ticket}
 use Rattle.mb_kinds.specs.declared.replies.Reply.{Reply}
-use Rattle.mb_kinds.specs.Own.{own}
 use Rattle.std.proofs.lemmas.Bool.{eq-eqb}
 use Rattle.mb_core_spec.specs.Copies.{PagesState, no_pages}
 use Rattle.mb_run.specs.Pages.{has}

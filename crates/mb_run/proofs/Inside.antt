@@ -3,7 +3,6 @@ use Rattle.std.proofs.Common.{◌≡◌, ◌≢◌, List, ℕ, ◌+◌, ◌-◌,
 use Rattle.std.proofs.lemmas.Bool.{eq-eqb}
 use Rattle.std.proofs.lemmas.Option.{same_Some, slice_get_within}
 use Rattle.mb_edge.specs.declared.crossings.Crossing.{Crossing}
-use Rattle.mb_kinds.specs.Own.{own}
 use Rattle.mb_kinds.specs.declared.calls.Call.{Call}
 use Rattle.mb_kinds.specs.declared.entries.Flight.{Flight}
 use Rattle.mb_kinds.specs.declared.faults.Kind.{Kind}

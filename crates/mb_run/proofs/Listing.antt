@@ -1,9 +1,8 @@
 -- Entries in the order of a job's calls.
-use Rattle.std.proofs.Common.{◌≡◌, List, [], ◌∷◌, ◌++◌, ℕ, zero, suc, ◌+◌, ◌<◌, ◌≤◌, Bool, true, false, cond, nat_eq, refl, ap, sym, subst, ◌∙◌, arith, Option, None, Some, length, length-append, filter, map, take, slice_get, get_or}
+use Rattle.std.proofs.Common.{◌≡◌, List, [], ◌∷◌, ◌++◌, ℕ, ◌+◌, ◌<◌, cond, nat_eq, refl, ap, sym, subst, ◌∙◌, arith, Option, None, Some, length, map, take, slice_get}
 use Rattle.std.proofs.lemmas.Bool.{eq-eqb}
-use Rattle.std.proofs.lemmas.List.{append_cancel_left, map-append, take_more}
+use Rattle.std.proofs.lemmas.List.{append_cancel_left, map-append}
 use Rattle.std.proofs.lemmas.List.Elements.{filter-append}
-use Rattle.std.proofs.lemmas.Option.{same_Some, slice_get-get_or}
 use Rattle.std.specs.List.{AllByRecursion}
 use Rattle.mb_jobs.specs.declared.jobs.JobCall.{JobCall}
 use Rattle.mb_kinds.specs.Own.{own}
@@ -39,7 +38,7 @@ listed_next calls index made old new entries list done now begun after flight la
     let first : calls_in old made.caller ≡ take done list = made_by list (calls_in old made.caller) done begun flight free was in
     let last : calls_in new made.caller ≡ take now list = made_by list (calls_in new made.caller) now after later gone is in
     let joined : take done list ++ map (λ (e : Entry). e.call) entries ≡ take done list ++ made.call ∷ [] =
-        ap (λ cs. cs ++ map (λ (e : Entry). e.call) entries) (sym first) ∙ sym (calls_grown old entries made.caller theirs) ∙ ap (λ h. calls_in h made.caller) (sym grown) ∙ last ∙ ap (λ n. take n list) more ∙ take_next list done made.call next in
+    ap (λ cs. cs ++ map (λ (e : Entry). e.call) entries) (sym first) ∙ sym (calls_grown old entries made.caller theirs) ∙ ap (λ h. calls_in h made.caller) (sym grown) ∙ last ∙ ap (λ n. take n list) more ∙ take_next list done made.call next in
     let one : map (λ (e : Entry). e.call) entries ≡ made.call ∷ [] = append_cancel_left (take done list) (map (λ (e : Entry). e.call) entries) (made.call ∷ []) joined in
     let cut : take (index + 1) calls ≡ take index calls ++ made ∷ [] = take_next calls index made here in
     record {

@@ -1,10 +1,9 @@
 -- What leaves all calls as they are.
-use Rattle.std.proofs.Common.{◌≡◌, ◌≢◌, ◌⊎◌, List, [], ℕ, ◌+◌, ◌<◌, ◌≤◌, Bool, true, false, inl, inr, refl, ap, sym, subst, ◌∙◌, arith, Option, None, Some, length, slice_get}
+use Rattle.std.proofs.Common.{◌≡◌, List, [], ℕ, ◌<◌, Bool, true, inl, inr, refl, ap, sym, subst, ◌∙◌, arith, Option, None, Some, length}
 use Rattle.std.proofs.lemmas.List.{append-nil}
 use Rattle.std.proofs.lemmas.Option.{slice_get_within}
 use Rattle.mb_cache.specs.declared.answers.Flushed.{Flushed}
 use Rattle.mb_cache.specs.declared.answers.Flushed.TheVariants as flushed
-use Rattle.mb_core_spec.specs.declared.stages.Stage.TheVariants as stage
 use Rattle.mb_edge.specs.declared.crossings.Crossing.{Crossing}
 use Rattle.mb_edge.specs.declared.crossings.Crossings.{Crossings}
 use Rattle.mb_jobs.specs.declared.jobs.JobCall.{JobCall}
@@ -60,27 +59,53 @@ quiet_whole calls test old new runners underway quiet right = record {
 
 pub quiet_same : (old new : Sight) → new ≡ old → IsQuiet old new
 quiet_same old new same = subst (IsQuiet old) (sym same) (record {
-  config = refl; records = refl; incarnation = refl; seats = λ caller. refl; counts = record { history = refl; begun = refl; open_calls = refl }; floor = inr refl;
-  runs = λ running. running; copies = λ running caller. refl; stales = λ running caller. refl;
+  config = refl;
+  records = refl;
+  incarnation = refl;
+  seats = λ caller. refl;
+  counts = record { history = refl; begun = refl; open_calls = refl };
+  floor = inr refl;
+  runs = λ running. running;
+  copies = λ running caller. refl;
+  stales = λ running caller. refl;
 })
 
 pub quiet_sealed : (old new : Sight) → new ≡ sealed old new → IsQuiet old new
 quiet_sealed old new same = subst (IsQuiet old) (sym same) (record {
-  config = refl; records = refl; incarnation = refl; seats = λ caller. refl; counts = record { history = refl; begun = refl; open_calls = refl }; floor = inr refl;
-  runs = λ running. running; copies = λ running caller. refl; stales = λ running caller. refl;
+  config = refl;
+  records = refl;
+  incarnation = refl;
+  seats = λ caller. refl;
+  counts = record { history = refl; begun = refl; open_calls = refl };
+  floor = inr refl;
+  runs = λ running. running;
+  copies = λ running caller. refl;
+  stales = λ running caller. refl;
 })
 
 pub quiet_flush : (old new : Sight) (answer : Flushed) → FlushesWith old new answer → IsQuiet old new
 quiet_flush old new flushed.One flushes = subst (IsQuiet old) (sym flushes.1) (record {
-  config = refl; records = refl; incarnation = refl; seats = λ caller. refl; counts = record { history = refl; begun = refl; open_calls = refl }; floor = inr refl;
-  runs = λ running. running; copies = λ running caller. refl; stales = λ running caller. refl;
+  config = refl;
+  records = refl;
+  incarnation = refl;
+  seats = λ caller. refl;
+  counts = record { history = refl; begun = refl; open_calls = refl };
+  floor = inr refl;
+  runs = λ running. running;
+  copies = λ running caller. refl;
+  stales = λ running caller. refl;
 })
 quiet_flush old new flushed.Clean flushes = quiet_same old new flushes.1
 quiet_flush old new flushed.Device flushes = quiet_same old new flushes
 
 quiet_waits : (old new : Sight) → Waits old new → new.records ≡ old.records → recovers old.stage ≡ true → IsQuiet old new
 quiet_waits old new waits records recovered = record {
-  config = waits.config; records = records; incarnation = waits.incarnation; seats = waits.seats; counts = waits.counts; floor = waits.floor;
+  config = waits.config;
+  records = records;
+  incarnation = waits.incarnation;
+  seats = waits.seats;
+  counts = waits.counts;
+  floor = waits.floor;
   runs = λ running. absurd (not_running old recovered running);
   copies = λ running caller. absurd (not_running old recovered running);
   stales = λ running caller. absurd (not_running old recovered running);

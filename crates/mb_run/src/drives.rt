@@ -161,7 +161,12 @@ fn end_of(stage: Stage, done: bool) -> DriveEnd
     }
 }
 
-fn drive_core<C: EventCore, H: Hook>(alloc: Global, core: &mut C, job: &Job, hook: &mut H) -> DriveEnd
+fn drive_core<C: EventCore, H: Hook>(
+    alloc: Global,
+    core: &mut C,
+    job: &Job,
+    hook: &mut H,
+) -> DriveEnd
     requires runnable { IsRunnable job.now }
     requires begun { IsBegun job.now (C.sight core.old) }
     ensures driven { result ≢ end.NoMemory → IsDriven job.now (H.test hook.old) (C.sight core.old) (C.sight core.new) }

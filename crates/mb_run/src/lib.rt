@@ -28,7 +28,9 @@ mod steps;
 pub use answers::{Enter, Stepped};
 pub use drives::{DriveEnd, Driven, drive};
 pub use event_core::EventCore;
-pub use examples::{worked_checkpoints, worked_entering, worked_faults, worked_moments, worked_orders};
+pub use examples::{
+    worked_checkpoints, worked_entering, worked_faults, worked_moments, worked_orders,
+};
 pub use orders::run_order;
 pub use progress::{Next, Turn, Went};
 pub use runner::{At, Runner};

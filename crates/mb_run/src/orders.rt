@@ -128,9 +128,23 @@ fn step_letter<C: EventCore, H: Hook>(
         return true;
     };
     if capital {
-        return step_to_finish(alloc, core, hook, &mut runners[caller as usize], calls, call);
+        return step_to_finish(
+            alloc,
+            core,
+            hook,
+            &mut runners[caller as usize],
+            calls,
+            call,
+        );
     }
-    step_once(alloc, core, hook, &mut runners[caller as usize], calls, call)
+    step_once(
+        alloc,
+        core,
+        hook,
+        &mut runners[caller as usize],
+        calls,
+        call,
+    )
 }
 
 fn is_recovering(stage: Stage) -> bool
@@ -138,7 +152,8 @@ fn is_recovering(stage: Stage) -> bool
 {
     match stage {
         Stage::Running | Stage::Failed => false,
-        Stage::Struck | Stage::Again | Stage::Dropped | Stage::Remounted | Stage::Restored(_) => true,
+        Stage::Struck | Stage::Again | Stage::Dropped | Stage::Remounted | Stage::Restored(_) =>
+            true,
     }
 }
 
@@ -201,7 +216,14 @@ fn recover_once<C: EventCore, H: Hook>(
     let Some(call) = find_call(calls, caller, place) else {
         unreachable!();
     };
-    match roll(alloc, core, hook, &mut runners[caller as usize], calls, call) {
+    match roll(
+        alloc,
+        core,
+        hook,
+        &mut runners[caller as usize],
+        calls,
+        call,
+    ) {
         Went::NoMemory => {
             give_up(core, &runners[caller as usize]);
             return false;

@@ -1,5 +1,4 @@
-use Rattle.std.proofs.Common.{◌≡◌, ◌∙◌, ap, refl, sym, length}
-use Rattle.mb_run.proofs.Beginning.{begins_after, begins_balanced, begins_underway, listed, named_below, ordered}
+use Rattle.mb_run.proofs.Beginning.{begins_after, begins_underway, listed, named_below, ordered}
 use Rattle.mb_run.proofs.drives.run_all.Goals as goal
 
 pub run_in_order-requires-clause-begins : goal.run_in_order-requires-clause-begins

@@ -1,4 +1,4 @@
-use Rattle.std.proofs.Common.{◌≡◌, ◌∙◌, refl, subst, length}
+use Rattle.std.proofs.Common.{◌∙◌, refl, subst}
 use Rattle.mb_run.specs.Drives.{IsComplete}
 use Rattle.mb_run.proofs.Completing.{complete}
 use Rattle.mb_run.proofs.drives.run_by_order.Goals as goal

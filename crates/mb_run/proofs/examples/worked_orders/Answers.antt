@@ -1,4 +1,4 @@
-use Rattle.std.proofs.Common.{arith, refl}
+use Rattle.std.proofs.Common.{refl}
 use Rattle.mb_run.proofs.examples.worked_orders.Goals as goal
 
 pub returns : goal.returns

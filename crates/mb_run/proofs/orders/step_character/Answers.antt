@@ -1,4 +1,4 @@
-use Rattle.std.proofs.Common.{◌≡◌, ◌<◌, arith, length}
+use Rattle.std.proofs.Common.{◌<◌, arith, length}
 use Rattle.std.proofs.lemmas.Option.{slice_get_within}
 use Rattle.mb_run.proofs.Quiet.{quiet_whole}
 use Rattle.mb_run.proofs.orders.step_character.Goals as goal

@@ -1,4 +1,4 @@
-use Rattle.std.proofs.Common.{◌≡◌, sym}
+use Rattle.std.proofs.Common.{sym}
 use Rattle.mb_run.proofs.Moving.{moved_whole, moved_yes}
 use Rattle.mb_run.proofs.Waiting.{letter_may}
 use Rattle.mb_run.proofs.orders.step_letter.Goals as goal

@@ -1,4 +1,3 @@
-use Rattle.std.proofs.Common.{◌≡◌}
 use Rattle.mb_run.proofs.Moving.{did_move}
 use Rattle.mb_run.proofs.GivingUp.{may_give_up}
 use Rattle.mb_run.specs.declared.progress.Went.TheVariants as went

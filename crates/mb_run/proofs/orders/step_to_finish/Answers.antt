@@ -1,4 +1,4 @@
-use Rattle.std.proofs.Common.{◌≡◌, ◌∙◌, refl}
+use Rattle.std.proofs.Common.{◌∙◌, refl}
 use Rattle.mb_run.proofs.Going.{turning_begin, turning_less, turning_on}
 use Rattle.mb_run.proofs.Moving.{may_look, stopped_move, turned_move}
 use Rattle.mb_run.proofs.GivingUp.{may_give_up, turning_gives_up}

@@ -1,6 +1,6 @@
 use Rattle.std.proofs.Common.{arith, refl, sym, ◌<◌, ◌∙◌, length}
 use Rattle.std.proofs.Math.ListN.{length-set}
-use Rattle.mb_run.proofs.Everybody.{put_underway, turned_less, mid, holder_low, holder_has, holder_may, holder_mine, held_less}
+use Rattle.mb_run.proofs.Everybody.{turned_less, holder_low, holder_has, holder_may, holder_mine, held_less}
 use Rattle.mb_run.proofs.GivingUp.{turn_gives_up}
 use Rattle.mb_run.proofs.Moving.{moved_whole, whole_same, whole_then}
 use Rattle.mb_run.proofs.RunningOut.{again_moves, busy_moves, ended_answered, ended_moves, none_answered, ran_moves}

@@ -37,7 +37,8 @@ pub turns-preserved : goal.turns-preserved
 turns-preserved g c = record {
   turning = shut_goes _ _ _ _ _ _ _ _ _ _ _ c.turns.invariant.turning (rw c.turns.invariant.test at c.in-Shut.ensures.did) (rw (c.step.ensures.test ∙ c.turns.invariant.test) at c.in-Back-recover.ensures.recovers) c.recover.ensures.right;
   mine = mine_twice _ _ (g.H.Hook.test c.turns.hook) _ _ _ _ _ _ _ _ _ c.turns.invariant.turning c.in-Shut.ensures.did.nears (rw c.step.ensures.test at c.in-Back-recover.ensures.recovers).nears c.turns.invariant.mine;
-  origin = c.recover.ensures.origin ∙ c.step.ensures.origin ∙ c.turns.invariant.origin; test = c.recover.ensures.test ∙ c.step.ensures.test ∙ c.turns.invariant.test;
+  origin = c.recover.ensures.origin ∙ c.step.ensures.origin ∙ c.turns.invariant.origin;
+  test = c.recover.ensures.test ∙ c.step.ensures.test ∙ c.turns.invariant.test;
 }
 
 pub turns-smaller : goal.turns-smaller

@@ -1,8 +1,7 @@
-use Rattle.std.proofs.Common.{ap, Some}
+use Rattle.std.proofs.Common.{Some}
 use Rattle.mb_edge.specs.Hooks.{nowhere}
-use Rattle.mb_run.specs.Sights.{recovers}
 use Rattle.mb_run.specs.declared.answers.Stepped.TheVariants as stepped
-use Rattle.mb_run.proofs.Ending.{alone_keeps, never_struck}
+use Rattle.mb_run.proofs.Ending.{alone_keeps}
 use Rattle.mb_run.proofs.settles.calm_step.Goals as goal
 
 pub returns-in-Idle-clause-keeps : goal.returns-in-Idle-clause-keeps
