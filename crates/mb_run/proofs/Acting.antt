@@ -1,6 +1,10 @@
 -- What the steps of one caller leave of the others, one after another.
 use Rattle.std.proofs.Common.{◌≡◌, ◌≢◌, ◌⊎◌, [], ◌∷◌, ◌++◌, ℕ, ◌+◌, inl, inr, refl, ap, sym, ◌∙◌, arith, append_assoc, length, length-append, None, Some}
+use Rattle.std.proofs.Common.{List, cond, nat_eq}
+use Rattle.std.specs.List.{AllByRecursion}
 use Rattle.std.proofs.lemmas.List.{append-nil}
+use Rattle.std.proofs.lemmas.List.Elements.{filter-append}
+use Rattle.mb_run.proofs.Lists.{neq}
 use Rattle.mb_kinds.specs.Own.{own}
 use Rattle.mb_kinds.specs.declared.entries.Entry.{Entry}
 use Rattle.mb_kinds.specs.declared.faults.FaultRecord.{FaultRecord}
@@ -9,13 +13,16 @@ use Rattle.mb_kinds.specs.declared.faults.Ticket.{Ticket}
 use Rattle.mb_run.specs.Events.{Stays, Strikes}
 use Rattle.mb_run.specs.Served.{Acts}
 use Rattle.mb_run.specs.Sights.{Sight}
-use Rattle.mb_run.proofs.Lists.{all_both, own_other}
+use Rattle.mb_run.proofs.Lists.{all_both}
 
 pub acts_same : (caller : ℕ) (s : Sight) → Acts caller s s
 acts_same caller s = record {
   config = refl;
   seats = λ other apart. refl;
   own = λ other apart. refl;
+  entries = [];
+  grown = sym (append-nil s.history);
+  theirs = tt;
   more = [];
   records = sym (append-nil s.records);
   mine = tt;
@@ -32,6 +39,9 @@ acts_then caller a b d one two = record {
   config = two.config ∙ one.config;
   seats = λ other apart. two.seats other apart ∙ one.seats other apart;
   own = λ other apart. two.own other apart ∙ one.own other apart;
+  entries = one.entries ++ two.entries;
+  grown = two.grown ∙ ap (λ es. es ++ two.entries) one.grown ∙ append_assoc a.history one.entries two.entries;
+  theirs = all_both (λ (entry : Entry). entry.caller ≡ caller) one.entries two.entries one.theirs two.theirs;
   more = one.more ++ two.more;
   records = two.records ∙ ap (λ rs. rs ++ two.more) one.records ∙ append_assoc a.records one.more two.more;
   mine = all_both (λ (fault : FaultRecord). fault.caller ≡ caller) one.more two.more one.mine two.mine;
@@ -52,12 +62,21 @@ acts_then caller a b d one two = record {
   floor = elim two.floor [ inl none ↦ inl none | inr rest ↦ elim rest [ inl mine ↦ inr (inl mine) | inr same ↦ elim one.floor [ inl none ↦ inl (same ∙ none) | inr more ↦ elim more [ inl mine ↦ inr (inl (same ∙ mine)) | inr still ↦ inr (inr (same ∙ still)) ] ] ] ];
 }
 
-pub acts_stays : (caller : ℕ) (old new : Sight) → Stays caller old new → ((other : ℕ) → other ≢ caller → own new.history other ≡ own old.history other)
+-- others have no entry among those of one caller
+own_apart : (entries : List Entry) (caller other : ℕ) → other ≢ caller → AllByRecursion (λ (entry : Entry). entry.caller ≡ caller) entries → own entries other ≡ []
+own_apart [] caller other apart theirs = refl
+own_apart (entry ∷ entries) caller other apart theirs =
+    ap (λ b. cond b (entry ∷ own entries other) (own entries other)) (neq entry.caller other (λ same. apart (sym same ∙ theirs.0))) ∙ own_apart entries caller other apart theirs.1
+
+acts_grown : (caller : ℕ) (old new : Sight) (entries : List Entry) → Stays caller old new → new.history ≡ old.history ++ entries → AllByRecursion (λ (entry : Entry). entry.caller ≡ caller) entries
     → (new.floor ≡ None) ⊎ (new.floor ≡ Some caller) ⊎ (new.floor ≡ old.floor) → Acts caller old new
-acts_stays caller old new stays own floor = record {
+acts_grown caller old new entries stays grown theirs floor = record {
   config = stays.config;
   seats = stays.seats;
-  own = own;
+  own = λ other apart. ap (λ h. own h other) grown ∙ filter-append (λ (e : Entry). nat_eq e.caller other) old.history entries ∙ ap (λ es. own old.history other ++ es) (own_apart entries caller other apart theirs) ∙ append-nil (own old.history other);
+  entries = entries;
+  grown = grown;
+  theirs = theirs;
   more = [];
   records = stays.records ∙ sym (append-nil old.records);
   mine = tt;
@@ -69,16 +88,21 @@ acts_stays caller old new stays own floor = record {
   floor = floor;
 }
 
+pub acts_stays : (caller : ℕ) (old new : Sight) → Stays caller old new → new.history ≡ old.history → (new.floor ≡ None) ⊎ (new.floor ≡ Some caller) ⊎ (new.floor ≡ old.floor) → Acts caller old new
+acts_stays caller old new stays history floor = acts_grown caller old new [] stays (history ∙ sym (append-nil old.history)) tt floor
+
 pub acts_entry : (caller : ℕ) (old new : Sight) (entry : Entry) → Stays caller old new → entry.caller ≡ caller → new.history ≡ old.history ++ entry ∷ []
     → (new.floor ≡ None) ⊎ (new.floor ≡ Some caller) ⊎ (new.floor ≡ old.floor) → Acts caller old new
-acts_entry caller old new entry stays mine more floor =
-    acts_stays caller old new stays (λ other apart. ap (λ h. own h other) more ∙ own_other old.history entry other (λ same. apart (sym same ∙ mine))) floor
+acts_entry caller old new entry stays mine more floor = acts_grown caller old new (entry ∷ []) stays more (mine, tt) floor
 
 pub acts_strikes : (caller : ℕ) (old new : Sight) (ticket : Ticket) (kind : Kind) (nth : ℕ) → ticket.caller ≡ caller → Strikes old new ticket kind nth → Acts caller old new
 acts_strikes caller old new ticket kind nth mine strikes = record {
   config = strikes.config;
   seats = λ other apart. strikes.seats other;
   own = λ other apart. ap (λ h. own h other) strikes.counts.history;
+  entries = [];
+  grown = strikes.counts.history ∙ sym (append-nil old.history);
+  theirs = tt;
   more = record { caller = ticket.caller; ordinal = ticket.ordinal; kind = kind; nth = nth } ∷ [];
   records = strikes.records;
   mine = (mine, tt);

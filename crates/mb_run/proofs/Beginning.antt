@@ -1,13 +1,12 @@
 -- A job at its beginning.
-use Rattle.std.proofs.Common.{◌≡◌, List, [], ◌∷◌, ℕ, zero, suc, ◌+◌, ◌<◌, ◌≤◌, Bool, refl, ap, sym, subst, ◌∙◌, arith, Option, None, Some, length, take, slice_get, slice_index}
+use Rattle.std.proofs.Common.{◌≡◌, List, [], ◌∷◌, ℕ, zero, suc, ◌+◌, ◌<◌, ◌≤◌, Bool, refl, ap, sym, subst, ◌∙◌, arith, Option, None, Some, length, take, slice_get}
 use Rattle.std.proofs.lemmas.List.{length-take-le}
 use Rattle.std.proofs.lemmas.Option.{same_Some, slice_get_within}
-use Rattle.mb_edge.specs.Crossings.{place_of}
 use Rattle.mb_edge.specs.declared.crossings.Crossing.{Crossing}
 use Rattle.mb_jobs.specs.declared.jobs.Job.{Job}
 use Rattle.mb_jobs.specs.declared.jobs.JobCall.{JobCall}
 use Rattle.mb_run.specs.Drives.{AreNew, HasEachMoment, IsBegun, IsComplete, IsDriven, IsLinedUp, IsRunnable, new_runner}
-use Rattle.mb_run.specs.Served.{AreCounts, AreSound, IsAfter, IsBalanced, IsCounted, IsRunInOrder, IsServed, Underway, calls_in, calls_of, moments_in}
+use Rattle.mb_run.specs.Served.{AreCounts, IsAfter, IsBalanced, IsRunInOrder, IsServed, Underway, calls_of, moments_in}
 use Rattle.mb_run.specs.Sights.{IsOrderly, Limits, Seat, Sight}
 use Rattle.mb_run.specs.declared.runner.Runner.{Runner}
 use Rattle.mb_run.proofs.Completing.{calls_few, each_moment}
@@ -42,6 +41,7 @@ pub begins_after : (job : Job) (test : Option (Crossing → Bool)) (sight : Sigh
 begins_after job test sight runners runnable begun new = record {
   underway = begins_underway job test sight runners runnable begun new;
   free = λ caller few. ap (λ (s : Seat). s.flight) (begun.seats caller);
+  listed = rw begun.history (record { callers = refl; made = refl });
   lined = rw (begun.history, begun.begun) (refl, refl);
   done = λ caller runner here. ap (λ (r : Runner). r.done) (new.each caller runner here);
 }
@@ -59,7 +59,7 @@ listed job test old new callers begun none same ran config right =
       config = config;
       own_calls = λ caller low. (let few : caller < callers = omega (arith, low, same) in ran.own_calls caller few);
       moments = subst (λ n. HasEachMoment n new.history) start (each_moment new right ran.begun);
-      lined = subst (λ order. IsLinedUp order job.start new.history) (sym none) (subst (λ n. moments_in new.history ≡ range_with_len (n + 1) (length new.history)) start ran.moments);
+      lined = subst (λ order. IsLinedUp order job.calls job.start new.history) (sym none) (ran.listed, subst (λ n. moments_in new.history ≡ range_with_len (n + 1) (length new.history)) start ran.moments);
       sound = ran.sound;
     }
 
@@ -71,7 +71,7 @@ ordered job test old new callers order begun some same done config right =
       config = config;
       own_calls = λ caller low. (let few : caller < callers = omega (arith, low, same) in done.own_calls caller few);
       moments = subst (λ n. HasEachMoment n new.history) start (each_moment new right done.begun);
-      lined = subst (λ given. IsLinedUp given job.start new.history) (sym some) tt;
+      lined = subst (λ given. IsLinedUp given job.calls job.start new.history) (sym some) tt;
       sound = done.sound;
     }
 

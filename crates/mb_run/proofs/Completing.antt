@@ -1,5 +1,5 @@
 -- A job of which every call is answered.
-use Rattle.std.proofs.Common.{◌≡◌, ◌≢◌, ◌⊎◌, List, [], ◌∷◌, ℕ, zero, suc, ◌+◌, ◌<◌, ◌≤◌, Bool, true, false, cond, nat_eq, inl, inr, refl, ap, sym, subst, ◌∙◌, arith, add-zero, Option, None, Some, length, filter, map, take, get_or, slice_get, slice_set, slice_index, get_or-set_same, get_or-set_other}
+use Rattle.std.proofs.Common.{◌≡◌, ◌≢◌, List, [], ◌∷◌, ℕ, zero, suc, ◌+◌, ◌<◌, ◌≤◌, Bool, true, false, cond, nat_eq, inl, inr, refl, ap, sym, subst, ◌∙◌, arith, add-zero, Option, None, Some, length, filter, map, take, get_or, slice_get, slice_set, slice_index, get_or-set_same, get_or-set_other}
 use Rattle.std.proofs.lemmas.Bool.{eq-eqb}
 use Rattle.std.proofs.lemmas.List.{take_all}
 use Rattle.std.proofs.lemmas.Option.{same_Some, slice_get_within, slice_get-get_or}
@@ -11,13 +11,13 @@ use Rattle.mb_kinds.specs.declared.entries.Entry.{Entry}
 use Rattle.mb_kinds.specs.declared.entries.Flight.{Flight}
 use Rattle.mb_run.specs.Drives.{HasEachMoment, IsComplete}
 use Rattle.mb_run.specs.Orders.{AreCounted, AreRunOut, Grows, IsReached, done_at, done_by}
-use Rattle.mb_run.specs.Served.{IsAtBy, IsBalanced, Underway, calls_in, calls_of, moments_in}
+use Rattle.mb_run.specs.Served.{IsAtBy, IsBalanced, Underway, calls_in, calls_of}
 use Rattle.mb_run.specs.Sights.{IsOrderly, Sight}
 use Rattle.mb_run.specs.declared.runner.Runner.{Runner}
 use Rattle.mb_run.proofs.Counting.{same_or_not}
-use Rattle.mb_run.proofs.Everybody.{got, own_calls, some_call}
+use Rattle.mb_run.proofs.Everybody.{own_calls}
 use Rattle.mb_run.proofs.InOrder.{as_one, counts_more, runner_at}
-use Rattle.mb_run.proofs.Lists.{all_map, neq}
+use Rattle.mb_run.proofs.Lists.{neq}
 
 -- ---- how many calls of a caller stand among the first ones of a job
 

@@ -1,11 +1,11 @@
 -- The end of a run.
-use Rattle.std.proofs.Common.{◌≡◌, ◌≢◌, ◌⊎◌, ℕ, ◌<◌, ◌≤◌, Bool, true, false, inl, inr, refl, ap, sym, subst, ◌∙◌, arith, Option, None, Some, length}
+use Rattle.std.proofs.Common.{◌≡◌, ◌≢◌, ℕ, ◌≤◌, Bool, true, false, inl, inr, refl, ap, sym, subst, ◌∙◌, arith, Option, None, Some, length}
 use Rattle.mb_core_spec.specs.declared.stages.Stage.{Stage}
 use Rattle.mb_core_spec.specs.declared.stages.Stage.TheVariants as stage
 use Rattle.mb_edge.specs.Causes.{Rose}
 use Rattle.mb_edge.specs.declared.crossings.Crossing.{Crossing}
 use Rattle.mb_edge.specs.declared.crossings.Crossings.{Crossings}
-use Rattle.mb_run.specs.Events.{FlushesWith, sealed}
+use Rattle.mb_run.specs.Events.{FlushesWith}
 use Rattle.mb_run.specs.Orders.{IsQuiet, IsSealedNow}
 use Rattle.mb_run.specs.Recovering.{GoOn, Steps, StrikesBy}
 use Rattle.mb_run.specs.Settling.{IsFlushed, IsSettled, Keeps}

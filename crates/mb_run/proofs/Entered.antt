@@ -11,7 +11,6 @@ use Rattle.mb_kinds.specs.declared.faults.Kind.{Kind}
 use Rattle.mb_kinds.specs.declared.faults.Kind.TheVariants.{Enter, Gather, Finish, Leave, Remount, Replay}
 use Rattle.mb_kinds.specs.declared.faults.Ticket.{Ticket}
 use Rattle.mb_kinds.specs.declared.replies.Reply.{Reply}
-use Rattle.mb_kinds.specs.Own.{own}
 use Rattle.std.proofs.lemmas.Bool.{eq-eqb}
 use Rattle.mb_core_spec.specs.Copies.{PagesState, no_pages}
 use Rattle.mb_run.specs.Pages.{has}
@@ -85,7 +84,7 @@ module _ (calls : List JobCall) (test : Option (Crossing → Bool)) (old : Sight
   pub did_leave : (new : Sight) (flight : Flight) → Leaves runner.crossings.caller flight old new → Did calls test old new runner (advanced runner) went.Ended
   did_leave new flight leaves =
       let was = subst (IsAtBy (calls_of calls runner.crossings.caller) (calls_in old.history runner.crossings.caller) runner.done (old.seats runner.crossings.caller).begun) leaves.was may.served.calls in
-      did_end new (acts_stays runner.crossings.caller old new leaves.stays (λ other apart. ap (λ h. own h other) leaves.counts.history) (elim leaves.floor [ inl none ↦ inl none | inr same ↦ inr (inr same) ])) (line_leaves runner.crossings.caller flight old new leaves) (balanced_same old new leaves.counts) leaves.stays.records
+      did_end new (acts_stays runner.crossings.caller old new leaves.stays leaves.counts.history (elim leaves.floor [ inl none ↦ inl none | inr same ↦ inr (inr same) ])) (line_leaves runner.crossings.caller flight old new leaves) (balanced_same old new leaves.counts) leaves.stays.records
       (rw (leaves.mine, leaves.counts.history) (at_leaves (calls_of calls runner.crossings.caller) (calls_in old.history runner.crossings.caller) runner.done (old.seats runner.crossings.caller).begun flight leaves.answered was))
       (ap (λ (s : Seat). s.flight) leaves.mine)
 
@@ -132,7 +131,7 @@ module _ (calls : List JobCall) (test : Option (Crossing → Bool)) (old : Sight
           nears = record {
             same = refl;
             counts = may.counts;
-            acts = acts_stays runner.crossings.caller old new begins.stays (λ other apart. ap (λ h. own h other) begins.history) (inr (inr begins.floor));
+            acts = acts_stays runner.crossings.caller old new begins.stays begins.history (inr (inr begins.floor));
             lined = line_enters runner.crossings.caller call (flight_of old runner.crossings.caller call (old.seats runner.crossings.caller).flight) old new begins refl refl;
             balanced = balanced_begins runner.crossings.caller (flight_of old runner.crossings.caller call (old.seats runner.crossings.caller).flight) old new begins;
             served = record {
@@ -204,7 +203,7 @@ module _ (calls : List JobCall) (test : Option (Crossing → Bool)) (old : Sight
         let nears : Nears calls test old new runner now = record {
           same = goes.nears.same;
           counts = goes.nears.counts;
-          acts = acts_then runner.crossings.caller old mid new (acts_stays runner.crossings.caller old mid begins.stays (λ other apart. ap (λ h. own h other) begins.history) (inr (inr begins.floor))) goes.nears.acts;
+          acts = acts_then runner.crossings.caller old mid new (acts_stays runner.crossings.caller old mid begins.stays begins.history (inr (inr begins.floor))) goes.nears.acts;
           lined = λ line. goes.nears.lined (line_enters runner.crossings.caller call (record (flight_of old runner.crossings.caller call (old.seats runner.crossings.caller).flight) { ticket = Some ticket }) old mid begins refl refl line);
           balanced = λ even. goes.nears.balanced (balanced_begins runner.crossings.caller (record (flight_of old runner.crossings.caller call (old.seats runner.crossings.caller).flight) { ticket = Some ticket }) old mid begins even);
           served = goes.nears.served;

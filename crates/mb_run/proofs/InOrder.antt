@@ -7,7 +7,10 @@ use Rattle.std.proofs.lemmas.Option.{same_Some, slice_get_past, slice_get_within
 use Rattle.std.specs.List.{AllByRecursion}
 use Rattle.mb_edge.specs.declared.crossings.Crossing.{Crossing}
 use Rattle.mb_kinds.specs.declared.entries.Flight.{Flight}
-use Rattle.mb_run.specs.Served.{HasRun, InLine, IsAfter, IsMine, IsRunInOrder, LineBy, MayStep, calls_of}
+use Rattle.mb_run.proofs.Listing.{listed_next}
+use Rattle.mb_kinds.specs.declared.entries.Entry.{Entry}
+use Rattle.std.specs.List.{AllByRecursion}
+use Rattle.mb_run.specs.Served.{IsListed, IsServed, HasRun, InLine, IsAfter, IsMine, IsRunInOrder, LineBy, MayStep, calls_of}
 use Rattle.mb_run.specs.Sights.{IsOrderly, Limits, Seat, Sight}
 use Rattle.mb_jobs.specs.declared.jobs.JobCall.{JobCall}
 use Rattle.mb_run.specs.declared.runner.Runner.{Runner}
@@ -74,6 +77,9 @@ module _ (calls : List JobCall) (test : Option (Crossing → Bool)) (old : Sight
           | inr apart ↦ (let less : caller < old.config.callers = omega (arith, few, limit) in
               ap (λ (s : Seat). s.flight) (ran.nears.acts.seats caller (λ same. apart (same ∙ own))) ∙ after.free caller less)
         ];
+        listed = listed_next calls index made old.history new.history ran.nears.acts.entries (calls_of calls made.caller) (get_or runners made.caller d).done now.done (old.seats made.caller).begun (new.seats made.caller).begun (old.seats made.caller).flight (new.seats made.caller).flight here within
+            after.listed ran.nears.acts.grown (subst (λ n. AllByRecursion (λ (entry : Entry). entry.caller ≡ n) ran.nears.acts.entries) own ran.nears.acts.theirs) (subst (λ n. slice_get (calls_of calls n) (get_or runners made.caller d).done ≡ Some made.call) own order_may.next) ran.done
+            (after.free made.caller inside) (after.underway.served made.caller (get_or runners made.caller d) it).calls freed (subst (λ n. IsServed (calls_of calls n) new n now) own ran.nears.served).calls;
         lined = (let was : InLine made.caller old = subst (LineBy old.config.start old.history old.begun) (sym (after.free made.caller inside)) after.lined in
             let line : InLine made.caller new = subst (λ n. InLine n new) own (ran.nears.lined (subst (λ n. InLine n old) (sym own) was)) in
             subst (LineBy new.config.start new.history new.begun) freed line);
@@ -98,6 +104,7 @@ order_over calls test sight runners index past after = record {
       let done : there.0.done ≡ length (calls_of (take index calls) caller) = after.done caller there.0 there.1 in
       let all : length (calls_of (take index calls) caller) ≡ length (calls_of calls caller) = ap (λ ms. length (calls_of ms caller)) (take_all index calls past) in
       own_calls calls test sight runners caller there.0 after.underway there.1 (omega (arith, done, all)));
+  listed = subst (IsListed sight.history) (take_all index calls past) after.listed;
   moments = after.lined.1;
   begun = after.lined.0;
   sound = after.underway.sound;

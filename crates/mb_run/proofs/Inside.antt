@@ -3,7 +3,6 @@ use Rattle.std.proofs.Common.{◌≡◌, ◌≢◌, List, ℕ, ◌+◌, ◌-◌,
 use Rattle.std.proofs.lemmas.Bool.{eq-eqb}
 use Rattle.std.proofs.lemmas.Option.{same_Some, slice_get_within}
 use Rattle.mb_edge.specs.declared.crossings.Crossing.{Crossing}
-use Rattle.mb_kinds.specs.Own.{own}
 use Rattle.mb_kinds.specs.declared.calls.Call.{Call}
 use Rattle.mb_kinds.specs.declared.entries.Flight.{Flight}
 use Rattle.mb_kinds.specs.declared.faults.Kind.{Kind}
@@ -119,7 +118,7 @@ module _ (calls : List JobCall) (test : Option (Crossing → Bool)) (old : Sight
           nears = record {
             same = refl;
             counts = may.counts;
-            acts = acts_stays runner.crossings.caller old new gains.stays (λ other apart. ap (λ h. own h other) gains.counts.history) (inr (inr gains.floor));
+            acts = acts_stays runner.crossings.caller old new gains.stays gains.counts.history (inr (inr gains.floor));
             lined = line_same runner.crossings.caller old new gains.stays.config gains.counts gains.mine;
             balanced = balanced_same old new gains.counts;
             served = record {
@@ -180,7 +179,7 @@ module _ (calls : List JobCall) (test : Option (Crossing → Bool)) (old : Sight
           nears = record {
             same = refl;
             counts = may.counts;
-            acts = acts_stays runner.crossings.caller old new stale.stays (λ other apart. ap (λ h. own h other) stale.counts.history) (elim stale.floor [ inl none ↦ inl none | inr mine ↦ inr (inl mine) ]);
+            acts = acts_stays runner.crossings.caller old new stale.stays stale.counts.history (elim stale.floor [ inl none ↦ inl none | inr mine ↦ inr (inl mine) ]);
             lined = line_same runner.crossings.caller old new stale.stays.config stale.counts stale.mine;
             balanced = balanced_same old new stale.counts;
             served = record {

@@ -18,6 +18,7 @@ pub mod Moving
 pub mod RunningOut
 pub mod Quiet
 pub mod Waiting
+pub mod Listing
 pub mod InOrder
 pub mod Completing
 pub mod Beginning

@@ -1,13 +1,11 @@
 -- Steps of one caller as an order has them.
-use Rattle.std.proofs.Common.{◌≡◌, ◌≢◌, ◌⊎◌, List, ℕ, ◌+◌, ◌<◌, ◌≤◌, Bool, true, false, inl, inr, refl, ap, sym, subst, ◌∙◌, arith, Option, None, Some, length, get_or, slice_get, slice_set}
-use Rattle.std.proofs.Math.ListN.{length-set}
+use Rattle.std.proofs.Common.{◌≡◌, ◌≢◌, List, ℕ, ◌+◌, ◌<◌, ◌≤◌, Bool, true, false, inl, inr, refl, ap, sym, subst, ◌∙◌, arith, Option, None, Some, length, get_or, slice_get, slice_set}
 use Rattle.mb_edge.specs.declared.crossings.Crossing.{Crossing}
 use Rattle.mb_jobs.specs.declared.jobs.JobCall.{JobCall}
 use Rattle.mb_kinds.specs.declared.calls.Call.{Call}
-use Rattle.mb_kinds.specs.declared.faults.Ticket.{Ticket}
 use Rattle.mb_run.specs.Orders.{Grows, IsWhole, MayLook, MayLookAt, Moved, Moves, done_at, done_by}
-use Rattle.mb_run.specs.Served.{Did, IsHeld, IsStanding, MayStep, Nears, Underway}
-use Rattle.mb_run.specs.Sights.{HasTicket, IsOrderly, Sight}
+use Rattle.mb_run.specs.Served.{Did, IsStanding, MayStep, Underway}
+use Rattle.mb_run.specs.Sights.{IsOrderly, Sight}
 use Rattle.mb_run.specs.declared.progress.Went.{Went}
 use Rattle.mb_run.specs.declared.progress.Went.TheVariants as went
 use Rattle.mb_run.specs.declared.runner.At.{At}

@@ -1,10 +1,9 @@
 -- What leaves all calls as they are.
-use Rattle.std.proofs.Common.{◌≡◌, ◌≢◌, ◌⊎◌, List, [], ℕ, ◌+◌, ◌<◌, ◌≤◌, Bool, true, false, inl, inr, refl, ap, sym, subst, ◌∙◌, arith, Option, None, Some, length, slice_get}
+use Rattle.std.proofs.Common.{◌≡◌, List, [], ℕ, ◌<◌, Bool, true, inl, inr, refl, ap, sym, subst, ◌∙◌, arith, Option, None, Some, length}
 use Rattle.std.proofs.lemmas.List.{append-nil}
 use Rattle.std.proofs.lemmas.Option.{slice_get_within}
 use Rattle.mb_cache.specs.declared.answers.Flushed.{Flushed}
 use Rattle.mb_cache.specs.declared.answers.Flushed.TheVariants as flushed
-use Rattle.mb_core_spec.specs.declared.stages.Stage.TheVariants as stage
 use Rattle.mb_edge.specs.declared.crossings.Crossing.{Crossing}
 use Rattle.mb_edge.specs.declared.crossings.Crossings.{Crossings}
 use Rattle.mb_jobs.specs.declared.jobs.JobCall.{JobCall}
@@ -26,6 +25,9 @@ quiet_acts caller old new quiet = record {
   config = quiet.config;
   seats = λ other apart. quiet.seats other;
   own = λ other apart. ap (λ h. own h other) quiet.counts.history;
+  entries = [];
+  grown = quiet.counts.history ∙ sym (append-nil old.history);
+  theirs = tt;
   more = [];
   records = quiet.records ∙ sym (append-nil old.records);
   mine = tt;

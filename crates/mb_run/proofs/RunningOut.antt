@@ -1,9 +1,9 @@
 -- The calls that an order left, run to their ends in the order of their indices.
-use Rattle.std.proofs.Common.{◌≡◌, ◌≢◌, ◌⊎◌, List, [], ◌∷◌, ℕ, zero, suc, ◌+◌, ◌<◌, ◌≤◌, Bool, true, false, cond, nat_eq, inl, inr, refl, ap, sym, subst, ◌∙◌, arith, Option, None, Some, length, filter, map, take, get_or, slice_get, slice_set}
+use Rattle.std.proofs.Common.{◌≡◌, List, [], ◌∷◌, ℕ, zero, suc, ◌<◌, ◌≤◌, Bool, inl, inr, ap, arith, Option, None, Some, length, get_or, slice_get, slice_set}
 use Rattle.mb_edge.specs.declared.crossings.Crossing.{Crossing}
 use Rattle.mb_jobs.specs.declared.jobs.JobCall.{JobCall}
 use Rattle.mb_kinds.specs.declared.calls.Call.{Call}
-use Rattle.mb_run.specs.Orders.{Grows, IsAnswered, Moves, done_at, done_by}
+use Rattle.mb_run.specs.Orders.{Grows, IsAnswered, Moves, done_by}
 use Rattle.mb_run.specs.Served.{HasRun, Turns, calls_of}
 use Rattle.mb_run.specs.Sights.{Sight}
 use Rattle.mb_run.specs.declared.progress.Turn.TheVariants as turn

@@ -1,5 +1,5 @@
 -- What a driver sees of a core for eight callers.
-use Rattle.std.specs.Prelude.{List, [], ◌∷◌, ℕ, Bool, true, ◌&&◌, nat_eq, nat_le, Option, None, Some, length, slice_get}
+use Rattle.std.specs.Prelude.{[], ◌∷◌, ℕ, Bool, true, ◌&&◌, nat_eq, nat_le, Option, None, Some, length, slice_get}
 use Rattle.mb_cache.specs.Stamps.{Stamps, stamp_of}
 use Rattle.mb_core_spec.specs.Callers.{begun, insiders}
 use Rattle.mb_core_spec.specs.Copies.{CopyList, KeptBlock, LiveTables, PagesState, TableCopy, kept_at, no_pages}

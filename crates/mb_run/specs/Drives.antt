@@ -1,5 +1,5 @@
 -- What a run of a job over a core has to begin with, and what it leaves.
-use Rattle.std.specs.Prelude.{ℕ, ◌+◌, ◌<◌, ◌≤◌, ◌≡◌, ◌≢◌, List, [], ◌∷◌, length, map, slice_get, Bool, false, Option, Some, None}
+use Rattle.std.specs.Prelude.{ℕ, ◌+◌, ◌<◌, ◌≤◌, ◌≡◌, ◌≢◌, List, [], ◌∷◌, length, slice_get, Bool, false, Option, Some, None}
 use Rattle.std.specs.List.{AllByRecursion, range_with_len}
 use Rattle.mb_core_spec.specs.declared.stages.Stage.{Stage}
 use Rattle.mb_core_spec.specs.declared.stages.Stage.TheVariants as stage
@@ -7,7 +7,7 @@ use Rattle.mb_edge.specs.declared.crossings.Crossing.{Crossing}
 use Rattle.mb_jobs.specs.declared.jobs.Job.{Job}
 use Rattle.mb_jobs.specs.declared.jobs.JobCall.{JobCall}
 use Rattle.mb_kinds.specs.declared.entries.Entry.{Entry}
-use Rattle.mb_run.specs.Served.{AreSound, calls_in, calls_of, moments_in}
+use Rattle.mb_run.specs.Served.{AreSound, IsListed, calls_in, calls_of, moments_in}
 use Rattle.mb_run.specs.Sights.{AreApart, IsOrderly, Sight}
 use Rattle.mb_core_spec.specs.Copies.{no_pages}
 use Rattle.mb_run.specs.declared.runner.At.TheVariants as at
@@ -45,17 +45,17 @@ pub record HasEachMoment (start : ℕ) (history : List Entry) : Type 0 where
   pub below : AllByRecursion (λ (entry : Entry). entry.moment ≤ start + length history) history
   pub apart : AreApart (moments_in history)
 
--- in list order entry i has the moment start + i
-abbrev pub IsLinedUp : Option (List ℕ) → ℕ → List Entry → Type 0
-IsLinedUp None start history = moments_in history ≡ range_with_len (start + 1) (length history)
-IsLinedUp (Some order) start history = Unit {0}
+-- in list order the entries are the job's calls, in their order, and entry i has the moment start + i
+abbrev pub IsLinedUp : Option (List ℕ) → List JobCall → ℕ → List Entry → Type 0
+IsLinedUp None calls start history = IsListed history calls × (moments_in history ≡ range_with_len (start + 1) (length history))
+IsLinedUp (Some order) calls start history = Unit {0}
 
 -- what a job leaves of a core that was begun for it
 pub record IsDriven (job : Job) (test : Option (Crossing → Bool)) (old new : Sight) : Type 0 where
   pub config : new.config ≡ old.config
   pub own_calls : (caller : ℕ) → caller < length job.callers → calls_in new.history caller ≡ calls_of job.calls caller
   pub moments : HasEachMoment job.start new.history
-  pub lined : IsLinedUp job.order job.start new.history
+  pub lined : IsLinedUp job.order job.calls job.start new.history
   pub sound : AreSound test new.records
 
 -- the end tells whether the volume failed

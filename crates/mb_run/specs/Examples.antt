@@ -1,6 +1,5 @@
 -- Worked examples: the definitions of a run, evaluated.
-use Rattle.std.specs.Prelude.{List, [], ◌∷◌, ℕ, ◌+◌, ◌≡◌, Bool, true, false, Some, None}
-use Rattle.mb_core_spec.specs.declared.steps.Step.{Step}
+use Rattle.std.specs.Prelude.{List, [], ◌∷◌, ℕ, ◌+◌, ◌≡◌, true, false, Some, None}
 use Rattle.mb_core_spec.specs.declared.steps.Step.TheVariants as step
 use Rattle.mb_jobs.specs.declared.jobs.JobCall.{JobCall}
 use Rattle.mb_kinds.specs.declared.calls.Call.TheVariants.{Sync, Exit}

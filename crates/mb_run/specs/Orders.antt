@@ -4,7 +4,6 @@ use Rattle.mb_edge.specs.declared.crossings.Crossing.{Crossing}
 use Rattle.mb_core_spec.specs.declared.stages.Stage.TheVariants as stage
 use Rattle.mb_jobs.specs.declared.jobs.Caller.{Caller}
 use Rattle.mb_jobs.specs.declared.jobs.JobCall.{JobCall}
-use Rattle.mb_kinds.specs.declared.faults.Ticket.{Ticket}
 use Rattle.mb_run.specs.Events.{Counts, sealed}
 use Rattle.mb_run.specs.Pages.{HasTablesFor}
 use Rattle.mb_run.specs.Served.{IsBalanced, Nears, Underway, calls_of}

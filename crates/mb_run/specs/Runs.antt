@@ -1,5 +1,5 @@
 -- What a run of a job over a core was: the clauses of the headline, over the readers of a core and the job alone.
-use Rattle.std.specs.Prelude.{ℕ, ◌+◌, ◌-◌, ◌<◌, ◌≤◌, ◌≡◌, ◌≢◌, ◌⊎◌, List, [], ◌∷◌, ◌++◌, length, map, filter, nat_eq, nat_lt, nat_le, ◌&&◌, ◌||◌, not, slice_get, Bool, true, false, cond, Option, Some, None, IfSome, count_by, option_and_then}
+use Rattle.std.specs.Prelude.{ℕ, ◌+◌, ◌<◌, ◌≤◌, ◌≡◌, ◌≢◌, List, [], ◌∷◌, ◌++◌, length, map, filter, nat_eq, nat_lt, nat_le, ◌&&◌, ◌||◌, not, slice_get, Bool, true, false, cond, Option, Some, None, IfSome, count_by, option_and_then}
 use Rattle.std.specs.List.{AllByRecursion, list_any, range_with_len}
 use Rattle.mb_core_spec.specs.Faults.{IsTwice}
 use Rattle.mb_kinds.specs.declared.entries.Entry.{Entry}

@@ -119,6 +119,9 @@ pub record Acts (caller : ℕ) (old new : Sight) : Type 0 where
   pub config : new.config ≡ old.config
   pub seats : (other : ℕ) → other ≢ caller → new.seats other ≡ old.seats other
   pub own : (other : ℕ) → other ≢ caller → own new.history other ≡ own old.history other
+  pub entries : List Entry
+  pub grown : new.history ≡ old.history ++ entries
+  pub theirs : AllByRecursion (λ (entry : Entry). entry.caller ≡ caller) entries
   pub more : List FaultRecord
   pub records : new.records ≡ old.records ++ more
   pub mine : AllByRecursion (λ (fault : FaultRecord). fault.caller ≡ caller) more
@@ -298,15 +301,22 @@ pub record Turns (calls : List JobCall) (test : Option (Crossing → Bool)) (old
 
 -- ---- list order: after so many calls of the job
 
+-- the entries are these calls of these callers, in the same order
+pub record IsListed (history : List Entry) (calls : List JobCall) : Type 0 where
+  pub callers : map (λ (entry : Entry). entry.caller) history ≡ map (λ (made : JobCall). made.caller) calls
+  pub made : map (λ (entry : Entry). entry.call) history ≡ map (λ (made : JobCall). made.call) calls
+
 pub record IsAfter (calls : List JobCall) (test : Option (Crossing → Bool)) (sight : Sight) (runners : List Runner) (index : ℕ) : Type 0 where
   pub underway : Underway calls test sight runners
   pub free : (caller : ℕ) → caller < sight.config.callers → (sight.seats caller).flight ≡ None
+  pub listed : IsListed sight.history (take index calls)
   pub lined : IsLined sight.config.start sight.history sight.begun
   pub done : (caller : ℕ) (runner : Runner) → slice_get runners caller ≡ Some runner → runner.done ≡ length (calls_of (take index calls) caller)
 
 -- a job that was run in list order
 pub record IsRunInOrder (calls : List JobCall) (callers : ℕ) (test : Option (Crossing → Bool)) (sight : Sight) : Type 0 where
   pub own_calls : (caller : ℕ) → caller < callers → calls_in sight.history caller ≡ calls_of calls caller
+  pub listed : IsListed sight.history calls
   pub moments : moments_in sight.history ≡ range_with_len (sight.config.start + 1) (length sight.history)
   pub begun : sight.begun ≡ length sight.history
   pub sound : AreSound test sight.records

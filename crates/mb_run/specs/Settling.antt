@@ -1,5 +1,5 @@
 -- What the end of a run leaves.
-use Rattle.std.specs.Prelude.{ℕ, ◌<◌, ◌≡◌, false, length, Option, None, Some}
+use Rattle.std.specs.Prelude.{◌<◌, ◌≡◌, false, length, Option, None, Some}
 use Rattle.mb_core_spec.specs.declared.stages.Stage.TheVariants as stage
 use Rattle.mb_run.specs.Sights.{Sight, recovers}
 use Rattle.mb_run.specs.declared.settles.SettleEnd.{SettleEnd}

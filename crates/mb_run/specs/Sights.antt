@@ -59,22 +59,11 @@ abbrev pub one_if : Bool → ℕ
 one_if true = 1
 one_if false = 0
 
-abbrev pub is_running : Stage → Bool
-is_running stage.Running = true
-is_running _ = false
-
 -- a recovery is in progress
 abbrev pub recovers : Stage → Bool
 recovers stage.Running = false
 recovers stage.Failed = false
 recovers _ = true
-
--- the remount of a recovery is still to come
-abbrev pub remounts : Stage → Bool
-remounts stage.Struck = true
-remounts stage.Again = true
-remounts stage.Dropped = true
-remounts _ = false
 
 -- how many steps a recovery has left, with so many callers inside and so many operations logged
 abbrev pub steps_left : ℕ → ℕ → Stage → ℕ
@@ -114,6 +103,10 @@ pub record HasTicket (done : Bool) (seat : Seat) (ticket : Ticket) : Type 0 wher
   pub moment : ticket.moment ≡ flight.moment
   pub answered : flight.answered ≡ done
 
+-- it is the last ticket of the call in flight
+abbrev pub IsTicketOf : Seat → Ticket → Type 0
+IsTicketOf seat ticket = (flight : Flight) × (seat.flight ≡ Some flight) × (flight.ticket ≡ Some ticket)
+
 -- a call is in flight that has no entry
 abbrev pub IsWaiting : Seat → Type 0
 IsWaiting seat = (flight : Flight) × (seat.flight ≡ Some flight) × (flight.answered ≡ false)
@@ -131,8 +124,6 @@ pub record IsOrderly (sight : Sight) : Type 0 where
   pub apart : AreApart (map (λ (entry : Entry). entry.moment) sight.history)
   -- how many fault records there may be
   pub records : length sight.records ≤ sight.config.limit + 1
-  pub few : is_running sight.stage ≡ true → length sight.records ≤ sight.config.limit
-  pub struck : recovers sight.stage ≡ true → 1 ≤ length sight.records
   pub limit : sight.config.limit ≤ 255
   pub callers : sight.config.callers ≤ 8
   -- a recovery has fewer steps than 2 ^ 33

@@ -49,6 +49,7 @@ fn run_up_to<C: EventCore, H: Hook>(
     ensures reached { result ≡ true → IsReached calls.now caller count runners.old runners.new }
     ensures length { length runners.new ≡ length runners.old }
     ensures test { H.test hook.new ≡ H.test hook.old }
+    ensures origin { C.origin core.new ≡ C.origin core.old }
     ensures right { IsOrderly (C.sight core.new) }
 {
     if runners[caller as usize].done >= count {
@@ -73,6 +74,7 @@ fn run_out<C: EventCore, H: Hook>(
     ensures out { result ≡ true → AreRunOut calls.now runners.new (length calls.now) }
     ensures length { length runners.new ≡ length runners.old }
     ensures test { H.test hook.new ≡ H.test hook.old }
+    ensures origin { C.origin core.new ≡ C.origin core.old }
     ensures right { IsOrderly (C.sight core.new) }
 {
     let mut passed = [0u32; 8];
@@ -105,6 +107,7 @@ fn run_by_order<C: EventCore, H: Hook>(
     requires balanced { IsBalanced (C.sight core.old) }
     ensures complete { result ≡ true → IsComplete calls.now (length runners.old) (H.test hook.old) (C.sight core.new) }
     ensures config { result ≡ true → (C.sight core.new).config ≡ (C.sight core.old).config }
+    ensures origin { C.origin core.new ≡ C.origin core.old }
     ensures right { IsOrderly (C.sight core.new) }
 {
     if !run_order(alloc, core, hook, runners, calls, callers, order) {
@@ -125,6 +128,7 @@ fn run_all<C: EventCore, H: Hook>(
     requires begun { IsBegun job.now (C.sight core.old) }
     requires runners { AreNew runners.old (length job.now.callers) }
     ensures driven { result ≡ true → IsDriven job.now (H.test hook.old) (C.sight core.old) (C.sight core.new) }
+    ensures origin { C.origin core.new ≡ C.origin core.old }
     ensures right { IsOrderly (C.sight core.new) }
 {
     let calls = job.calls.as_slice();
@@ -167,6 +171,7 @@ fn drive_core<C: EventCore, H: Hook>(
     requires begun { IsBegun job.now (C.sight core.old) }
     ensures driven { result ≢ end.NoMemory → IsDriven job.now (H.test hook.old) (C.sight core.old) (C.sight core.new) }
     ensures ends { Ends (C.sight core.new).stage result }
+    ensures origin { C.origin core.new ≡ C.origin core.old }
     ensures right { IsOrderly (C.sight core.new) }
 {
     let mut all = [
@@ -195,6 +200,7 @@ pub fn drive<C: EventCore, H: Hook>(alloc: Global, core: C, job: &Job, hook: &mu
     requires begun { IsBegun job.now (C.sight core) }
     ensures driven { result.end ≢ end.NoMemory → IsDriven job.now (H.test hook.old) (C.sight core) (C.sight result.core) }
     ensures ends { Ends (C.sight result.core).stage result.end }
+    ensures origin { C.origin result.core ≡ C.origin core }
     ensures right { IsOrderly (C.sight result.core) }
 {
     let mut core = core;

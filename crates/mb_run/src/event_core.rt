@@ -9,7 +9,7 @@ ghost use Rattle.mb_run.specs.Events.{Enters, FaultsWith, Finishes, FlushesWith,
 ghost use Rattle.mb_run.specs.Pages.{HasTablesFor, Performs, has};
 ghost use Rattle.mb_run.specs.Recovering.{GoOn, Steps};
 ghost use Rattle.mb_run.specs.Served.{MayEnter};
-ghost use Rattle.mb_run.specs.Sights.{HasTicket, IsOrderly, IsWaiting, Sight, limits_of};
+ghost use Rattle.mb_run.specs.Sights.{HasTicket, IsOrderly, IsTicketOf, IsWaiting, Sight, limits_of};
 
 use crate::answers::{Enter, Stepped};
 use mb_cache::Flushed;
@@ -23,13 +23,19 @@ use mb_kinds::{Call, Kind, Ticket};
 use std::alloc::Global;
 
 /// A core as its driver calls it: each call is one event. `sight` is what a driver sees of it, and `may_seal` whether a
-/// checkpoint can be taken without memory, and `faults` the disk's count of faults. Every event keeps a sight in order (`IsOrderly`).
+/// checkpoint can be taken without memory, `faults` the disk's count of faults, and `origin` what the core was
+/// begun on, which no event changes. Every event keeps a sight in order (`IsOrderly`).
 pub trait EventCore {
+    /// What a core was begun on: plain data that contracts alone speak of.
+    type Origin;
+
     ghost sight: { Self → Sight };
 
     ghost may_seal: { Self → Bool };
 
     ghost faults: { Self → ℕ };
+
+    ghost origin: { Self → Self.Origin };
 
     /// Where the volume stands.
     fn stage(&self) -> Stage
@@ -62,6 +68,7 @@ pub trait EventCore {
         requires may { MayEnter (sight self.old) caller call.now }
         requires right { IsOrderly (sight self.old) }
         ensures enters { Enters (sight self.old) (sight self.new) caller call.now result }
+        ensures origin { origin self.new ≡ origin self.old }
         ensures right { IsOrderly (sight self.new) };
 
     /// A call inside, without its entry, gathers blocks, or at block 0 the tables.
@@ -71,6 +78,7 @@ pub trait EventCore {
         requires count { need.count ≤ 32 }
         requires right { IsOrderly (sight self.old) }
         ensures gathers { Gathers (sight self.old) (sight self.new) ticket.now need pages.old pages.new result }
+        ensures origin { origin self.new ≡ origin self.old }
         ensures right { IsOrderly (sight self.new) };
 
     /// A call inside, without its entry, finishes with what was performed over its pages. After `Logged` a checkpoint
@@ -81,6 +89,7 @@ pub trait EventCore {
         requires right { IsOrderly (sight self.old) }
         ensures finishes { Finishes (sight self.old) (sight self.new) ticket.now pages.now result }
         ensures may_seal { result ≡ finished.Logged → may_seal self.new ≡ true }
+        ensures origin { origin self.new ≡ origin self.old }
         ensures right { IsOrderly (sight self.new) };
 
     /// A call that has its entry leaves.
@@ -88,13 +97,16 @@ pub trait EventCore {
         requires ticket { HasTicket true ((sight self.old).seats ticket.now.caller) ticket.now }
         requires right { IsOrderly (sight self.old) }
         ensures leaves { LeavesWith (sight self.old) (sight self.new) ticket.now result }
+        ensures origin { origin self.new ≡ origin self.old }
         ensures right { IsOrderly (sight self.new) };
 
     /// The call is struck at the crossing at which the fault injector answered a fault.
     fn fault<H: Hook>(&mut self, ticket: &Ticket, kind: Kind, nth: u32, hook: &H) -> Fault
+        requires ticket { IsTicketOf ((sight self.old).seats ticket.now.caller) ticket.now }
         requires struck { H.struck hook.now ≡ Some (record { caller = ticket.now.caller; ordinal = ticket.now.ordinal; kind = kind; nth = nth }) }
         requires right { IsOrderly (sight self.old) }
         ensures faults { FaultsWith (sight self.old) (sight self.new) ticket.now kind nth result }
+        ensures origin { origin self.new ≡ origin self.old }
         ensures right { IsOrderly (sight self.new) };
 
     /// One step of a recovery, run by a call in flight without an entry, whose crossings `by` has, or by nobody; the
@@ -112,6 +124,7 @@ pub trait EventCore {
         ensures steps { Steps (H.test hook.old) by.old by.new (sight self.old) (sight self.new) result }
         ensures device { result ≡ stepped.Device → Rose (faults self.old) (faults self.new) }
         ensures later { faults self.old ≤ faults self.new }
+        ensures origin { origin self.new ≡ origin self.old }
         ensures right { IsOrderly (sight self.new) };
 
     /// Ends a call in flight that has no entry, and gives it none.
@@ -119,6 +132,7 @@ pub trait EventCore {
         requires waits { IsWaiting ((sight self.old).seats caller) }
         requires right { IsOrderly (sight self.old) }
         ensures quits { Quits caller (sight self.old) (sight self.new) }
+        ensures origin { origin self.new ≡ origin self.old }
         ensures right { IsOrderly (sight self.new) };
 
     /// Takes a checkpoint of a running volume. The only error is want of memory, and nothing has changed then.
@@ -129,6 +143,7 @@ pub trait EventCore {
         ensures err { OnErr result (sight self.new ≡ sight self.old) }
         ensures sure { may_seal self.old ≡ true → IsOk result }
         ensures later { faults self.old ≤ faults self.new }
+        ensures origin { origin self.new ≡ origin self.old }
         ensures right { IsOrderly (sight self.new) };
 
     /// Writes one checkpointed page back.
@@ -137,5 +152,6 @@ pub trait EventCore {
         ensures flushes { FlushesWith (sight self.old) (sight self.new) result }
         ensures device { result ≡ flushed.Device → Rose (faults self.old) (faults self.new) }
         ensures later { faults self.old ≤ faults self.new }
+        ensures origin { origin self.new ≡ origin self.old }
         ensures right { IsOrderly (sight self.new) };
 }

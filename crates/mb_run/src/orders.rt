@@ -49,6 +49,7 @@ fn step_once<C: EventCore, H: Hook>(
     requires { MayStep calls.now (H.test hook.old) (C.sight core.old) runner.old call.now }
     ensures moved { Moved calls.now (H.test hook.old) (C.sight core.old) (C.sight core.new) runner.old runner.new result }
     ensures test { H.test hook.new ≡ H.test hook.old }
+    ensures origin { C.origin core.new ≡ C.origin core.old }
     ensures right { IsOrderly (C.sight core.new) }
 {
     match step(alloc, core, hook, runner, calls, call) {
@@ -78,6 +79,7 @@ fn step_to_finish<C: EventCore, H: Hook>(
     requires { MayStep calls.now (H.test hook.old) (C.sight core.old) runner.old call.now }
     ensures moved { Moved calls.now (H.test hook.old) (C.sight core.old) (C.sight core.new) runner.old runner.new result }
     ensures test { H.test hook.new ≡ H.test hook.old }
+    ensures origin { C.origin core.new ≡ C.origin core.old }
     ensures right { IsOrderly (C.sight core.new) }
 {
     'steps: loop {
@@ -118,6 +120,7 @@ fn step_letter<C: EventCore, H: Hook>(
     ensures whole { result ≡ true → IsWhole calls.now (H.test hook.old) (C.sight core.old) (C.sight core.new) runners.old runners.new }
     ensures length { length runners.new ≡ length runners.old }
     ensures test { H.test hook.new ≡ H.test hook.old }
+    ensures origin { C.origin core.new ≡ C.origin core.old }
     ensures right { IsOrderly (C.sight core.new) }
 {
     let place = runners[caller as usize].done;
@@ -177,6 +180,7 @@ fn recover_alone<C: EventCore, H: Hook>(alloc: Global, core: &mut C, hook: &mut 
     requires right { IsOrderly (C.sight core.old) }
     ensures quiet { IsQuiet (C.sight core.old) (C.sight core.new) }
     ensures test { H.test hook.new ≡ H.test hook.old }
+    ensures origin { C.origin core.new ≡ C.origin core.old }
     ensures right { IsOrderly (C.sight core.new) }
 {
     let mut by = None;
@@ -199,6 +203,7 @@ fn recover_once<C: EventCore, H: Hook>(
     ensures whole { result ≡ true → IsWhole calls.now (H.test hook.old) (C.sight core.old) (C.sight core.new) runners.old runners.new }
     ensures length { length runners.new ≡ length runners.old }
     ensures test { H.test hook.new ≡ H.test hook.old }
+    ensures origin { C.origin core.new ≡ C.origin core.old }
     ensures right { IsOrderly (C.sight core.new) }
 {
     if !is_recovering(core.stage()) {
@@ -233,6 +238,7 @@ pub(crate) fn seal_now<C: EventCore>(core: &mut C) -> bool
     ensures quiet { IsQuiet (C.sight core.old) (C.sight core.new) }
     ensures sealed { result ≡ true → IsSealedNow (C.sight core.old) (C.sight core.new) }
     ensures later { C.faults core.old ≤ C.faults core.new }
+    ensures origin { C.origin core.new ≡ C.origin core.old }
     ensures right { IsOrderly (C.sight core.new) }
 {
     match core.stage() {
@@ -248,6 +254,7 @@ pub(crate) fn seal_now<C: EventCore>(core: &mut C) -> bool
 fn flush<C: EventCore>(core: &mut C)
     requires right { IsOrderly (C.sight core.old) }
     ensures quiet { IsQuiet (C.sight core.old) (C.sight core.new) }
+    ensures origin { C.origin core.new ≡ C.origin core.old }
     ensures right { IsOrderly (C.sight core.new) }
 {
     let _ = core.flush_one();
@@ -283,6 +290,7 @@ fn step_character<C: EventCore, H: Hook>(
     ensures whole { result ≡ true → IsWhole calls.now (H.test hook.old) (C.sight core.old) (C.sight core.new) runners.old runners.new }
     ensures length { length runners.new ≡ length runners.old }
     ensures test { H.test hook.new ≡ H.test hook.old }
+    ensures origin { C.origin core.new ≡ C.origin core.old }
     ensures right { IsOrderly (C.sight core.new) }
 {
     if character == b' ' {
@@ -321,6 +329,7 @@ pub fn run_order<C: EventCore, H: Hook>(
     ensures whole { result ≡ true → IsWhole calls.now (H.test hook.old) (C.sight core.old) (C.sight core.new) runners.old runners.new }
     ensures length { length runners.new ≡ length runners.old }
     ensures test { H.test hook.new ≡ H.test hook.old }
+    ensures origin { C.origin core.new ≡ C.origin core.old }
     ensures right { IsOrderly (C.sight core.new) }
 {
     for character in order {

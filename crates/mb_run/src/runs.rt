@@ -44,6 +44,7 @@ pub(crate) fn roll<C: EventCore, H: Hook>(
     requires recovered { recovers (C.sight core.old).stage ≡ true }
     ensures rolled { Rolled calls.now (H.test hook.old) (C.sight core.old) (C.sight core.new) runner.old runner.new result }
     ensures test { H.test hook.new ≡ H.test hook.old }
+    ensures origin { C.origin core.new ≡ C.origin core.old }
     ensures right { IsOrderly (C.sight core.new) }
 {
     let mut by = Some(runner.crossings);
@@ -92,6 +93,7 @@ pub(crate) fn roll<C: EventCore, H: Hook>(
 /// Ends a call that met want of memory, where it was begun: it gets no entry.
 pub(crate) fn give_up<C: EventCore>(core: &mut C, runner: &Runner)
     requires { MayGiveUp (C.sight core.old) runner.now }
+    ensures origin { C.origin core.new ≡ C.origin core.old }
     ensures right { IsOrderly (C.sight core.new) }
 {
     let caller = runner.crossings.caller;
@@ -115,6 +117,7 @@ pub fn recover<C: EventCore, H: Hook>(
     requires recovered { recovers (C.sight core.old).stage ≡ true }
     ensures recovers { Recovers calls.now (H.test hook.old) (C.sight core.old) (C.sight core.new) runner.old runner.new result }
     ensures test { H.test hook.new ≡ H.test hook.old }
+    ensures origin { C.origin core.new ≡ C.origin core.old }
     ensures right { IsOrderly (C.sight core.new) }
 {
     'steps: loop {
@@ -142,6 +145,7 @@ pub fn run_holder<C: EventCore, H: Hook>(
     requires mine { IsMine runner.old.crossings.caller (C.sight core.old).floor }
     ensures ran { Ran calls.now (H.test hook.old) (C.sight core.old) (C.sight core.new) runner.old runner.new result }
     ensures test { H.test hook.new ≡ H.test hook.old }
+    ensures origin { C.origin core.new ≡ C.origin core.old }
     ensures right { IsOrderly (C.sight core.new) }
 {
     'turns: loop {
@@ -197,6 +201,7 @@ pub fn turn<C: EventCore, H: Hook>(
     requires { MayStep calls.now (H.test hook.old) (C.sight core.old) runner.old call.now }
     ensures turns { Turns calls.now (H.test hook.old) (C.sight core.old) (C.sight core.new) runner.old runner.new result }
     ensures test { H.test hook.new ≡ H.test hook.old }
+    ensures origin { C.origin core.new ≡ C.origin core.old }
     ensures right { IsOrderly (C.sight core.new) }
 {
     match step(alloc, core, hook, runner, calls, call) {
@@ -231,6 +236,7 @@ pub fn run_call<C: EventCore, H: Hook>(
     ensures answered { result ≡ true → IsAnswered calls.now caller runners.old runners.new }
     ensures length { length runners.new ≡ length runners.old }
     ensures test { H.test hook.new ≡ H.test hook.old }
+    ensures origin { C.origin core.new ≡ C.origin core.old }
     ensures right { IsOrderly (C.sight core.new) }
 {
     'turns: loop {
@@ -285,6 +291,7 @@ pub fn run_in_order<C: EventCore, H: Hook>(
     ensures done { result ≡ true → IsRunInOrder calls.now (length runners.old) (H.test hook.old) (C.sight core.new) }
     ensures config { result ≡ true → (C.sight core.new).config ≡ (C.sight core.old).config }
     ensures test { H.test hook.new ≡ H.test hook.old }
+    ensures origin { C.origin core.new ≡ C.origin core.old }
     ensures right { IsOrderly (C.sight core.new) }
 {
     for made in calls {

@@ -36,6 +36,7 @@ fn calm_step<C: EventCore>(alloc: Global, core: &mut C) -> Option<SettleEnd>
     ensures calms { Calms (C.sight core.old) (C.sight core.new) result }
     ensures device { result ≡ Some end.Device → Rose (C.faults core.old) (C.faults core.new) }
     ensures later { C.faults core.old ≤ C.faults core.new }
+    ensures origin { C.origin core.new ≡ C.origin core.old }
     ensures right { IsOrderly (C.sight core.new) }
 {
     let mut hook = Calm;
@@ -62,6 +63,7 @@ fn recover_calmly<C: EventCore>(alloc: Global, core: &mut C) -> SettleEnd
     ensures over { result ≡ end.Clean → recovers (C.sight core.new).stage ≡ false }
     ensures device { result ≡ end.Device → Rose (C.faults core.old) (C.faults core.new) }
     ensures later { C.faults core.old ≤ C.faults core.new }
+    ensures origin { C.origin core.new ≡ C.origin core.old }
     ensures right { IsOrderly (C.sight core.new) }
 {
     'steps: loop {
@@ -77,6 +79,7 @@ fn flush_all<C: EventCore>(core: &mut C) -> SettleEnd
     ensures flushed { IsFlushed (C.sight core.old) (C.sight core.new) result }
     ensures device { result ≡ end.Device → Rose (C.faults core.old) (C.faults core.new) }
     ensures later { C.faults core.old ≤ C.faults core.new }
+    ensures origin { C.origin core.new ≡ C.origin core.old }
     ensures right { IsOrderly (C.sight core.new) }
 {
     'pages: loop {
@@ -93,6 +96,7 @@ fn settle_core<C: EventCore>(alloc: Global, core: &mut C) -> SettleEnd
     ensures settled { result ≡ end.Clean → IsSettled (C.sight core.old) (C.sight core.new) }
     ensures keeps { Keeps (C.sight core.old) (C.sight core.new) }
     ensures device { result ≡ end.Device → Rose (C.faults core.old) (C.faults core.new) }
+    ensures origin { C.origin core.new ≡ C.origin core.old }
     ensures right { IsOrderly (C.sight core.new) }
 {
     match recover_calmly(alloc, core) {
@@ -113,6 +117,7 @@ pub fn settle<C: EventCore>(alloc: Global, core: C) -> Settled<C>
     ensures settled { result.end ≡ end.Clean → IsSettled (C.sight core) (C.sight result.core) }
     ensures keeps { Keeps (C.sight core) (C.sight result.core) }
     ensures device { result.end ≡ end.Device → Rose (C.faults core) (C.faults result.core) }
+    ensures origin { C.origin result.core ≡ C.origin core }
     ensures right { IsOrderly (C.sight result.core) }
 {
     let mut core = core;

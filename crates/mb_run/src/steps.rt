@@ -3,7 +3,7 @@ ghost use Rattle.mb_calls.specs.declared.performing.Performed.TheVariants as per
 ghost use Rattle.mb_core_spec.specs.declared.stages.Stage.TheVariants as stage;
 ghost use Rattle.mb_run.specs.Pages.{Performs, has};
 ghost use Rattle.mb_run.specs.Served.{Asks, Did, GoesIn, MayStep, SealsIf, is_due};
-ghost use Rattle.mb_run.specs.Sights.{HasTicket, IsOrderly};
+ghost use Rattle.mb_run.specs.Sights.{IsOrderly, IsTicketOf};
 ghost use Rattle.mb_run.specs.declared.runner.At.TheVariants as at;
 
 use crate::answers::Enter;
@@ -28,9 +28,11 @@ fn is_struck<C: EventCore, H: Hook>(
     kind: Kind,
 ) -> bool
     requires mine { (ticket.now.caller ≡ runner.old.crossings.caller) × (ticket.now.ordinal ≡ runner.old.crossings.ordinal) }
+    requires ticket { IsTicketOf ((C.sight core.old).seats ticket.now.caller) ticket.now }
     requires right { IsOrderly (C.sight core.old) }
     ensures asks { Asks (H.test hook.old) (C.sight core.old) (C.sight core.new) runner.old runner.new ticket.now kind result }
     ensures test { H.test hook.new ≡ H.test hook.old }
+    ensures origin { C.origin core.new ≡ C.origin core.old }
     ensures right { IsOrderly (C.sight core.new) }
 {
     let at = runner.crossings.next(kind);
@@ -57,6 +59,7 @@ fn go_in<C: EventCore, H: Hook>(
     requires inside { runner.old.at ≡ at.Inside ticket.now }
     ensures did { GoesIn calls.now (H.test hook.old) (C.sight core.old) (C.sight core.new) runner.old runner.new result }
     ensures test { H.test hook.new ≡ H.test hook.old }
+    ensures origin { C.origin core.new ≡ C.origin core.old }
     ensures right { IsOrderly (C.sight core.new) }
 {
     if is_struck(core, hook, runner, ticket, Kind::Enter) {
@@ -77,6 +80,7 @@ fn enter<C: EventCore, H: Hook>(
     requires outside { runner.old.at ≡ at.Outside }
     ensures did { Did calls.now (H.test hook.old) (C.sight core.old) (C.sight core.new) runner.old runner.new result }
     ensures test { H.test hook.new ≡ H.test hook.old }
+    ensures origin { C.origin core.new ≡ C.origin core.old }
     ensures right { IsOrderly (C.sight core.new) }
 {
     match core.enter(alloc, runner.crossings.caller, call) {
@@ -112,6 +116,7 @@ fn gather<C: EventCore, H: Hook>(
     requires count { need.count ≤ 32 }
     ensures did { Did calls.now (H.test hook.old) (C.sight core.old) (C.sight core.new) runner.old runner.new result }
     ensures test { H.test hook.new ≡ H.test hook.old }
+    ensures origin { C.origin core.new ≡ C.origin core.old }
     ensures right { IsOrderly (C.sight core.new) }
 {
     if is_struck(core, hook, runner, ticket, Kind::Gather) {
@@ -137,6 +142,7 @@ fn seal_if_due<C: EventCore>(core: &mut C, call: &Call)
     requires may_seal { C.may_seal core.old ≡ true }
     requires right { IsOrderly (C.sight core.old) }
     ensures seals { SealsIf (is_due (C.sight core.old) call.now) (C.sight core.old) (C.sight core.new) }
+    ensures origin { C.origin core.new ≡ C.origin core.old }
     ensures right { IsOrderly (C.sight core.new) }
 {
     let threshold = core.config().threshold;
@@ -162,6 +168,7 @@ fn finish_now<C: EventCore, H: Hook>(
     requires inside { runner.old.at ≡ at.Inside ticket.now }
     requires ready { Performs runner.old.pages ticket.now.caller call.now ticket.now.moment (performed.Ready ready) }
     ensures did { Did calls.now (H.test hook.now) (C.sight core.old) (C.sight core.new) runner.old runner.new result }
+    ensures origin { C.origin core.new ≡ C.origin core.old }
     ensures right { IsOrderly (C.sight core.new) }
 {
     let finished = core.finish(alloc, ticket, &runner.pages, ready);
@@ -204,6 +211,7 @@ fn finish<C: EventCore, H: Hook>(
     requires ready { Performs runner.old.pages ticket.now.caller call.now ticket.now.moment (performed.Ready ready) }
     ensures did { Did calls.now (H.test hook.old) (C.sight core.old) (C.sight core.new) runner.old runner.new result }
     ensures test { H.test hook.new ≡ H.test hook.old }
+    ensures origin { C.origin core.new ≡ C.origin core.old }
     ensures right { IsOrderly (C.sight core.new) }
 {
     if runner.asked {
@@ -227,6 +235,7 @@ fn leave<C: EventCore, H: Hook>(
     requires logged { runner.old.at ≡ at.Logged ticket.now }
     ensures did { Did calls.now (H.test hook.old) (C.sight core.old) (C.sight core.new) runner.old runner.new result }
     ensures test { H.test hook.new ≡ H.test hook.old }
+    ensures origin { C.origin core.new ≡ C.origin core.old }
     ensures right { IsOrderly (C.sight core.new) }
 {
     if is_struck(core, hook, runner, ticket, Kind::Leave) {
@@ -264,6 +273,7 @@ fn go_on<C: EventCore, H: Hook>(
     requires inside { runner.old.at ≡ at.Inside ticket.now }
     ensures did { Did calls.now (H.test hook.old) (C.sight core.old) (C.sight core.new) runner.old runner.new result }
     ensures test { H.test hook.new ≡ H.test hook.old }
+    ensures origin { C.origin core.new ≡ C.origin core.old }
     ensures right { IsOrderly (C.sight core.new) }
 {
     if !has_tables(&runner.pages) {
@@ -297,6 +307,7 @@ pub fn step<C: EventCore, H: Hook>(
     requires { MayStep calls.now (H.test hook.old) (C.sight core.old) runner.old call.now }
     ensures did { Did calls.now (H.test hook.old) (C.sight core.old) (C.sight core.new) runner.old runner.new result }
     ensures test { H.test hook.new ≡ H.test hook.old }
+    ensures origin { C.origin core.new ≡ C.origin core.old }
     ensures right { IsOrderly (C.sight core.new) }
 {
     match runner.at {

@@ -1,4 +1,3 @@
-use Rattle.std.proofs.Common.{◌≡◌, ◌∙◌, ap, sym}
 use Rattle.mb_run.proofs.Beginning.{are_new}
 use Rattle.mb_run.proofs.drives.drive_core.Goals as goal
 

@@ -27,5 +27,6 @@ loop-made-preserved g c =
       counted = counted_next c.args.calls.now c.loop-made.made-index c.made-item.result here _ _ c.loop-made.invariant.eight eight refl c.loop-made.invariant.counted;
       eight = length-set c.loop-made.passed c.made-item.result.caller _ ∙ c.loop-made.invariant.eight;
       size = c.run_up_to.ensures.length ∙ c.loop-made.invariant.size;
+      origin = c.run_up_to.ensures.origin ∙ c.loop-made.invariant.origin;
       test = c.run_up_to.ensures.test ∙ c.loop-made.invariant.test;
     }

@@ -9,5 +9,6 @@ invariant-loop-made g l = record {
   counted : AreCounted l.calls l.passed l.made-index;
   eight : length l.passed ≡ 8;
   size : length l.runners ≡ length l.fn.runners;
+  origin : g.C.EventCore.origin l.core ≡ g.C.EventCore.origin l.fn.core;
   test : g.H.Hook.test l.hook ≡ g.H.Hook.test l.fn.hook;
 }

@@ -7,6 +7,7 @@ returns-in-NoMemory-clause-quiet g c = quiet_alone (g.H.Hook.test c.args.hook.no
 pub returns-in_default : goal.returns-in_default
 returns-in_default g c = record {
   quiet = quiet_alone (g.H.Hook.test c.args.hook.now) _ _ _ c.recover_step.result c.recover_step.ensures.on c.recover_step.ensures.steps;
+  origin = c.recover_step.ensures.origin;
   test = c.recover_step.ensures.test;
   right = c.recover_step.ensures.right;
 }

@@ -43,6 +43,7 @@ pub returns-in_default-roll : goal.returns-in_default-roll
 returns-in_default-roll g c = record {
   whole = λ so. moved_whole _ _ _ _ _ _ _ _ c.requires.underway (open_low _ _ _ _ _ c.requires.underway c.in-Some.ensures) (rolled_move _ _ _ _ _ _ c.roll.result c.roll.ensures.rolled) c.roll.ensures.right;
   length = length-set c.args.runners.now c.in-Some.caller c.roll.new.runner;
+  origin = c.roll.ensures.origin;
   test = c.roll.ensures.test;
   right = c.roll.ensures.right;
 }

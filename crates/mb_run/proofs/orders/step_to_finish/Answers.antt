@@ -6,7 +6,7 @@ use Rattle.mb_run.specs.declared.progress.Went.TheVariants as went
 use Rattle.mb_run.proofs.orders.step_to_finish.Goals as goal
 
 pub steps-init : goal.steps-init
-steps-init g c = record { turning = turning_begin _ _ _ _ _ c.requires; test = refl }
+steps-init g c = record { turning = turning_begin _ _ _ _ _ c.requires; origin = refl; test = refl }
 
 pub look-requires : goal.look-requires
 look-requires g c = may_look _ _ _ _ _ c.steps.invariant.turning.may
@@ -21,7 +21,7 @@ pub give_up-requires : goal.give_up-requires
 give_up-requires g c = turning_gives_up _ _ _ _ _ _ _ c.steps.invariant.turning c.in-NoMemory.ensures
 
 pub steps-preserved : goal.steps-preserved
-steps-preserved g c = record { turning = turning_on _ _ _ _ _ _ _ _ _ c.steps.invariant.turning (rw c.steps.invariant.test at c.in-On.ensures.did.nears) c.in-On.ensures.did.goes.0 c.step.ensures.right; test = c.step.ensures.test ∙ c.steps.invariant.test }
+steps-preserved g c = record { turning = turning_on _ _ _ _ _ _ _ _ _ c.steps.invariant.turning (rw c.steps.invariant.test at c.in-On.ensures.did.nears) c.in-On.ensures.did.goes.0 c.step.ensures.right; origin = c.step.ensures.origin ∙ c.steps.invariant.origin; test = c.step.ensures.test ∙ c.steps.invariant.test }
 
 pub steps-smaller : goal.steps-smaller
 steps-smaller g c = turning_less _ _ _ _ _ _ c.in-On.ensures.did.nears c.in-On.ensures.did.goes.1

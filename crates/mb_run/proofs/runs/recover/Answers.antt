@@ -4,13 +4,13 @@ use Rattle.mb_run.proofs.Going.{rolling_begin, rolling_on, rolling_ends, rolling
 use Rattle.mb_run.proofs.runs.recover.Goals as goal
 
 pub steps-init : goal.steps-init
-steps-init g c = record { rolling = rolling_begin _ _ _ _ _ c.requires.may c.requires.outside c.requires.waits c.requires.recovered; test = refl }
+steps-init g c = record { rolling = rolling_begin _ _ _ _ _ c.requires.may c.requires.outside c.requires.waits c.requires.recovered; origin = refl; test = refl }
 
 pub roll-requires-clause-may : goal.roll-requires-clause-may
 roll-requires-clause-may g c = rw c.steps.invariant.test c.steps.invariant.rolling.may
 
 pub steps-preserved : goal.steps-preserved
-steps-preserved g c = record { rolling = rolling_on _ _ _ _ _ _ _ _ _ c.steps.invariant.rolling (rw c.steps.invariant.test at c.in-On.ensures.rolled) c.roll.ensures.right; test = c.roll.ensures.test ∙ c.steps.invariant.test }
+steps-preserved g c = record { rolling = rolling_on _ _ _ _ _ _ _ _ _ c.steps.invariant.rolling (rw c.steps.invariant.test at c.in-On.ensures.rolled) c.roll.ensures.right; origin = c.roll.ensures.origin ∙ c.steps.invariant.origin; test = c.roll.ensures.test ∙ c.steps.invariant.test }
 
 pub steps-smaller : goal.steps-smaller
 steps-smaller g c = c.in-On.ensures.rolled.goes.4

@@ -6,6 +6,7 @@ use Rattle.mb_run.proofs.runs.recover.Given as goal
 abbrev pub invariant-steps : goal.invariant-steps
 invariant-steps g l = record {
   rolling : IsRolling l.calls (g.H.Hook.test l.fn.hook) (g.C.EventCore.sight l.fn.core) (g.C.EventCore.sight l.core) l.fn.runner l.runner l.call;
+  origin : g.C.EventCore.origin l.core ≡ g.C.EventCore.origin l.fn.core;
   test : g.H.Hook.test l.hook ≡ g.H.Hook.test l.fn.hook;
 }
 

@@ -7,6 +7,7 @@ abbrev pub invariant-turns : goal.invariant-turns
 invariant-turns g l = record {
   turning : IsTurning l.calls (g.H.Hook.test l.fn.hook) (g.C.EventCore.sight l.fn.core) (g.C.EventCore.sight l.core) l.fn.runner l.runner l.call;
   mine : IsMine l.fn.runner.crossings.caller (g.C.EventCore.sight l.core).floor;
+  origin : g.C.EventCore.origin l.core ≡ g.C.EventCore.origin l.fn.core;
   test : g.H.Hook.test l.hook ≡ g.H.Hook.test l.fn.hook;
 }
 

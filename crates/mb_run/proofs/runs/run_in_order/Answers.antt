@@ -32,6 +32,7 @@ loop-made-preserved g c =
       after = order_after _ _ _ _ _ c.loop-made.invariant.after c.made-item.result here _ low _ _ (rw c.loop-made.invariant.test at c.if-not-run_holder.ensures.ran) c.run_holder.ensures.right;
       size = length-set c.loop-made.runners c.made-item.result.caller c.run_holder.new.runner ∙ c.loop-made.invariant.size;
       config = c.if-not-run_holder.ensures.ran.nears.acts.config ∙ c.loop-made.invariant.config;
+      origin = c.run_holder.ensures.origin ∙ c.loop-made.invariant.origin;
       test = c.run_holder.ensures.test ∙ c.loop-made.invariant.test;
     }
 

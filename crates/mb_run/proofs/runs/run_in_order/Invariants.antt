@@ -7,5 +7,6 @@ invariant-loop-made g l = record {
   after : IsAfter l.calls (g.H.Hook.test l.fn.hook) (g.C.EventCore.sight l.core) l.runners l.made-index;
   config : (g.C.EventCore.sight l.core).config ≡ (g.C.EventCore.sight l.fn.core).config;
   size : length l.runners ≡ length l.fn.runners;
+  origin : g.C.EventCore.origin l.core ≡ g.C.EventCore.origin l.fn.core;
   test : g.H.Hook.test l.hook ≡ g.H.Hook.test l.fn.hook;
 }

@@ -6,6 +6,7 @@ abbrev pub invariant-pages : goal.invariant-pages
 invariant-pages g l = record {
   rest : g.C.EventCore.sight l.core ≡ record (g.C.EventCore.sight l.fn.core) { sealed = (g.C.EventCore.sight l.core).sealed };
   later : g.C.EventCore.faults l.fn.core ≤ g.C.EventCore.faults l.core;
+  origin : g.C.EventCore.origin l.core ≡ g.C.EventCore.origin l.fn.core;
   right : IsOrderly (g.C.EventCore.sight l.core);
 }
 

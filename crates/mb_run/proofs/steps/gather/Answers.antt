@@ -1,6 +1,8 @@
 use Rattle.mb_kinds.specs.declared.faults.Kind.TheVariants as kind
 use Rattle.mb_core_state.specs.declared.answers.Gathered.TheVariants as gathered
 use Rattle.mb_run.proofs.Inside.{inside_asked, asked_gather, asked_room}
+use Rattle.mb_run.proofs.Inside.{has_ticket}
+use Rattle.mb_run.proofs.Places.{of_ticket}
 use Rattle.mb_run.proofs.steps.gather.Goals as goal
 
 pub returns-then-is_struck-clause-did : goal.returns-then-is_struck-clause-did
@@ -20,3 +22,6 @@ returns-in-NoMemory-clause-did g c = asked_gather _ _ _ _ _ _ _ _ c.args.ticket.
 
 pub returns-in-Done-clause-did : goal.returns-in-Done-clause-did
 returns-in-Done-clause-did g c = asked_gather _ _ _ _ _ _ _ _ c.args.ticket.now kind.Gather c.args.need c.gather.new.pages gathered.Done c.requires.may c.requires.inside c.if-is_struck.ensures.asks c.requires.lacks c.requires.first c.in-Done.ensures.gathers
+
+pub is_struck-requires-clause-ticket : goal.is_struck-requires-clause-ticket
+is_struck-requires-clause-ticket g c = of_ticket _ _ _ (has_ticket _ _ _ _ _ c.requires.may c.args.ticket.now c.requires.inside)

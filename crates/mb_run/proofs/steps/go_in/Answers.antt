@@ -1,5 +1,7 @@
 use Rattle.mb_kinds.specs.declared.faults.Kind.TheVariants as kind
 use Rattle.mb_run.proofs.Inside.{inside_asked, in_on, in_back}
+use Rattle.mb_run.proofs.Inside.{has_ticket}
+use Rattle.mb_run.proofs.Places.{of_ticket}
 use Rattle.mb_run.proofs.steps.go_in.Goals as goal
 
 pub returns-then-is_struck-clause-did : goal.returns-then-is_struck-clause-did
@@ -7,3 +9,6 @@ returns-then-is_struck-clause-did g c = in_back _ _ _ _ _ _ (inside_asked _ _ _ 
 
 pub returns-clause-did : goal.returns-clause-did
 returns-clause-did g c = in_on _ _ _ _ _ _ _ c.args.ticket.now kind.Enter c.requires.may c.if-is_struck.ensures.asks
+
+pub is_struck-requires-clause-ticket : goal.is_struck-requires-clause-ticket
+is_struck-requires-clause-ticket g c = of_ticket _ _ _ (has_ticket _ _ _ _ _ c.requires.may c.args.ticket.now c.requires.inside)

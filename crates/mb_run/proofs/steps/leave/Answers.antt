@@ -1,5 +1,7 @@
 use Rattle.mb_kinds.specs.declared.faults.Kind.TheVariants as kind
 use Rattle.mb_run.proofs.Inside.{logged_asked, asked_skip, asked_left, asked_room}
+use Rattle.mb_run.proofs.Inside.{has_logged}
+use Rattle.mb_run.proofs.Places.{of_ticket}
 use Rattle.mb_run.proofs.steps.leave.Goals as goal
 
 pub returns-then-is_struck-clause-did : goal.returns-then-is_struck-clause-did
@@ -13,3 +15,6 @@ returns-in-Skip-clause-did g c = rw c.back.ensures (asked_skip _ _ _ _ _ _ _ _ c
 
 pub returns-in-Left-clause-did : goal.returns-in-Left-clause-did
 returns-in-Left-clause-did g c = rw c.advance.ensures (asked_left _ _ _ _ _ _ _ _ c.requires.may c.args.ticket.now kind.Leave c.if-is_struck.ensures.asks c.in-Left.field-0 c.requires.logged c.in-Left.ensures.leaves)
+
+pub is_struck-requires-clause-ticket : goal.is_struck-requires-clause-ticket
+is_struck-requires-clause-ticket g c = of_ticket _ _ _ (has_logged _ _ _ _ _ c.requires.may c.args.ticket.now c.requires.logged)
