@@ -1,7 +1,8 @@
 -- What each answer of a step of a recovery means: when it comes, and what it made of the core.
-use Rattle.std.specs.Prelude.{List, ℕ, ◌+◌, ◌<◌, ◌≤◌, ◌≡◌, ◌⊎◌, Option, Some, length, option_map, slice_get, slice_set}
+use Rattle.std.specs.Prelude.{List, ℕ, ◌+◌, ◌<◌, ◌≤◌, ◌≡◌, ◌⊎◌, Option, Some, None, length, option_map, slice_get, slice_set}
 use Rattle.mb_kinds.specs.Image.{Image}
 use Rattle.mb_kinds.specs.declared.faults.Kind.{Kind}
+use Rattle.mb_kinds.specs.declared.faults.Kind.TheVariants.{Remount, Replay}
 use Rattle.mb_edge.specs.Crossings.{next_nth, place_of}
 use Rattle.mb_edge.specs.declared.crossings.Crossing.{Crossing}
 use Rattle.mb_edge.specs.declared.crossings.Crossings.{Crossings}
@@ -15,6 +16,7 @@ use Rattle.mb_core_spec.specs.Recovery.{dropping, failing, remounting, reopening
 use Rattle.mb_core_spec.specs.State.{CoreState}
 use Rattle.mb_core_spec.specs.declared.stages.Stage.TheVariants as stage
 use Rattle.mb_core_state.specs.Redoing.{FailsStep, IsReplayed}
+use Rattle.mb_core_state.specs.declared.answers.Phase.{Phase}
 use Rattle.mb_core_state.specs.declared.answers.Phase.TheVariants as phase
 use Rattle.mb_core_events.specs.Callings.{HasOpenCall, MayMeetFault, MayReplayNow, Unwinds, phase_now}
 use Rattle.mb_recover.specs.declared.steps.Stepped.{Stepped}
@@ -99,3 +101,15 @@ Plainly old new _ = ⊥
 -- what a step comes to
 abbrev pub Recovers : {F D : Type 0} → (D → Option Image) → (D → ℕ) → CoreState F D → CoreState F D → Option Crossings → List Stroke → Stepped → Type 0
 Recovers told faults old new by strokes answer = Plainly old new answer ⊎ (Drops old new answer ⊎ (Remounts faults old new (caller_of by) answer ⊎ (Replays told faults old new (caller_of by) answer ⊎ IsMet old new by strokes answer)))
+
+-- the fault point of a step is counted, whether the hook faults there or not
+abbrev pub CountsAt : Phase → Option Crossings → Option Crossings → Type 0
+CountsAt phase.Remount old new = new ≡ counted_if Remount old
+CountsAt (phase.Replay number) old new = new ≡ counted_if Replay old
+CountsAt _ old new = new ≡ old
+
+-- a step that is a fault point was made where the hook did not fault; `struck` is the crossing of its last fault
+abbrev pub IsUnheard : Option Crossing → Option Crossings → Stepped → Type 0
+IsUnheard struck (Some by) stepped.Remounted = struck ≡ None
+IsUnheard struck (Some by) (stepped.Replayed number) = struck ≡ None
+IsUnheard struck by answer = Unit {0}

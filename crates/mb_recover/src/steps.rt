@@ -1,6 +1,7 @@
 ghost use Rattle.std.specs.Prelude.{◌≡◌, ◌⊎◌, Some, IfSome, length};
-ghost use Rattle.mb_recover.specs.Steps.{Drops, IsMet, IsStruck, PassesLimit, Recovers, Remounts, Replays, RunsFor, caller_of, counted_if, next_if};
+ghost use Rattle.mb_recover.specs.Steps.{CountsAt, Drops, IsMet, IsStruck, IsUnheard, PassesLimit, Recovers, Remounts, Replays, RunsFor, caller_of, counted_if, next_if};
 ghost use Rattle.mb_core_events.specs.Callings.{HasCall, MayMeetFault, phase_now};
+ghost use Rattle.mb_edge.specs.declared.crossings.Crossings.{Crossings};
 
 use mb_cache::ReadFault;
 use mb_core_events::Core;
@@ -48,6 +49,9 @@ pub fn recover_step<F: FileSys, D: Disk, H: Hook>(
 ) -> Stepped
     requires { IfSome by.old (RunsFor core.old) }
     ensures recovers { Recovers D.told D.faults core.old core.new by.old (H.strokes hook.new) result }
+    ensures counted { CountsAt (phase_now core.old) by.old by.new }
+    ensures heard { IsUnheard (H.struck hook.new) by.old result }
+    ensures test { H.test hook.new ≡ H.test hook.old }
 {
     match core.phase() {
         Phase::Idle => Stepped::Idle,
@@ -89,7 +93,10 @@ fn remount<F: FileSys, D: Disk, H: Hook>(
 ) -> Stepped
     requires phase { phase_now core.old ≡ Phase.Remount }
     requires by { IfSome by.old (RunsFor core.old) }
-    ensures { Remounts D.faults core.old core.new (caller_of by.old) result ⊎ IsMet core.old core.new by.old (H.strokes hook.new) result }
+    ensures remounts { Remounts D.faults core.old core.new (caller_of by.old) result ⊎ IsMet core.old core.new by.old (H.strokes hook.new) result }
+    ensures counted { by.new ≡ counted_if Kind.Remount by.old }
+    ensures heard { IsUnheard (H.struck hook.new) by.old result }
+    ensures test { H.test hook.new ≡ H.test hook.old }
 {
     if let Some(at) = meets(by, hook, Kind::Remount) {
         return strike(core, at, hook);
@@ -112,7 +119,10 @@ fn replay<F: FileSys, D: Disk, H: Hook>(
 ) -> Stepped
     requires phase { phase_now core.old ≡ Phase.Replay number }
     requires by { IfSome by.old (RunsFor core.old) }
-    ensures { Replays D.told D.faults core.old core.new (caller_of by.old) result ⊎ IsMet core.old core.new by.old (H.strokes hook.new) result }
+    ensures replays { Replays D.told D.faults core.old core.new (caller_of by.old) result ⊎ IsMet core.old core.new by.old (H.strokes hook.new) result }
+    ensures counted { by.new ≡ counted_if Kind.Replay by.old }
+    ensures heard { IsUnheard (H.struck hook.new) by.old result }
+    ensures test { H.test hook.new ≡ H.test hook.old }
 {
     if let Some(at) = meets(by, hook, Kind::Replay) {
         return strike(core, at, hook);
@@ -146,6 +156,8 @@ fn caller_of(by: &Option<Crossings>) -> Option<u8>
 fn meets<H: Hook>(by: &mut Option<Crossings>, hook: &mut H, kind: Kind) -> Option<Crossing>
     ensures counted { by.new ≡ counted_if kind by.old }
     ensures met { IfSome result (λ at. (at.kind ≡ kind) × (next_if kind by.old ≡ Some at) × (H.struck hook.new ≡ Some at)) }
+    ensures heard { IfSome by.old (λ (passed : Crossings). H.struck hook.new ≡ result) }
+    ensures test { H.test hook.new ≡ H.test hook.old }
 {
     let Some(mut crossings) = *by else {
         return None;
