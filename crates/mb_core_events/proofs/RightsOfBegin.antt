@@ -1,5 +1,5 @@
 -- A core that begins over a scanned disk, and what sweeping leaves under its pages.
-use Rattle.std.proofs.Common.{List, [], ◌∷◌, ℕ, zero, suc, ◌+◌, ◌^◌, ◌-◌, ◌<◌, ◌≤◌, ◌≡◌, ◌⊎◌, inl, inr, Bool, true, false, ◌&&◌, ◌||◌, nat_eq, Option, Some, None, Ok, IfSome, IsSome, length, map, refl, ap, sym, ◌∙◌, subst, arith}
+use Rattle.std.proofs.Common.{List, [], ◌∷◌, ℕ, zero, suc, ◌+◌, ◌<◌, ◌≤◌, ◌≡◌, inl, inr, Bool, true, false, ◌&&◌, ◌||◌, nat_eq, Option, Some, None, IfSome, IsSome, length, map, refl, ap, sym, ◌∙◌, subst, arith}
 use Rattle.std.proofs.lemmas.Bool.Decides.{nat_tests}
 use Rattle.std.proofs.lemmas.List.Sums.{sum_by-cons}
 use Rattle.std.proofs.lemmas.Map.Views.{any-filter_same}
@@ -13,10 +13,9 @@ use Rattle.mb_tree.specs.declared.seats.PlainFile.{PlainFile}
 use Rattle.std.specs.List.{list_any, range_with_len}
 use Rattle.mb_kinds.specs.Image.{Image}
 use Rattle.mb_kinds.specs.declared.credentials.Cred.{Cred}
-use Rattle.mb_edge.specs.Damage.{OpenCounts}
 use Rattle.mb_tree.specs.Effect.{TreeAndOpens, effect}
 use Rattle.mb_tree.specs.Fits.{Fits}
-use Rattle.mb_tree.specs.Opening.{first_seat, is_nameless, opening, swept}
+use Rattle.mb_tree.specs.Opening.{first_seat, is_nameless, swept}
 use Rattle.mb_tree.specs.Sessions.{counts, held_by, held_in}
 use Rattle.mb_tree.specs.Sweep.{AreNameless, opens_of_list}
 use Rattle.mb_tree.specs.Trees.{IsSound}
@@ -36,20 +35,18 @@ use Rattle.mb_session.specs.OpenFiles.{TellsCounts}
 use Rattle.mb_rules.specs.TreeOf.{tree_of}
 use Rattle.mb_check.specs.Whole.{IsSoundAs, nameless_in}
 use Rattle.mb_check.specs.declared.scans.Scan.{Scan}
-use Rattle.mb_cache.specs.Pages.{PageList, installed, under}
-use Rattle.mb_cache.specs.Stamps.{raised_by, stamp_of}
+use Rattle.mb_cache.specs.Pages.{under}
+use Rattle.mb_cache.specs.Stamps.{raised_by}
 use Rattle.mb_cache.specs.State.{CacheRoom, CacheState, seen}
 use Rattle.mb_cache.proofs.Layers.{under_installed}
 use Rattle.mb_core_spec.specs.Begun.{begun_core}
 use Rattle.mb_core_spec.specs.Bounds.{IsConfig}
 use Rattle.mb_core_spec.specs.Conditions.{MayBegin}
-use Rattle.mb_core_spec.specs.Seen.{IsHeldBy}
 use Rattle.mb_core_spec.specs.State.{CoreState, JournalRoom}
 use Rattle.mb_core_spec.specs.declared.config.Config.{Config}
 use Rattle.mb_core_order.proofs.Overlays.{same_some, under_held}
 use Rattle.mb_core_order.proofs.Redoing.{counts_are}
-use Rattle.mb_core_state.specs.Opening.{ActsOnNameless, IsSwept}
-use Rattle.mb_core_state.specs.Redoing.{ActsSeen}
+use Rattle.mb_core_state.specs.Opening.{ActsOnNameless}
 use Rattle.mb_core_state.specs.Rooms.{fresh_cache}
 use Rattle.mb_core_events.specs.Beginning.{IsBegunOver, IsSweptIf}
 use Rattle.mb_core_spec.specs.Right.{Right}

@@ -1,4 +1,4 @@
-use Rattle.std.proofs.Common.{ℕ, ◌≤◌, ap, ◌∙◌, subst, sym}
+use Rattle.std.proofs.Common.{◌≤◌, ap, ◌∙◌, subst}
 use Rattle.mb_core_spec.specs.State.{CoreState}
 use Rattle.mb_core_events.specs.Beginning.{IsSweptIf}
 use Rattle.mb_core_events.proofs.RightsOfBegin.{may_begin, names_told}
