@@ -1,6 +1,7 @@
 mod Kept
 mod Knowing
 mod Phases
+mod RightsOfBegin
 mod RightsOfCalls
 mod RightsOfEnter
 mod RightsOfFinish

@@ -6,10 +6,12 @@
 //! (`specs/Finishing.antt`); and what a caller must know first is in `specs/Callings.antt`.
 #![tactic(auto)]
 
+mod beginning;
 mod events;
 mod readers;
 mod recovering;
 mod states;
 
+pub use beginning::Refusal;
 pub use events::Core;
 pub use states::State;
