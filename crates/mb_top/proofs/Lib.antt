@@ -1,5 +1,6 @@
 pub mod BeginLemmas
 pub mod BuiltLemmas
+pub mod CheckLemmas
 pub mod ComesLemmas
 pub mod ContentLemmas
 pub mod Endings

@@ -125,6 +125,8 @@ module _ {D : Type 0} (told : D → Option Image) (faults : D → ℕ) (job : Jo
   comes_ran outcome.WordsRefused clean is = absurd is
   comes_ran outcome.CommandNotBuilt clean is = absurd is
   comes_ran (outcome.Made line) clean is = absurd is
+  comes_ran (outcome.Checked line) clean is = absurd is
+  comes_ran (outcome.Unsound line) clean is = absurd is
   comes_ran outcome.InputFault clean is = absurd is
   comes_ran (outcome.JobRefused line) clean is = absurd is
   comes_ran outcome.JobNotBuilt clean is = absurd is
@@ -150,6 +152,8 @@ module _ {D : Type 0} (told : D → Option Image) (faults : D → ℕ) (job : Jo
     comes_unsettled outcome.WordsRefused is = absurd is
     comes_unsettled outcome.CommandNotBuilt is = absurd is
     comes_unsettled (outcome.Made line) is = absurd is
+    comes_unsettled (outcome.Checked line) is = absurd is
+    comes_unsettled (outcome.Unsound line) is = absurd is
     comes_unsettled outcome.InputFault is = absurd is
     comes_unsettled (outcome.JobRefused line) is = absurd is
     comes_unsettled outcome.JobNotBuilt is = absurd is

@@ -2,10 +2,15 @@
 use Rattle.std.specs.Prelude.{List, ◌++◌, ℕ, ◌+◌, ◌-◌, ◌^◌, ◌≡◌, ◌≢◌, ◌<◌, ◌≤◌, ◌⊎◌, codes, true, false, length, take, count_by, Option, None, Some, Result, Ok, Err, IfSome}
 use Rattle.std.specs.Io.KnownBytes.{Appends}
 use Rattle.mb_edge.specs.Transfers.{TakesFront}
+use Rattle.mb_check.specs.Whole.{IsSoundAs, IsUnsound}
+use Rattle.mb_check.specs.declared.scans.OpenFault.{OpenFault as ScanFault}
+use Rattle.mb_check.specs.declared.scans.OpenFault.TheVariants as faults
+use Rattle.mb_check.specs.declared.scans.Scan.{Scan}
+use Rattle.mb_commands.specs.Lines.{refused_line, sound_line}
 use Rattle.mb_commands.specs.Makes.{HasMade}
 use Rattle.mb_commands.specs.Words.{command_of}
 use Rattle.mb_commands.specs.declared.commands.Command.{Command}
-use Rattle.mb_commands.specs.declared.commands.Command.TheVariants.{Mkfs, Run}
+use Rattle.mb_commands.specs.declared.commands.Command.TheVariants.{Check, Mkfs, Run}
 use Rattle.mb_mkfs.specs.Sizes.{AreSizes}
 use Rattle.mb_jobs.specs.Job.{job_in}
 use Rattle.mb_jobs.specs.declared.jobs.Job.{Job}
@@ -25,7 +30,7 @@ use Rattle.mb_top.specs.Held.{IsDisk, IsDriven, IsGivenBack}
 use Rattle.mb_top.specs.Simple.{IsSimple}
 use Rattle.mb_top.specs.declared.finish.Held.{Held}
 use Rattle.mb_top.specs.declared.outcomes.Outcome.{Outcome}
-use Rattle.mb_top.specs.declared.outcomes.Outcome.TheVariants.{WordsRefused, CommandNotBuilt, InputFault, JobRefused, JobNotBuilt, DiskFault, NoBlocks, BadSizes, ImageNotBuilt, OutOfMemory, Made, Unsettled, Ran}
+use Rattle.mb_top.specs.declared.outcomes.Outcome.TheVariants.{WordsRefused, CommandNotBuilt, InputFault, JobRefused, JobNotBuilt, DiskFault, NoBlocks, BadSizes, ImageNotBuilt, OutOfMemory, Made, Checked, Unsound, Unsettled, Ran}
 
 -- the program's status
 abbrev pub status_of : Outcome → ℕ
@@ -40,6 +45,8 @@ status_of BadSizes = 3
 status_of ImageNotBuilt = 9
 status_of OutOfMemory = 6
 status_of (Made line) = 0
+status_of (Checked line) = 0
+status_of (Unsound line) = 3
 status_of (Unsettled text) = 5
 status_of (Ran text) = 0
 
@@ -56,6 +63,8 @@ text_of BadSizes = codes "volume refused: block 1 rule 2\n"
 text_of ImageNotBuilt = codes "not built\n"
 text_of OutOfMemory = codes "no memory\n"
 text_of (Made line) = line
+text_of (Checked line) = line
+text_of (Unsound line) = line
 text_of (Unsettled text) = text
 text_of (Ran text) = text
 
@@ -110,7 +119,7 @@ IsUnsettled text (Unsettled given) = given ≡ text
 IsUnsettled text OutOfMemory = Unit {0}
 IsUnsettled text _ = ⊥
 
--- the disk failed, at the opening, in a `mkfs`, or in the end of a run
+-- the disk failed, at the opening, in a `mkfs` or a `check`, or in the end of a run
 abbrev pub IsDiskFault : Outcome → Type 0
 IsDiskFault DiskFault = Unit {0}
 IsDiskFault (Unsettled text) = Unit {0}
@@ -164,6 +173,8 @@ abbrev pub ComesOfRunWords : {D : Type 0} → (D → Option Image) → (D → �
 ComesOfRunWords told faults left disk held WordsRefused = ⊥
 ComesOfRunWords told faults left disk held CommandNotBuilt = ⊥
 ComesOfRunWords told faults left disk held (Made line) = ⊥
+ComesOfRunWords told faults left disk held (Checked line) = ⊥
+ComesOfRunWords told faults left disk held (Unsound line) = ⊥
 ComesOfRunWords told faults left disk held InputFault = IsGivenBack told disk held
 ComesOfRunWords told faults left disk held OutOfMemory = Unit {0}
 ComesOfRunWords told faults left disk held (JobRefused line) = IsGivenBack told disk held × OfBytes left (λ bytes. SaysWhy (job_in bytes) line)
@@ -178,10 +189,40 @@ ComesOfMkfs told disk blocks inodes held DiskFault = AreSizes blocks inodes × I
 ComesOfMkfs told disk blocks inodes held OutOfMemory = AreSizes blocks inodes × IsDisk held (λ new. Unit {0})
 ComesOfMkfs told disk blocks inodes held _ = ⊥
 
--- what comes of a command, or of words that are none; `check`, `soak` and threads are not built yet
+-- the line has the figures of the scan, and the image is a volume of the tree that its bytes show, with these figures
+pub record IsSoundBy (told : Option Image) (line : List ℕ) : Type 0 where
+  pub figures : Scan
+  pub says : line ≡ sound_line figures.nodes figures.held figures.free
+  pub sound : IfSome told (λ image. IsSoundAs image figures)
+
+-- the line has the first broken rule and its block, and the image is a volume of no tree
+pub record IsUnsoundBy (told : Option Image) (line : List ℕ) : Type 0 where
+  pub block : ℕ
+  pub rule : ℕ
+  pub says : line ≡ refused_line block rule
+  pub unsound : IfSome told (λ image. IsUnsound image block rule)
+
+-- what comes of a `check`, which leaves the disk as it was
+abbrev pub ComesOfCheck : {D : Type 0} → (D → Option Image) → D → Held D → Outcome → Type 0
+ComesOfCheck told disk held (Checked line) = IsGivenBack told disk held × IsSoundBy (told disk) line
+ComesOfCheck told disk held (Unsound line) = IsGivenBack told disk held × IsUnsoundBy (told disk) line
+ComesOfCheck told disk held DiskFault = IsGivenBack told disk held
+ComesOfCheck told disk held OutOfMemory = IsGivenBack told disk held
+ComesOfCheck told disk held _ = ⊥
+
+-- how a scan is told, or want of memory
+abbrev pub IsToldAs : Result Scan ScanFault → Outcome → Type 0
+IsToldAs (Ok figures) (Checked line) = line ≡ sound_line figures.nodes figures.held figures.free
+IsToldAs (Err (faults.Unsound block rule)) (Unsound line) = line ≡ refused_line block rule
+IsToldAs (Err faults.Device) DiskFault = Unit {0}
+IsToldAs scanned OutOfMemory = Unit {0}
+IsToldAs scanned outcome = ⊥
+
+-- what comes of a command, or of words that are none; `soak` and threads are not built yet
 abbrev pub ComesOfCommand : {D : Type 0} → (D → Option Image) → (D → ℕ) → Option Command → Option (List ℕ) → D → Held D → Outcome → Type 0
 ComesOfCommand told faults None left disk held outcome = (outcome ≡ WordsRefused) × IsGivenBack told disk held
 ComesOfCommand told faults (Some (Mkfs blocks inodes)) left disk held outcome = ComesOfMkfs told disk blocks inodes held outcome
+ComesOfCommand told faults (Some Check) left disk held outcome = ComesOfCheck told disk held outcome
 ComesOfCommand told faults (Some (Run false)) left disk held outcome = ComesOfRunWords told faults left disk held outcome
 ComesOfCommand told faults (Some command) left disk held outcome = (outcome ≡ CommandNotBuilt) × IsGivenBack told disk held
 

@@ -66,7 +66,7 @@ fn words_end_the_program_by_their_command(rt: HostRuntime) -> Result<(), Fail> {
         (["mkfs", "v", "100"].as_slice(), 1, refused),
         (["run", "v", "--threads"].as_slice(), 9, not_built),
         (["soak", "v", "1", "1", "0"].as_slice(), 9, not_built),
-        (["check", "v"].as_slice(), 9, not_built),
+        (["check", "v", "w"].as_slice(), 1, refused),
     ] {
         let end = run(
             rt.alloc(),
@@ -93,6 +93,63 @@ fn the_disk_fails_while_a_volume_is_made(rt: HostRuntime) -> Result<(), Fail> {
             source: 0,
             disk: 0,
             writes: 2,
+            sink: 0,
+        },
+    )?;
+    assert_eq!(rt; end.status, 5);
+    assert_eq!(rt; end.printed.as_slice(), b"disk fault\n".as_slice());
+    Ok(())
+}
+
+#[test]
+fn a_fresh_volume_is_sound(rt: HostRuntime) -> Result<(), Fail> {
+    let fresh = run(
+        rt.alloc(),
+        &["mkfs", "v", "100", "16"],
+        Vec::new(rt.alloc()),
+        b"",
+        NOTHING_FAILS,
+    )?;
+    let before = fresh.image.to_vec(rt.alloc())?;
+    let end = run(rt.alloc(), &["check", "v"], fresh.image, b"", NOTHING_FAILS)?;
+    assert_eq!(rt; end.status, 0);
+    assert_eq!(rt;
+        end.printed.as_slice(),
+        b"sound nodes 1 held 1 free 95\n".as_slice()
+    );
+    assert!(rt; end.image == before);
+    Ok(())
+}
+
+// The super-block says that the free list has 51 addresses (s_nfree).
+#[test]
+fn a_broken_volume_is_unsound(rt: HostRuntime) -> Result<(), Fail> {
+    let mut image = hello_volume(rt.alloc())?;
+    if let Some(count) = image.get_mut(518) {
+        *count = 51;
+    }
+    let before = image.to_vec(rt.alloc())?;
+    let end = run(rt.alloc(), &["check", "v"], image, b"", NOTHING_FAILS)?;
+    assert_eq!(rt; end.status, 3);
+    assert_eq!(rt;
+        end.printed.as_slice(),
+        b"volume refused: block 1 rule 3\n".as_slice()
+    );
+    assert!(rt; end.image == before);
+    Ok(())
+}
+
+#[test]
+fn the_disk_fails_while_an_image_is_checked(rt: HostRuntime) -> Result<(), Fail> {
+    let end = run(
+        rt.alloc(),
+        &["check", "v"],
+        hello_volume(rt.alloc())?,
+        b"",
+        Failing {
+            source: 0,
+            disk: 2,
+            writes: 0,
             sink: 0,
         },
     )?;

@@ -10,7 +10,7 @@ ghost use Rattle.mb_print.specs.Transcript.{transcript_text};
 ghost use Rattle.mb_top.specs.Built.{is_built};
 ghost use Rattle.mb_top.specs.Held.{held_disk};
 ghost use Rattle.mb_top.specs.Beginnings.{IsBegunFor};
-ghost use Rattle.mb_top.specs.Outcomes.{ComesOfMkfs, ComesOfRunWords, IsDiskFault, IsJobRefused, IsOutcome, IsRan, IsRefusedAs, ComesOfJob, ComesOfRun, IsRefusal, IsUnsettled, OfBytes, run_text, unsettled_text};
+ghost use Rattle.mb_top.specs.Outcomes.{ComesOfCheck, ComesOfMkfs, ComesOfRunWords, IsDiskFault, IsJobRefused, IsOutcome, IsRan, IsRefusedAs, IsToldAs, ComesOfJob, ComesOfRun, IsRefusal, IsUnsettled, OfBytes, run_text, unsettled_text};
 ghost use Rattle.mb_tree.specs.Volume.{HasSizes};
 ghost use Rattle.mb_top.specs.Simple.{IsSimple};
 
@@ -20,7 +20,8 @@ use crate::opening::is_simple;
 use crate::outcomes::Outcome;
 use crate::runs::run_calls;
 use crate::settling::settle;
-use mb_commands::{Command, Made, command_of, make_volume};
+use mb_check::{Scan, sound};
+use mb_commands::{Command, Made, command_of, make_volume, refused_line, sound_line};
 use mb_core::{Config, Core, OpenFault, ReadFault, Refusal, RollFault};
 use mb_edge::{Disk, NoMemory, Source, read_whole};
 use mb_host::Words;
@@ -45,6 +46,7 @@ pub fn decide<S: Source, D: Disk>(alloc: Global, words: &Words, job: &mut S, dis
     match command_of(words) {
         None => untouched(disk, Outcome::WordsRefused),
         Some(Command::Mkfs { blocks, inodes }) => make_over(alloc, disk, blocks, inodes),
+        Some(Command::Check) => check_over(alloc, disk),
         Some(Command::Run { threads: false }) => run_job(alloc, job, disk),
         Some(_) => untouched(disk, Outcome::CommandNotBuilt),
     }
@@ -76,6 +78,39 @@ fn make_over<D: Disk>(alloc: Global, mut disk: D, blocks: u32, inodes: u32) -> D
     Decided {
         outcome,
         held: Held::Disk(disk),
+    }
+}
+
+// Looks whether the image is a volume.
+fn check_over<D: Disk>(alloc: Global, mut disk: D) -> Decided<D>
+    ensures comes { ComesOfCheck D.told disk result.held result.outcome }
+    ensures device { IsDiskFault result.outcome → Rose (D.faults disk) (D.faults (held_disk result.held)) }
+    ensures later { D.faults disk ≤ D.faults (held_disk result.held) }
+{
+    let scanned = sound(alloc, &mut disk);
+    Decided {
+        outcome: told_as(alloc, &scanned),
+        held: Held::Disk(disk),
+    }
+}
+
+// A scan as the program prints it.
+fn told_as(alloc: Global, scanned: &Result<Scan, mb_check::OpenFault>) -> Outcome
+    ensures { IsToldAs scanned.now result }
+{
+    match scanned {
+        Ok(figures) => match sound_line(alloc, figures.nodes, figures.held, figures.free) {
+            Ok(line) => Outcome::Checked(line),
+            Err(_) => Outcome::OutOfMemory,
+        },
+        Err(mb_check::OpenFault::Unsound { block, rule }) => {
+            match refused_line(alloc, *block, *rule) {
+                Ok(line) => Outcome::Unsound(line),
+                Err(_) => Outcome::OutOfMemory,
+            }
+        }
+        Err(mb_check::OpenFault::Device) => Outcome::DiskFault,
+        Err(mb_check::OpenFault::NoMemory) => Outcome::OutOfMemory,
     }
 }
 

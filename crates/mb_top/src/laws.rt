@@ -1,4 +1,4 @@
-ghost use Rattle.mb_top.specs.Completes.{Completes, MakesComplete};
+ghost use Rattle.mb_top.specs.Completes.{CheckCompletes, Completes, MakesComplete};
 
 use mb_edge::Disk;
 
@@ -11,4 +11,9 @@ pub fn runs_complete<D: Disk>()
 /// The same of a `mkfs` with the sizes of a volume.
 pub fn makes_complete<D: Disk>()
     ensures { MakesComplete D.told D.faults }
+{}
+
+/// The same of a `check` of a volume.
+pub fn check_completes<D: Disk>()
+    ensures { CheckCompletes D.told D.faults }
 {}

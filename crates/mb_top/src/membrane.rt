@@ -11,10 +11,11 @@ use mb_host::Words;
 use std::alloc::Global;
 
 /// The program over any source, disk and sink: does what the words ask for, prints what comes of it, and gives the
-/// disk back. A `mkfs` makes a fresh volume on the disk; a `run` reads the job and runs it over the disk's image.
+/// disk back. A `mkfs` makes a fresh volume on the disk; a `check` says whether the disk's image is a volume; a `run` reads
+/// the job and runs it over the disk's image.
 ///
 /// The statuses: 0 done; 1 the words are no command, or no volume has the sizes of a `mkfs`; 2 the job is refused; 3
-/// the volume is refused; 5 the disk failed at the opening, in `mkfs`, or in the end of the run; 6 want of memory; 7
+/// the volume is refused; 5 the disk failed at the opening, in `mkfs`, in `check`, or in the end of the run; 6 want of memory; 7
 /// the output failed; 8 the input failed; 9 a command, a job or an image of a form that a later version has.
 /// `specs/Outcomes.antt` says when each comes.
 pub fn membrane<S: Source, D: Disk, K: Sink>(
@@ -52,10 +53,10 @@ fn status_of(outcome: &Outcome) -> u8
     ensures { result ≡ status_of outcome.now }
 {
     match outcome {
-        Outcome::Ran(_) | Outcome::Made(_) => 0,
+        Outcome::Ran(_) | Outcome::Made(_) | Outcome::Checked(_) => 0,
         Outcome::WordsRefused => 1,
         Outcome::JobRefused(_) => 2,
-        Outcome::NoBlocks | Outcome::BadSizes => 3,
+        Outcome::NoBlocks | Outcome::BadSizes | Outcome::Unsound(_) => 3,
         Outcome::DiskFault | Outcome::Unsettled(_) => 5,
         Outcome::OutOfMemory => 6,
         Outcome::InputFault => 8,
@@ -76,7 +77,7 @@ fn text_of(outcome: &Outcome) -> &[u8]
         Outcome::CommandNotBuilt | Outcome::JobNotBuilt | Outcome::ImageNotBuilt => {
             b"not built\n"
         }
-        Outcome::Made(line) => line.as_slice(),
+        Outcome::Made(line) | Outcome::Checked(line) | Outcome::Unsound(line) => line.as_slice(),
         Outcome::JobRefused(text) | Outcome::Unsettled(text) | Outcome::Ran(text) => {
             text.as_slice()
         }

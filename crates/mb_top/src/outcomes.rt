@@ -15,7 +15,7 @@ pub enum Outcome {
     JobRefused(Text),
     /// The job is of a form that is not run yet.
     JobNotBuilt,
-    /// The disk failed while the image was opened, or made.
+    /// The disk failed while the image was opened, made, or checked.
     DiskFault,
     /// The disk has no block 1 (rule 1).
     NoBlocks,
@@ -27,6 +27,10 @@ pub enum Outcome {
     OutOfMemory,
     /// A fresh volume was made; the text is its line.
     Made(Line),
+    /// The image is a volume; the text is the line with its figures.
+    Checked(Line),
+    /// The image is no volume; the text is the line with the first broken rule and its block.
+    Unsound(Line),
     /// The job was run, and the disk failed in the end of the run; the text is its transcript and the line of the
     /// fault.
     Unsettled(Text),
