@@ -1,0 +1,119 @@
+ghost use Rattle.mb_core_spec.specs.declared.config.Config.{Config};
+ghost use Rattle.mb_run.specs.CoreSight.{has_seal_room, sight_of};
+
+use crate::answers::{as_ready, entered_as, stepped_as};
+use mb_cache::Flushed;
+use mb_calls::{Performed, Ready};
+use mb_callers::Pages;
+use mb_core_events::Core;
+use mb_core_spec::{Config, Stage};
+use mb_core_state::{Fault, Finished, Gathered, Left};
+use mb_edge::{Crossings, Disk, Hook, NoMemory};
+use mb_iface::{FileSys, Need};
+use mb_kinds::{Call, Kind, Ticket};
+use mb_recover::recover_step;
+use mb_run::{Enter, EventCore, Stepped};
+use std::alloc::Global;
+
+/// What a core was begun on: its first disk, as it was then, and what it was begun with. Contracts alone speak of it.
+pub struct Origin<D: Disk> {
+    pub first: D,
+    pub config: Config,
+}
+
+/// The event core of a volume, as the driver of a job calls it.
+pub struct VolumeCore<F: FileSys, D: Disk> {
+    pub core: Core<F, D>,
+}
+
+impl<F: FileSys, D: Disk> EventCore for VolumeCore<F, D> {
+    type Origin = Origin<D>;
+
+    ghost sight = { λ c. sight_of c.core };
+
+    ghost may_seal = { λ c. has_seal_room c.core };
+
+    ghost faults = { λ c. D.faults c.core.cache.disk };
+
+    ghost origin = { λ c. record { first = c.core.first; config = c.core.config } };
+
+    fn stage(&self) -> Stage {
+        self.core.stage()
+    }
+
+    fn config(&self) -> &Config {
+        self.core.config()
+    }
+
+    fn logged(&self) -> u32 {
+        self.core.logged()
+    }
+
+    fn begun(&self, caller: u8) -> u32 {
+        self.core.begun(caller)
+    }
+
+    fn perform(&self, alloc: Global, pages: &Pages, ticket: &Ticket, call: &Call) -> Performed {
+        let fs = self.core.fs();
+        let (Some(sessions), Some(opens)) = (pages.sessions(), pages.opens()) else {
+            unreachable!()
+        };
+        mb_calls::perform(
+            alloc,
+            &fs,
+            pages,
+            sessions.as_slice(),
+            opens,
+            ticket.caller,
+            call,
+            ticket.moment,
+        )
+    }
+
+    fn enter(&mut self, alloc: Global, caller: u8, call: &Call) -> Enter {
+        entered_as(self.core.enter(alloc, caller, call))
+    }
+
+    fn gather(
+        &mut self,
+        alloc: Global,
+        ticket: &Ticket,
+        need: Need,
+        pages: &mut Pages,
+    ) -> Gathered {
+        self.core.gather(alloc, ticket, need, pages)
+    }
+
+    fn finish(&mut self, alloc: Global, ticket: &Ticket, pages: &Pages, ready: Ready) -> Finished {
+        self.core.finish(alloc, ticket, pages, as_ready(ready))
+    }
+
+    fn leave(&mut self, ticket: &Ticket) -> Left {
+        self.core.leave(ticket)
+    }
+
+    fn fault<H: Hook>(&mut self, ticket: &Ticket, kind: Kind, nth: u32, hook: &H) -> Fault {
+        self.core.fault(ticket, kind, nth, hook)
+    }
+
+    fn recover_step<H: Hook>(
+        &mut self,
+        alloc: Global,
+        by: &mut Option<Crossings>,
+        hook: &mut H,
+    ) -> Stepped {
+        stepped_as(recover_step(alloc, &mut self.core, by, hook))
+    }
+
+    fn quit(&mut self, caller: u8) {
+        self.core.quit(caller);
+    }
+
+    fn seal(&mut self) -> Result<(), NoMemory> {
+        self.core.seal()
+    }
+
+    fn flush_one(&mut self) -> Flushed {
+        self.core.flush_one()
+    }
+}
