@@ -70,6 +70,13 @@ impl<F: FileSys, D: Disk> Core<F, D> {
         }
     }
 
+    /// Where the volume stands.
+    pub fn stage(&self) -> Stage
+        ensures { result ≡ self.now.stage }
+    {
+        self.fields.stage()
+    }
+
     /// What it was begun with.
     pub fn config(&self) -> &Config
         ensures { result.now ≡ self.now.config }
