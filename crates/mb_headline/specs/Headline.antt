@@ -1,0 +1,101 @@
+-- What a run of a job over a disk gives: the promise on its history, its fault records, and the image that it leaves.
+use Rattle.std.specs.Prelude.{List, [], ℕ, ◌+◌, ◌-◌, ◌^◌, ◌<◌, ◌≤◌, ◌≡◌, Option, Some, None, length, map, count_by}
+use Rattle.std.specs.List.{AllByRecursion}
+use Rattle.mb_core_spec.specs.Callers.{EachCaller}
+use Rattle.mb_core_spec.specs.Faults.{FewDevices, is_device}
+use Rattle.mb_core_spec.specs.Right.{Right}
+use Rattle.mb_core_spec.specs.State.{CoreState}
+use Rattle.mb_core_spec.specs.declared.config.Config.{Config}
+use Rattle.mb_core_spec.specs.declared.stages.Stage.TheVariants as stage
+use Rattle.mb_jobs.specs.declared.jobs.Caller.{Caller}
+use Rattle.mb_jobs.specs.declared.jobs.Job.{Job}
+use Rattle.mb_kinds.specs.Image.{Image}
+use Rattle.mb_kinds.specs.declared.entries.Entry.{Entry}
+use Rattle.mb_run.specs.Drives.{HasEachMoment, IsLinedUp}
+use Rattle.mb_run.specs.Runs.{HasFailed, HasRecords}
+use Rattle.mb_run.specs.Served.{calls_in, calls_of}
+use Rattle.mb_tree.specs.History.{Legal, after_first}
+use Rattle.mb_tree.specs.Opening.{opening}
+use Rattle.mb_tree.specs.Views.{Kept}
+use Rattle.mb_tree.specs.Volume.{IsVolume}
+use Rattle.mb_tree.specs.declared.machines.Machine.{Machine}
+use Rattle.mb_tree.specs.declared.trees.Tree.{Tree}
+
+-- ---- what is run
+
+-- a core is begun with the job's callers, with the moment before the first one, and with when checkpoints are taken and how
+-- many faults are survived
+pub record IsConfigOf (job : Job) (config : Config) : Type 0 where
+  pub callers : config.callers ≡ map (λ (caller : Caller). caller.cred) job.callers
+  pub start : config.start ≡ job.start
+  pub threshold : config.threshold ≡ job.threshold
+  pub limit : config.limit ≡ job.limit
+
+-- the reference model as it begins: the volume's tree, opened for the job's callers
+abbrev pub opened : Job → Tree → Machine
+opened job tree = opening tree (map (λ (caller : Caller). caller.cred) job.callers)
+
+-- what holds of each tree of which the disk's image is a volume
+abbrev pub OverVolume : {D : Type 0} → (D → Option Image) → D → (Image → Tree → Type 0) → Type 0
+OverVolume told disk Fact = (image : Image) (tree : Tree) → told disk ≡ Some image → IsVolume image tree → Fact image tree
+
+-- ---- the history
+
+-- one legal history of the volume's tree
+abbrev pub HasHistory : {D : Type 0} → (D → Option Image) → Job → D → List Entry → Type 0
+HasHistory told job disk history = OverVolume told disk (λ image tree. Legal (opened job tree) job.start history)
+
+-- each caller's calls stand once, in its order
+abbrev pub HasOwnCalls : Job → List Entry → Type 0
+HasOwnCalls job history = (caller : ℕ) → caller < length job.callers → calls_in history caller ≡ calls_of job.calls caller
+
+-- a job that was run over a disk: the core began over it for the job; its history is a legal one, in which each caller's calls
+-- stand once, in its order, each at one of the moments after the start; its fault records are of faults of the plan; and the
+-- disk ended at most as many calls as it had faults
+pub record IsRun {F D : Type 0} (told : D → Option Image) (faults : D → ℕ) (job : Job) (disk : D) (core : CoreState F D) : Type 0 where
+  pub right : Right told faults core
+  pub first : told core.first ≡ told disk
+  pub config : IsConfigOf job core.config
+  pub legal : HasHistory told job disk core.journal.history
+  pub own_calls : HasOwnCalls job core.journal.history
+  pub moments : HasEachMoment job.start core.journal.history
+  pub lined : IsLinedUp job.order job.calls job.start core.journal.history
+  pub records : HasRecords job.plan core.journal.history core.journal.records
+  pub failures : AllByRecursion (λ (entry : Entry). HasFailed job.limit core.journal.records entry.reply) core.journal.history
+  pub devices : FewDevices (faults disk) (faults core.cache.disk) core.journal.history
+
+-- ---- the end of a run
+
+-- nobody's call is in flight, and no page waits
+pub record IsAtRest {F D : Type 0} (core : CoreState F D) : Type 0 where
+  pub free : EachCaller (λ caller mine. mine.flight ≡ None) core.callers
+  pub current : core.cache.current ≡ []
+  pub sealed : core.cache.sealed ≡ []
+
+-- the volume runs, a checkpoint was taken of all entries, and at most as many faults struck as are survived
+pub record IsDone {F D : Type 0} (job : Job) (core : CoreState F D) : Type 0 where
+  pub rest : IsAtRest core
+  pub runs : core.stage ≡ stage.Running
+  pub few : length core.journal.records ≤ job.limit
+  pub sealed_at : core.journal.sealed_at ≡ length core.journal.history
+
+-- the volume failed: one fault more struck than are survived
+pub record IsGivenUp {F D : Type 0} (job : Job) (core : CoreState F D) : Type 0 where
+  pub rest : IsAtRest core
+  pub failed : core.stage ≡ stage.Failed
+  pub many : length core.journal.records ≡ job.limit + 1
+  pub sealed_at : core.journal.sealed_at ≤ length core.journal.history
+
+-- an image is a volume of the tree after the first entries of a history, all else kept
+pub record IsLeft (job : Job) (history : List Entry) (count : ℕ) (first last : Image) (tree : Tree) : Type 0 where
+  pub volume : IsVolume last (after_first (opened job tree) history count).tree
+  pub kept : Kept tree first (after_first (opened job tree) history count).tree last
+
+-- the disk has an image that is one of the entries up to the last checkpoint
+abbrev pub LeavesImage : {F D : Type 0} → (D → Option Image) → Job → D → CoreState F D → Type 0
+LeavesImage told job disk core = OverVolume told disk (λ image tree.
+    (left : Image) × (told core.cache.disk ≡ Some left) × IsLeft job core.journal.history core.journal.sealed_at image left tree)
+
+-- where the disk failed in the end of a run, fewer calls than its faults were ended by the disk
+abbrev pub FewerDevices : ℕ → ℕ → List Entry → Type 0
+FewerDevices before now history = now < 2 ^ 64 - 1 → count_by (λ (entry : Entry). is_device entry.reply) history + before < now

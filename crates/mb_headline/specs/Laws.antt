@@ -1,0 +1,62 @@
+-- What a core that was begun for a job, driven and settled comes to.
+use Rattle.std.specs.Prelude.{ℕ, ◌≤◌, ◌≡◌, ◌⊎◌, Option, Some, Ok, List, length}
+use Rattle.mb_core_events.specs.Beginning.{IsBegunOver}
+use Rattle.mb_core_spec.specs.Right.{Right}
+use Rattle.mb_core_spec.specs.State.{CoreState}
+use Rattle.mb_core_spec.specs.Bounds.{IsConfig}
+use Rattle.mb_edge.specs.Causes.{Rose}
+use Rattle.mb_core_spec.specs.declared.config.Config.{Config}
+use Rattle.mb_jobs.specs.Job.{job_in}
+use Rattle.mb_jobs.specs.declared.jobs.Job.{Job}
+use Rattle.mb_kinds.specs.Image.{Image}
+use Rattle.mb_plan.specs.Fires.{fires}
+use Rattle.mb_run.specs.CoreSight.{sight_of}
+use Rattle.mb_run.specs.Drives.{IsBegun, IsDriven, IsRunnable}
+use Rattle.mb_run.specs.Settling.{IsSettled, Keeps}
+use Rattle.mb_headline.specs.Headline.{FewerDevices, IsConfigOf, IsDone, IsGivenUp, IsRun, LeavesImage}
+
+-- each caller may begin all its calls
+abbrev pub MayBeginAll : Job → Config → Type 0
+MayBeginAll job config = length job.calls ≤ config.most
+
+-- what a job's text writes can be run, and a core can be begun for it
+pub record IsFitJob (job : Job) : Type 0 where
+  pub runnable : IsRunnable job
+  pub config : (config : Config) → IsConfigOf job config → config.most ≡ length job.calls → IsConfig config
+
+abbrev pub JobsAreFit : Type 0
+JobsAreFit = (bytes : List ℕ) (job : Job) → job_in bytes ≡ Ok job → IsFitJob job
+
+-- a core that begins over a disk with the config of a job is one that was begun for the job
+abbrev pub BeginsForJob : {F D : Type 0} → F → (D → Option Image) → (D → ℕ) → Type 0
+BeginsForJob {F} {D} fs told faults = (disk : D) (job : Job) (config : Config) (core : CoreState F D)
+    → IsBegunOver told faults fs disk config core → Right told faults core → IsConfigOf job config → MayBeginAll job config → IsBegun job (sight_of core)
+
+-- a core that was begun over a disk for a job, the core that the driver left, and the core at the end
+pub record IsPath {F D : Type 0} (fs : F) (told : D → Option Image) (faults : D → ℕ) (job : Job) (disk : D) (begun driven ended : CoreState F D) : Type 0 where
+  pub config : Config
+  pub over : IsBegunOver told faults fs disk config begun
+  pub config_is : IsConfigOf job config
+  pub drives : IsDriven job (Some (fires job.plan)) (sight_of begun) (sight_of driven)
+  pub first : ended.first ≡ begun.first
+  pub same_config : ended.config ≡ begun.config
+  pub keeps : Keeps (sight_of driven) (sight_of ended)
+  pub right : Right told faults ended
+
+-- such a run is one of a job that a text writes
+abbrev pub PathsAreRuns : {F D : Type 0} → F → (D → Option Image) → (D → ℕ) → Type 0
+PathsAreRuns {F} {D} fs told faults = (bytes : List ℕ) (job : Job) (disk : D) (begun driven ended : CoreState F D)
+    → job_in bytes ≡ Ok job → IsPath fs told faults job disk begun driven ended → IsRun told faults job disk ended
+
+-- where it was settled, it is done or the volume was given up, and the image is that of the last checkpoint
+abbrev pub PathsEnd : {F D : Type 0} → F → (D → Option Image) → (D → ℕ) → Type 0
+PathsEnd {F} {D} fs told faults = (job : Job) (disk : D) (begun driven ended : CoreState F D)
+    → IsPath fs told faults job disk begun driven ended → IsSettled (sight_of driven) (sight_of ended)
+    → (IsDone job ended ⊎ IsGivenUp job ended) × LeavesImage told job disk ended
+
+-- where the disk failed in the end of the run, fewer calls than its faults were ended by the disk
+abbrev pub PathsFail : {F D : Type 0} → F → (D → Option Image) → (D → ℕ) → Type 0
+PathsFail {F} {D} fs told faults = (job : Job) (disk : D) (begun driven ended : CoreState F D)
+    → IsPath fs told faults job disk begun driven ended → Right told faults driven → driven.first ≡ begun.first
+    → Rose (faults driven.cache.disk) (faults ended.cache.disk)
+    → FewerDevices (faults disk) (faults ended.cache.disk) ended.journal.history
