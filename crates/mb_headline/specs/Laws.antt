@@ -28,8 +28,8 @@ abbrev pub JobsAreFit : Type 0
 JobsAreFit = (bytes : List ℕ) (job : Job) → job_in bytes ≡ Ok job → IsFitJob job
 
 -- a core that begins over a disk with the config of a job is one that was begun for the job
-abbrev pub BeginsForJob : {F D : Type 0} → F → (D → Option Image) → (D → ℕ) → Type 0
-BeginsForJob {F} {D} fs told faults = (disk : D) (job : Job) (config : Config) (core : CoreState F D)
+abbrev pub BeginsForJob : (F D : Type 0) → (D → Option Image) → (D → ℕ) → Type 0
+BeginsForJob F D told faults = (fs : F) (disk : D) (job : Job) (config : Config) (core : CoreState F D)
     → IsBegunOver told faults fs disk config core → Right told faults core → IsConfigOf job config → MayBeginAll job config → IsBegun job (sight_of core)
 
 -- a core that was begun over a disk for a job, the core that the driver left, and the core at the end
@@ -44,19 +44,19 @@ pub record IsPath {F D : Type 0} (fs : F) (told : D → Option Image) (faults : 
   pub right : Right told faults ended
 
 -- such a run is one of a job that a text writes
-abbrev pub PathsAreRuns : {F D : Type 0} → F → (D → Option Image) → (D → ℕ) → Type 0
-PathsAreRuns {F} {D} fs told faults = (bytes : List ℕ) (job : Job) (disk : D) (begun driven ended : CoreState F D)
+abbrev pub PathsAreRuns : (F D : Type 0) → (D → Option Image) → (D → ℕ) → Type 0
+PathsAreRuns F D told faults = (fs : F) (bytes : List ℕ) (job : Job) (disk : D) (begun driven ended : CoreState F D)
     → job_in bytes ≡ Ok job → IsPath fs told faults job disk begun driven ended → IsRun told faults job disk ended
 
 -- where it was settled, it is done or the volume was given up, and the image is that of the last checkpoint
-abbrev pub PathsEnd : {F D : Type 0} → F → (D → Option Image) → (D → ℕ) → Type 0
-PathsEnd {F} {D} fs told faults = (job : Job) (disk : D) (begun driven ended : CoreState F D)
+abbrev pub PathsEnd : (F D : Type 0) → (D → Option Image) → (D → ℕ) → Type 0
+PathsEnd F D told faults = (fs : F) (job : Job) (disk : D) (begun driven ended : CoreState F D)
     → IsPath fs told faults job disk begun driven ended → IsSettled (sight_of driven) (sight_of ended)
     → (IsDone job ended ⊎ IsGivenUp job ended) × LeavesImage told job disk ended
 
 -- where the disk failed in the end of the run, fewer calls than its faults were ended by the disk
-abbrev pub PathsFail : {F D : Type 0} → F → (D → Option Image) → (D → ℕ) → Type 0
-PathsFail {F} {D} fs told faults = (job : Job) (disk : D) (begun driven ended : CoreState F D)
+abbrev pub PathsFail : (F D : Type 0) → (D → Option Image) → (D → ℕ) → Type 0
+PathsFail F D told faults = (fs : F) (job : Job) (disk : D) (begun driven ended : CoreState F D)
     → IsPath fs told faults job disk begun driven ended → Right told faults driven → driven.first ≡ begun.first
     → Rose (faults driven.cache.disk) (faults ended.cache.disk)
     → FewerDevices (faults disk) (faults ended.cache.disk) ended.journal.history

@@ -1,7 +1,6 @@
 ghost use Rattle.mb_headline.specs.Laws.{BeginsForJob, JobsAreFit, PathsAreRuns, PathsEnd, PathsFail};
 
 use mb_edge::Disk;
-use mb_iface::FileSys;
 
 /// A job that a text writes has at most eight callers, whose calls are few enough to be counted, and a core can be begun for it.
 pub fn jobs_are_fit()
@@ -9,22 +8,22 @@ pub fn jobs_are_fit()
 {}
 
 /// A core that begins over a disk with what a job asks for is one that the driver may run the job over.
-pub fn begins_for_job<F: FileSys, D: Disk>(fs: F)
-    ensures { BeginsForJob fs D.told D.faults }
+pub fn begins_for_job<F, D: Disk>()
+    ensures { BeginsForJob F D D.told D.faults }
 {}
 
 /// What the driver leaves of such a core, and the end of a run after it, is a run of the job: one legal history, in which each
 /// caller's calls stand once, in its order, and the fault records of the plan.
-pub fn paths_are_runs<F: FileSys, D: Disk>(fs: F)
-    ensures { PathsAreRuns fs D.told D.faults }
+pub fn paths_are_runs<F, D: Disk>()
+    ensures { PathsAreRuns F D D.told D.faults }
 {}
 
 /// A run that was settled is done, or the volume was given up; the image left is a volume of the tree at the last checkpoint.
-pub fn paths_end<F: FileSys, D: Disk>(fs: F)
-    ensures { PathsEnd fs D.told D.faults }
+pub fn paths_end<F, D: Disk>()
+    ensures { PathsEnd F D D.told D.faults }
 {}
 
 /// Where the disk failed in the end of a run, it ended fewer calls than it had faults.
-pub fn paths_fail<F: FileSys, D: Disk>(fs: F)
-    ensures { PathsFail fs D.told D.faults }
+pub fn paths_fail<F, D: Disk>()
+    ensures { PathsFail F D D.told D.faults }
 {}
