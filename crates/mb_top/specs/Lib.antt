@@ -1,16 +1,3 @@
-pub mod Beginnings
-pub mod Built
 pub mod Completes
-pub mod Contents
-pub mod Headline
 pub mod Held
-pub mod Openings
 pub mod Outcomes
-pub mod Plain
-pub mod Reads
-pub mod Records
-pub mod Runs
-pub mod Serving
-pub mod Settling
-pub mod Simple
-pub mod Underway

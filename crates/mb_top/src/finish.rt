@@ -1,14 +1,15 @@
 ghost use Rattle.std.specs.Prelude.{◌≡◌};
 
-use mb_core::Core;
+use mb_core_events::Core;
 use mb_edge::Disk;
+use mb_fsops::V7;
 
 /// What the program held at its end.
 pub enum Held<D: Disk> {
-    /// The disk, where no job was run.
+    /// The disk, where no core was begun over it.
     Disk(D),
     /// The core that the run drove, as the end of the run left it.
-    Core(Core<D>),
+    Core(Core<V7, D>),
 }
 
 impl<D: Disk> Held<D> {

@@ -1,11 +1,16 @@
-ghost use Rattle.mb_top.specs.Completes.{CheckCompletes, Completes, MakesComplete};
+ghost use Rattle.mb_top.specs.Completes.{CheckCompletes, MakesComplete, RunsComplete, SurvivorsComplete};
 
 use mb_edge::Disk;
 
-/// What the contract of `membrane` leaves of the ends of a run: with a job of the form that is run, a simple
-/// image and no fault of the outside, the status is 0, or 6 for want of memory.
+/// What the contract of `membrane` leaves of the ends of a run: with a job, a volume and no fault of the outside, the status
+/// is 0, or 4 where more faults struck than the volume survives, or 6 for want of memory.
 pub fn runs_complete<D: Disk>()
-    ensures { Completes D.told D.faults }
+    ensures { RunsComplete D.told D.faults }
+{}
+
+/// Where the rules of the job's plan have at most as many times together as the volume survives faults, the status is 0 or 6.
+pub fn survivors_complete<D: Disk>()
+    ensures { SurvivorsComplete D.told D.faults }
 {}
 
 /// The same of a `mkfs` with the sizes of a volume.

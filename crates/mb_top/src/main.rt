@@ -3,8 +3,6 @@
 //! what files and pipes hold. `mb_commands` says which words are a command.
 #![tactic(auto)]
 
-mod blocks;
-mod built;
 #[cfg(test)]
 mod command_tests;
 mod deciding;
@@ -12,20 +10,15 @@ mod deciding;
 mod example_tests;
 #[cfg(test)]
 mod fault_tests;
-mod files;
 mod finish;
 #[cfg(test)]
 mod job_tests;
 mod laws;
 mod membrane;
-mod opening;
 mod outcomes;
-mod performing;
-mod roots;
+mod running;
 #[cfg(test)]
 mod run_tests;
-mod runs;
-mod settling;
 #[cfg(test)]
 mod volumes;
 

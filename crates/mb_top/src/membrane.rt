@@ -10,14 +10,14 @@ use mb_edge::{Disk, Sink, Source, write_whole};
 use mb_host::Words;
 use std::alloc::Global;
 
-/// The program over any source, disk and sink: does what the words ask for, prints what comes of it, and gives the
-/// disk back. A `mkfs` makes a fresh volume on the disk; a `check` says whether the disk's image is a volume; a `run` reads
-/// the job and runs it over the disk's image.
+/// The program over any source, disk and sink: does what the words ask for, prints what comes of it, and gives back
+/// the disk, or the core that a run drove. A `mkfs` makes a fresh volume on the disk; a `check` says whether the disk's
+/// image is a volume; a `run` reads the job and runs it over the disk's image, with the faults of its plan.
 ///
 /// The statuses: 0 done; 1 the words are no command, or no volume has the sizes of a `mkfs`; 2 the job is refused; 3
-/// the volume is refused; 5 the disk failed at the opening, in `mkfs`, in `check`, or in the end of the run; 6 want of memory; 7
-/// the output failed; 8 the input failed; 9 a command, a job or an image of a form that a later version has.
-/// `specs/Outcomes.antt` says when each comes.
+/// the image is no volume; 4 more faults struck than the volume survives; 5 the disk failed at the opening, in `mkfs`, in
+/// `check`, or in the end of the run; 6 want of memory; 7 the output failed; 8 the input failed; 9 a command that a later
+/// version has. `specs/Outcomes.antt` says when each comes.
 pub fn membrane<S: Source, D: Disk, K: Sink>(
     alloc: Global,
     words: &Words,
@@ -56,11 +56,12 @@ fn status_of(outcome: &Outcome) -> u8
         Outcome::Ran(_) | Outcome::Made(_) | Outcome::Checked(_) => 0,
         Outcome::WordsRefused => 1,
         Outcome::JobRefused(_) => 2,
-        Outcome::NoBlocks | Outcome::BadSizes | Outcome::Unsound(_) => 3,
+        Outcome::Unsound(_) => 3,
+        Outcome::GivenUp(_) => 4,
         Outcome::DiskFault | Outcome::Unsettled(_) => 5,
         Outcome::OutOfMemory => 6,
         Outcome::InputFault => 8,
-        Outcome::CommandNotBuilt | Outcome::JobNotBuilt | Outcome::ImageNotBuilt => 9,
+        Outcome::CommandNotBuilt => 9,
     }
 }
 
@@ -71,15 +72,12 @@ fn text_of(outcome: &Outcome) -> &[u8]
         Outcome::WordsRefused => b"words refused\n",
         Outcome::InputFault => b"input fault\n",
         Outcome::DiskFault => b"disk fault\n",
-        Outcome::NoBlocks => b"volume refused: block 1 rule 1\n",
-        Outcome::BadSizes => b"volume refused: block 1 rule 2\n",
         Outcome::OutOfMemory => b"no memory\n",
-        Outcome::CommandNotBuilt | Outcome::JobNotBuilt | Outcome::ImageNotBuilt => {
-            b"not built\n"
-        }
+        Outcome::CommandNotBuilt => b"not built\n",
         Outcome::Made(line) | Outcome::Checked(line) | Outcome::Unsound(line) => line.as_slice(),
-        Outcome::JobRefused(text) | Outcome::Unsettled(text) | Outcome::Ran(text) => {
-            text.as_slice()
-        }
+        Outcome::JobRefused(text)
+        | Outcome::Unsettled(text)
+        | Outcome::GivenUp(text)
+        | Outcome::Ran(text) => text.as_slice(),
     }
 }

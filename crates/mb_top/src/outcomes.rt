@@ -13,16 +13,8 @@ pub enum Outcome {
     InputFault,
     /// The job's text is none; the text is the line with the first cause.
     JobRefused(Text),
-    /// The job is of a form that is not run yet.
-    JobNotBuilt,
     /// The disk failed while the image was opened, made, or checked.
     DiskFault,
-    /// The disk has no block 1 (rule 1).
-    NoBlocks,
-    /// The sizes in the super-block are out of their ranges (rule 2).
-    BadSizes,
-    /// The image is of a form that is not run yet.
-    ImageNotBuilt,
     /// There was no memory.
     OutOfMemory,
     /// A fresh volume was made; the text is its line.
@@ -34,6 +26,8 @@ pub enum Outcome {
     /// The job was run, and the disk failed in the end of the run; the text is its transcript and the line of the
     /// fault.
     Unsettled(Text),
+    /// The job was run, and more faults struck than the volume survives; the text is its transcript with the last line.
+    GivenUp(Text),
     /// The job was run; the text is its transcript with the last line.
     Ran(Text),
 }

@@ -1,6 +1,0 @@
-use Rattle.std.proofs.Common.{arith}
-use Rattle.mb_core.proofs.Counting.{none_less}
-use Rattle.mb_core.proofs.open_table.OpenTable.lower_one.Goals as goal
-
-pub returns-then-count-eq0 : goal.returns-then-count-eq0
-returns-then-count-eq0 c = none_less c.args.self.now.counts c.args.ino c.count-count.result c.count-count.ensures.list c.count-count.ensures.count (omega arith)
