@@ -1,3 +1,6 @@
 pub mod CheckLemmas
 pub mod Endings
 pub mod JobLemmas
+pub mod Refusals
+pub mod Runs
+pub mod Words

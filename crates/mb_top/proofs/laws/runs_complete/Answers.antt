@@ -1,5 +1,5 @@
-use Rattle.mb_top.proofs.Endings.{completes}
+use Rattle.mb_top.proofs.Endings.{runs_complete}
 use Rattle.mb_top.proofs.laws.runs_complete.Goals as goal
 
 pub returns : goal.returns
-returns g c = completes g.D.Disk.told g.D.Disk.faults
+returns g c = runs_complete g.D.Disk.told g.D.Disk.faults
