@@ -1,5 +1,5 @@
 -- Which ends a run can have.
-use Rattle.std.proofs.Common.{List, ℕ, ◌≡◌, ◌≢◌, ◌⊎◌, inl, inr, take, subst, ◌∙◌, Option, Some, Result, Ok, refl, IfSome}
+use Rattle.std.proofs.Common.{List, ℕ, ◌+◌, ◌≤◌, ◌≡◌, ◌≢◌, ◌⊎◌, inl, inr, take, ap, arith, sym, subst, ◌∙◌, Option, Some, Result, Ok, refl, IfSome}
 use Rattle.mb_check.specs.Whole.{IsUnsound}
 use Rattle.mb_commands.specs.declared.commands.Command.{Command}
 use Rattle.mb_jobs.specs.Job.{job_in}
@@ -7,13 +7,20 @@ use Rattle.mb_jobs.specs.declared.jobs.Job.{Job}
 use Rattle.mb_jobs.specs.declared.jobs.JobFault.{JobFault}
 use Rattle.mb_kinds.specs.Image.{Image}
 use Rattle.mb_mkfs.specs.Sizes.{AreSizes}
-use Rattle.mb_top.specs.Completes.{CheckCompletes, MakesComplete, RunsComplete}
+use Rattle.mb_top.specs.Completes.{CheckCompletes, MakesComplete, RunsComplete, SurvivorsComplete}
 use Rattle.mb_top.specs.Outcomes.{ComesOfCheck, ComesOfCommand, ComesOfMkfs, ComesOfRunWords, SaysWhy, status_of}
 use Rattle.mb_top.specs.declared.finish.Held.{Held}
 use Rattle.mb_top.specs.declared.outcomes.Outcome.{Outcome}
 use Rattle.mb_top.specs.declared.outcomes.Outcome.TheVariants.{WordsRefused, CommandNotBuilt, InputFault, JobRefused, DiskFault, OutOfMemory, Made, Checked, Unsound, Unsettled, GivenUp, Ran}
 use Rattle.mb_tree.specs.Volume.{IsVolume}
 use Rattle.mb_tree.specs.declared.trees.Tree.{Tree}
+use Rattle.std.specs.Prelude.{sum_by}
+use Rattle.mb_plan.specs.declared.rules.Rule.{Rule}
+use Rattle.mb_plan_laws.specs.Firing.{FiresAtMost}
+use Rattle.mb_top.specs.Held.{HoldsCore}
+use Rattle.mb_top.specs.Outcomes.{IsRunToFailure}
+use Rattle.mb_top.specs.declared.finish.Held.TheVariants as held
+use Rattle.mb_top.proofs.Survivors.{few_records}
 
 -- a status that is left for a job on a volume
 abbrev pub IsLeftOver : ℕ → Type 0
@@ -70,6 +77,65 @@ runs_complete told faults words bytes disk job held old new status ended smooth 
     settle status (status_of ended.outcome) (ended_at ended.printed.ended) (left_over told faults bytes disk smooth.image smooth.tree job held ended.outcome
     (subst (λ (c : Option Command). ComesOfCommand told faults c (Some bytes) disk held ended.outcome) smooth.command ended.is) smooth.read smooth.tells smooth.volume)
     smooth.disk_works smooth.output_works smooth.input_works
+
+-- a volume that was given up recorded more faults than the plan has times
+given_up_over : {D : Type 0} (told : D → Option Image) (faults : D → ℕ) (job : Job) (disk : D) (text : List ℕ) (given : Held D) → FiresAtMost
+    → HoldsCore given (IsRunToFailure told faults job disk text) → job.limit + 1 ≤ sum_by (λ (rule : Rule). rule.times) job.plan
+given_up_over told faults job disk text (held.Disk back) law is = absurd is
+given_up_over told faults job disk text (held.Core core) law is =
+    let few = few_records job.plan core.journal.records law is.run.records.planned is.run.records.distinct in
+    omega (arith, few, is.given_up.many)
+
+ok_same : {one other : Job} → Ok {E = JobFault} one ≡ Ok other → one ≡ other
+ok_same same = ap (λ (found : Result Job JobFault). job_or found) same
+
+-- the job that was run is the one that the text writes
+same_job : (bytes read : List ℕ) (one other : Job) → read ≡ take 4194305 bytes → job_in read ≡ Ok one → job_in (take 4194305 bytes) ≡ Ok other → one ≡ other
+same_job bytes read one other first gives good = ok_same (sym gives ∙ ap job_in first ∙ good)
+
+no_failure : {D : Type 0} (told : D → Option Image) (faults : D → ℕ) (bytes : List ℕ) (disk : D) (job : Job) (given : Held D) (text : List ℕ) → FiresAtMost
+    → ComesOfRunWords told faults (Some bytes) disk given (GivenUp text) → job_in (take 4194305 bytes) ≡ Ok job → sum_by (λ (rule : Rule). rule.times) job.plan ≤ job.limit → ⊥
+no_failure told faults bytes disk job given text law is good survives =
+    let over = given_up_over told faults is.fact.job disk text given law is.fact.over.1 in
+    let same = same_job bytes is.bytes is.fact.job job is.first is.fact.read good in
+    let short = subst (λ (j : Job). j.limit + 1 ≤ sum_by (λ (rule : Rule). rule.times) j.plan) same over in
+    omega (arith, short, survives)
+
+no_four : {D : Type 0} (told : D → Option Image) (faults : D → ℕ) (bytes : List ℕ) (disk : D) (job : Job) (given : Held D) (outcome : Outcome) → FiresAtMost
+    → ComesOfRunWords told faults (Some bytes) disk given outcome → job_in (take 4194305 bytes) ≡ Ok job → sum_by (λ (rule : Rule). rule.times) job.plan ≤ job.limit → status_of outcome ≢ 4
+no_four told faults bytes disk job given (GivenUp text) law is good survives = λ four. no_failure told faults bytes disk job given text law is good survives
+no_four told faults bytes disk job given WordsRefused law is good survives = λ four. omega (arith, four)
+no_four told faults bytes disk job given CommandNotBuilt law is good survives = λ four. omega (arith, four)
+no_four told faults bytes disk job given InputFault law is good survives = λ four. omega (arith, four)
+no_four told faults bytes disk job given (JobRefused line) law is good survives = λ four. omega (arith, four)
+no_four told faults bytes disk job given DiskFault law is good survives = λ four. omega (arith, four)
+no_four told faults bytes disk job given OutOfMemory law is good survives = λ four. omega (arith, four)
+no_four told faults bytes disk job given (Made line) law is good survives = λ four. omega (arith, four)
+no_four told faults bytes disk job given (Checked line) law is good survives = λ four. omega (arith, four)
+no_four told faults bytes disk job given (Unsound line) law is good survives = λ four. omega (arith, four)
+no_four told faults bytes disk job given (Unsettled text) law is good survives = λ four. omega (arith, four)
+no_four told faults bytes disk job given (Ran text) law is good survives = λ four. omega (arith, four)
+
+-- a status that is neither the output's fault nor 4 for a reason
+not_four : (status left : ℕ) → (status ≡ left) ⊎ (status ≡ 7) → left ≢ 4 → status ≢ 7 → (status ≡ 0) ⊎ (status ≡ 4) ⊎ (status ≡ 6) → (status ≡ 0) ⊎ (status ≡ 6)
+not_four status left ended no_failure no_output ends =
+    elim ends [
+      | inl done ↦ inl done
+      | inr rest ↦ elim rest [
+        | inr memory ↦ inr memory
+        | inl four ↦ elim ended [
+          | inl same ↦ absurd (no_failure (sym same ∙ four))
+          | inr output ↦ absurd (no_output output)
+        ]
+      ]
+    ]
+
+pub survivors_complete : {D : Type 0} (told : D → Option Image) (faults : D → ℕ) → FiresAtMost → SurvivorsComplete told faults
+survivors_complete told faults law words bytes disk job given old new status ended smooth survives =
+    not_four status (status_of ended.outcome) (ended_at ended.printed.ended)
+    (no_four told faults bytes disk job given ended.outcome law
+    (subst (λ (c : Option Command). ComesOfCommand told faults c (Some bytes) disk given ended.outcome) smooth.command ended.is) smooth.read survives)
+    smooth.output_works (runs_complete told faults words bytes disk job given old new status ended smooth)
 
 -- ---- mkfs
 

@@ -3,4 +3,5 @@ pub mod Endings
 pub mod JobLemmas
 pub mod Refusals
 pub mod Runs
+pub mod Survivors
 pub mod Words
