@@ -86,12 +86,12 @@ given_up_over told faults job disk text (held.Core core) law is =
     let few = few_records job.plan core.journal.records law is.run.records.planned is.run.records.distinct in
     omega (arith, few, is.given_up.many)
 
-ok_same : {one other : Job} → Ok {E = JobFault} one ≡ Ok other → one ≡ other
-ok_same same = ap (λ (found : Result Job JobFault). job_or found) same
+same_ok : (one other : Job) → ◌≡◌ {A = Result Job JobFault} (Ok one) (Ok other) → one ≡ other
+same_ok one other same = cc
 
 -- the job that was run is the one that the text writes
 same_job : (bytes read : List ℕ) (one other : Job) → read ≡ take 4194305 bytes → job_in read ≡ Ok one → job_in (take 4194305 bytes) ≡ Ok other → one ≡ other
-same_job bytes read one other first gives good = ok_same (sym gives ∙ ap job_in first ∙ good)
+same_job bytes read one other first gives good = same_ok one other (sym gives ∙ ap job_in first ∙ good)
 
 no_failure : {D : Type 0} (told : D → Option Image) (faults : D → ℕ) (bytes : List ℕ) (disk : D) (job : Job) (given : Held D) (text : List ℕ) → FiresAtMost
     → ComesOfRunWords told faults (Some bytes) disk given (GivenUp text) → job_in (take 4194305 bytes) ≡ Ok job → sum_by (λ (rule : Rule). rule.times) job.plan ≤ job.limit → ⊥
