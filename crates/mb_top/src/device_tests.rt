@@ -1,10 +1,11 @@
-use crate::example_tests::{HELLO_JOB, HI_JOB, HI_TEXT, WIPED_JOB, WIPED_TEXT};
+use crate::example_files::{HELLO_JOB, WIPED_JOB, WIPED_TEXT};
+use crate::example_tests::{HI_JOB, HI_TEXT};
 use crate::finish::Finish;
 use crate::membrane::membrane;
 use crate::slow_sinks::SlowSink;
-use crate::trials::{End, Failing, NOTHING_FAILS, first_read, fresh, printed, run, words};
+use crate::trials::{End, Failing, NOTHING_FAILS, disk, first_read, fresh, printed, run, words};
 use crate::volumes::{changed_volume, hello_volume};
-use mb_edge::{Bytes, SureDisk, SureSource};
+use mb_edge::{Bytes, SureSource};
 use std::alloc::{AllocError, Global};
 use std::process::Abort;
 use std::test::Fail;
@@ -246,11 +247,7 @@ fn slow_run<R: Abort + AllocGlobal>(
     status: u8,
 ) -> Result<SlowSink, Fail> {
     let alloc = rt.alloc();
-    let image = fresh(alloc)?;
-    if image.len() / 512 > 262_144 {
-        return Err("the image has more blocks than the disk".into());
-    }
-    let disk = SureDisk::new(alloc, Bytes::from_vec(image))?;
+    let disk = disk(alloc, fresh(alloc)?, NOTHING_FAILS)?;
     let mut source = SureSource::new(Bytes::from_vec(job.as_bytes().to_vec(alloc)?));
     let mut out = SlowSink::new(alloc, fails_at)?;
     let words = words(alloc, &["run", "v"])?;

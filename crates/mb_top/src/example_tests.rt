@@ -1,47 +1,11 @@
+use crate::example_files::{HELLO_JOB, HELLO_TEXT};
 use crate::finish::Finish;
 use crate::membrane::membrane;
 use crate::trials::{NOTHING_FAILS, checked, expect, fresh, printed, run, words};
-use crate::volumes::{changed_volume, hello_volume, put, volume_with};
+use crate::volumes::{hello_volume, put, volume_with};
 use mb_edge::{Bytes, Fails, MemSink, SureDisk, SureSource};
 use std::alloc::{AllocError, Global};
 use std::test::Fail;
-
-/// The text of `examples/hello/job.toml`.
-pub const HELLO_JOB: &str = "\
-calls = [
-    \"a open /hello r\",
-    \"a read 3 9\",
-    \"a read 3 9\",
-    \"a open /nope r\",
-    \"a close 3\",
-]
-";
-
-const HELLO_TEXT: &str = "\
-1 a open /hello r = 3
-2 a read 3 9 = 5 68656c6c6f
-3 a read 3 9 = 0
-4 a open /nope r = ENOENT
-5 a close 3 = 0
-6 a exit = 0
-end 6 faults 0 seal 6
-";
-
-/// The text of `examples/hello/wiped.toml`.
-pub const WIPED_JOB: &str = "\
-calls = [\"a open /hello r\", \"a chmod /hello 600\", \"a chmod /hello 640\", \"a read 3 9\"]
-faults = [\"3 finish 0 1 wipe 255\"]
-";
-
-/// What that job prints.
-pub const WIPED_TEXT: &str = "\
-1 a open /hello r = 3
-2 a chmod /hello 600 = 0
-3 a chmod /hello 640 = 0
-4 a read 3 9 = 5 68656c6c6f
-5 a exit = 0
-end 5 faults 1 seal 5
-";
 
 /// A job that makes a file of two bytes.
 pub const HI_JOB: &str = "calls = ['a creat /f 644', 'a text 3 hi', 'a close 3']";
@@ -268,54 +232,5 @@ calls = ['a open /hello r', 'a read 3 1', 'a read 3 511', 'a read 3 512', 'a rea
     }
     lines.push_str("\n7 a read 3 1 = 0\n8 a exit = 0\nend 8 faults 0 seal 8\n")?;
     expect(&rt, ten_parts(rt.alloc())?, job, 0, lines.as_str())?;
-    Ok(())
-}
-
-// One byte more of a checksum, its highest bit first.
-fn fed(sum: u32, byte: u8) -> u32 {
-    let mut sum = sum ^ (u32::from(byte) << 24);
-    for _ in 0..8 {
-        sum = if sum & 0x8000_0000 == 0 {
-            sum << 1
-        } else {
-            (sum << 1) ^ 0x04c1_1db7
-        };
-    }
-    sum
-}
-
-// The checksum that the command `cksum` prints (POSIX cksum).
-fn cksum(bytes: &[u8]) -> u32 {
-    let mut sum = 0;
-    for byte in bytes {
-        sum = fed(sum, *byte);
-    }
-    for shift in [0, 8, 16, 24] {
-        let rest = bytes.len() >> shift;
-        if rest > 0 {
-            sum = fed(sum, (rest % 256) as u8);
-        }
-    }
-    !sum
-}
-
-// `.ci/example-files` finds the lines that `cksum` prints for the files of `examples/hello` here.
-#[test]
-fn the_files_of_the_example_are_those_of_the_tests(rt: HostRuntime) -> Result<(), Fail> {
-    let volume = hello_volume(rt.alloc())?;
-    let wiped = changed_volume(rt.alloc(), 0o640, 3)?;
-    for (line, bytes) in [
-        ("3209886507 51200 volume.v7", volume.as_slice()),
-        ("229460024 110 job.toml", HELLO_JOB.as_bytes()),
-        ("3866134745 144 job.out", HELLO_TEXT.as_bytes()),
-        ("4193218373 121 wiped.toml", WIPED_JOB.as_bytes()),
-        ("266878701 135 wiped.out", WIPED_TEXT.as_bytes()),
-        ("3753691949 51200 wiped.v7", wiped.as_slice()),
-    ] {
-        let sum = cksum(bytes);
-        let length = bytes.len();
-        let found = format!(in rt.alloc(); "{sum} {length} ")?;
-        assert!(rt; line.starts_with(found.as_str()), "{line}: {found}");
-    }
     Ok(())
 }

@@ -1,3 +1,4 @@
+use crate::example_files::{TWO_CALLERS_JOB, TWO_CALLERS_SOUND, TWO_CALLERS_TEXT};
 use crate::trials::{checked, expect, fresh, replayed, stale, unwound};
 use mb_core_spec::Step;
 use mb_kinds::{FaultRecord, Kind};
@@ -127,4 +128,17 @@ end 8 faults 0 seal 8
 ";
     expect(&rt, fresh(rt.alloc())?, job, 0, lines)?;
     Ok(())
+}
+
+// The session of `examples/two-callers`.
+#[test]
+fn two_callers_are_struck_four_times(rt: HostRuntime) -> Result<(), Fail> {
+    let end = expect(
+        &rt,
+        fresh(rt.alloc())?,
+        TWO_CALLERS_JOB,
+        0,
+        TWO_CALLERS_TEXT,
+    )?;
+    checked(&rt, end.image, 0, TWO_CALLERS_SOUND)
 }

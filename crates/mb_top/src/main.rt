@@ -7,6 +7,8 @@ mod deciding;
 #[cfg(test)]
 mod device_tests;
 #[cfg(test)]
+mod example_files;
+#[cfg(test)]
 mod example_tests;
 mod finish;
 #[cfg(test)]

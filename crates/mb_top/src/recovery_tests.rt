@@ -1,5 +1,8 @@
-use crate::example_tests::{HI_JOB, WIPED_JOB, WIPED_TEXT};
-use crate::trials::{Failing, checked, expect, first_read, fresh, printed, replayed, run};
+use crate::example_files::{WIPED_JOB, WIPED_TEXT};
+use crate::example_tests::HI_JOB;
+use crate::trials::{
+    Failing, NOTHING_FAILS, checked, expect, first_read, fresh, printed, replayed, run,
+};
 use crate::volumes::{HELLO_CTIME_LOW, HELLO_MODE, changed_volume, hello_volume};
 use mb_core_spec::Step;
 use std::alloc::{AllocError, Global};
@@ -77,6 +80,60 @@ end 8 faults 1 seal 8
 ";
     let end = expect(&rt, fresh(rt.alloc())?, job, 0, lines)?;
     let wanted = [1, 2, 3, 4, 5];
+    assert_eq!(rt;
+        replayed(rt.alloc(), &end.trail)?.as_slice(),
+        wanted.as_slice()
+    );
+    Ok(())
+}
+
+// The second of two numbers that were freed is picked first.
+#[test]
+fn relayed_later(rt: HostRuntime) -> Result<(), Fail> {
+    let calls =
+        "calls = ['a creat /x 644', 'a creat /y 644', 'a close 3', 'a close 4', 'a unlink /x', 'a unlink /y', 'a creat /z 644', 'a stat /z']";
+    let lines = "\
+1 a creat /x 644 = 3
+2 a creat /y 644 = 4
+3 a close 3 = 0
+4 a close 4 = 0
+5 a unlink /x = 0
+6 a unlink /y = 0
+7 a creat /z 644 = 3
+8 a stat /z = ino 4 mode 100644 nlink 1 uid 0 gid 0 size 0 atime 7 mtime 7 ctime 7
+9 a exit = 0
+end 9 faults 1 seal 9
+";
+    for fault in ["7 enter 0 1 wipe 0", "8 enter 0 1 wipe 0"] {
+        let job = format!(in rt.alloc(); "{calls}\nfaults = ['{fault}']\n")?;
+        expect(&rt, fresh(rt.alloc())?, job.as_str(), 0, lines)?;
+    }
+    Ok(())
+}
+
+// Each operation is replayed as it was logged.
+#[test]
+fn folded_run(rt: HostRuntime) -> Result<(), Fail> {
+    let job = "\
+threshold = 4096
+calls = ['a creat /f 644', 'a chmod /f 600', 'a chmod /f 640', 'a text 3 ab', 'a text 3 cd', 'a lseek 3 0 0',
+    'a text 3 e', 'a stat /f']
+faults = ['8 enter 0 1 wipe 4']
+";
+    let lines = "\
+1 a creat /f 644 = 3
+2 a chmod /f 600 = 0
+3 a chmod /f 640 = 0
+4 a text 3 ab = 2
+5 a text 3 cd = 2
+6 a lseek 3 0 0 = 0
+7 a text 3 e = 1
+8 a stat /f = ino 3 mode 100640 nlink 1 uid 0 gid 0 size 4 atime 1 mtime 7 ctime 7
+9 a exit = 0
+end 9 faults 1 seal 9
+";
+    let end = expect(&rt, fresh(rt.alloc())?, job, 0, lines)?;
+    let wanted = [1, 2, 3, 4, 5, 6];
     assert_eq!(rt;
         replayed(rt.alloc(), &end.trail)?.as_slice(),
         wanted.as_slice()
@@ -305,7 +362,7 @@ fn many_faults(alloc: Global) -> Result<String, AllocError> {
 #[test]
 fn as_many_faults_as_there_may_be_are_recovered_from(rt: HostRuntime) -> Result<(), Fail> {
     let job = many_faults(rt.alloc())?;
-    let failing = crate::trials::NOTHING_FAILS;
+    let failing = NOTHING_FAILS;
     let end = run(
         rt.alloc(),
         &["run", "v"],

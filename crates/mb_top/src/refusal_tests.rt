@@ -168,96 +168,53 @@ fn cut_superblock(rt: HostRuntime) -> Result<(), Fail> {
     refused(&rt, Vec::new(rt.alloc()), "block 1 rule 1")
 }
 
-// The fresh volume with one or two edits. Its super-block stands at byte 512, with s_nfree at 518 and s_free from 520 on; the root's inode
-// at 1088 with its first address at 1100; inode 3 at 1152 with its single indirect address at 1194; the root's slots at
-// 2048; the list of the chain block 50 at 25602.
+// The fresh volume with some edits. Its super-block stands at byte 512, with s_nfree at 518 and s_free from 520 on; the
+// root's inode at 1088 with its first address at 1100; inode 3 at 1152 with its single indirect address at 1194; the
+// root's slots at 2048; the list of the chain block 50 at 25602.
 #[test]
 fn refused_volumes(rt: HostRuntime) -> Result<(), Fail> {
     for (edits, rule) in [
+        ([(518, [51, 0].as_slice())].as_slice(), "block 1 rule 3"),
         (
-            [
-                (518, [51, 0].as_slice()),
-                (0, [].as_slice()),
-                (0, [].as_slice()),
-            ],
-            "block 1 rule 3",
-        ),
-        (
-            [
-                (528, [0, 0, 100, 0].as_slice()),
-                (0, [].as_slice()),
-                (0, [].as_slice()),
-            ],
+            [(528, [0, 0, 100, 0].as_slice())].as_slice(),
             "block 1 rule 4",
         ),
         (
-            [
-                (25602, [0, 0, 50, 0].as_slice()),
-                (0, [].as_slice()),
-                (0, [].as_slice()),
-            ],
+            [(25602, [0, 0, 50, 0].as_slice())].as_slice(),
             "block 50 rule 7",
         ),
         (
-            [
-                (524, [0, 0, 4, 0].as_slice()),
-                (0, [].as_slice()),
-                (0, [].as_slice()),
-            ],
+            [(524, [0, 0, 4, 0].as_slice())].as_slice(),
             "block 4 rule 7",
         ),
-        (
-            [
-                (1100, [0, 3, 0].as_slice()),
-                (0, [].as_slice()),
-                (0, [].as_slice()),
-            ],
-            "block 2 rule 6",
-        ),
+        ([(1100, [0, 3, 0].as_slice())].as_slice(), "block 2 rule 6"),
         (
             [
                 (518, [45, 0].as_slice()),
                 (1152, [0xa4, 0x81].as_slice()),
                 (1194, [0, 5, 0].as_slice()),
-            ],
+            ]
+            .as_slice(),
             "block 5 rule 6",
         ),
         (
             [
                 (1152, [0xa4, 0x81].as_slice()),
                 (1160, [0x81, 0x40, 0x01, 0x14].as_slice()),
-                (0, [].as_slice()),
-            ],
+            ]
+            .as_slice(),
             "block 2 rule 8",
         ),
         (
-            [
-                (1088, [0xff, 0x81].as_slice()),
-                (0, [].as_slice()),
-                (0, [].as_slice()),
-            ],
+            [(1088, [0xff, 0x81].as_slice())].as_slice(),
             "block 2 rule 9",
         ),
-        (
-            [
-                (2064, [3, 0].as_slice()),
-                (0, [].as_slice()),
-                (0, [].as_slice()),
-            ],
-            "block 4 rule 10",
-        ),
-        (
-            [
-                (1090, [3, 0].as_slice()),
-                (0, [].as_slice()),
-                (0, [].as_slice()),
-            ],
-            "block 2 rule 14",
-        ),
+        ([(2064, [3, 0].as_slice())].as_slice(), "block 4 rule 10"),
+        ([(1090, [3, 0].as_slice())].as_slice(), "block 2 rule 14"),
     ] {
         let mut image = fresh(rt.alloc())?;
         for (at, bytes) in edits {
-            put(&mut image, at, bytes);
+            put(&mut image, *at, bytes);
         }
         refused(&rt, image, rule)?;
     }

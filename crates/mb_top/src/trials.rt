@@ -53,7 +53,8 @@ pub fn words(alloc: Global, list: &[&str]) -> Result<Words, AllocError> {
     Ok(Words::from_vec(words))
 }
 
-fn disk(alloc: Global, image: Vec<u8>, failing: Failing) -> Result<MemDisk, Fail> {
+/// A disk with that image, some calls of which fail.
+pub fn disk(alloc: Global, image: Vec<u8>, failing: Failing) -> Result<MemDisk, Fail> {
     if image.len() / 512 > ROOM as usize {
         return Err("the image has more blocks than the disk".into());
     }
