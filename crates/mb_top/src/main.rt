@@ -3,22 +3,28 @@
 //! what files and pipes hold. `mb_commands` says which words are a command.
 #![tactic(auto)]
 
-#[cfg(test)]
-mod command_tests;
 mod deciding;
 #[cfg(test)]
-mod example_tests;
+mod device_tests;
 #[cfg(test)]
-mod fault_tests;
+mod example_files;
+#[cfg(test)]
+mod example_tests;
 mod finish;
 #[cfg(test)]
-mod job_tests;
+mod interleaving_tests;
 mod laws;
 mod membrane;
 mod outcomes;
+#[cfg(test)]
+mod recovery_tests;
+#[cfg(test)]
+mod refusal_tests;
 mod running;
 #[cfg(test)]
-mod run_tests;
+mod slow_sinks;
+#[cfg(test)]
+mod trials;
 #[cfg(test)]
 mod volumes;
 

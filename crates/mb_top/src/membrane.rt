@@ -81,3 +81,25 @@ fn text_of(outcome: &Outcome) -> &[u8]
         | Outcome::Ran(text) => text.as_slice(),
     }
 }
+
+#[cfg(test)]
+mod tests {
+    use super::*;
+    use mb_edge::{Fails, MemSink};
+    use std::test::Fail;
+
+    #[test]
+    fn want_of_memory_stays_where_its_line_cannot_be_written(rt: HostRuntime) -> Result<(), Fail> {
+        for (write, outcome, status) in [
+            (1, Outcome::OutOfMemory, 6),
+            (2, Outcome::OutOfMemory, 6),
+            (1, Outcome::DiskFault, 7),
+            (2, Outcome::DiskFault, 5),
+        ] {
+            let fails = Fails::from_vec([write].to_vec(rt.alloc())?);
+            let mut out = MemSink::new(rt.alloc(), 64, fails)?;
+            assert_eq!(rt; print(&mut out, &outcome), status);
+        }
+        Ok(())
+    }
+}

@@ -1,0 +1,144 @@
+use crate::example_files::{TWO_CALLERS_JOB, TWO_CALLERS_SOUND, TWO_CALLERS_TEXT};
+use crate::trials::{checked, expect, fresh, replayed, stale, unwound};
+use mb_core_spec::Step;
+use mb_kinds::{FaultRecord, Kind};
+use std::test::Fail;
+
+#[test]
+fn two_callers_wiped(rt: HostRuntime) -> Result<(), Fail> {
+    let job = "\
+callers = ['a 0 0', 'b 0 0']
+calls = ['a creat /x 644', 'b creat /y 644']
+faults = ['1 gather 0 1 wipe 7']
+order = 'bbaa'
+";
+    let lines = "\
+1 a creat /x 644 = 3
+2 b creat /y 644 = 3
+3 a exit = 0
+4 b exit = 0
+end 4 faults 1 seal 4
+";
+    let end = expect(&rt, fresh(rt.alloc())?, job, 0, lines)?;
+    let record = FaultRecord {
+        caller: 0,
+        ordinal: 1,
+        kind: Kind::Gather,
+        nth: 1,
+    };
+    assert_eq!(rt; end.records.as_slice(), [record].as_slice());
+    assert_eq!(rt;
+        unwound(rt.alloc(), &end.trail)?.as_slice(),
+        [0, 1].as_slice()
+    );
+    checked(&rt, end.image, 0, "sound nodes 3 held 1 free 95\n")
+}
+
+#[test]
+fn raced_creat(rt: HostRuntime) -> Result<(), Fail> {
+    let job = "\
+callers = ['a 0 0', 'b 0 0']
+calls = ['a creat /f 644', 'b creat /f 644']
+order = 'AB'
+";
+    let lines = "\
+1 a creat /f 644 = 3
+2 b creat /f 644 = 3
+3 a exit = 0
+4 b exit = 0
+end 4 faults 0 seal 4
+";
+    let end = expect(&rt, fresh(rt.alloc())?, job, 0, lines)?;
+    assert_eq!(rt; stale(rt.alloc(), &end.trail)?.as_slice(), [1].as_slice());
+    checked(&rt, end.image, 0, "sound nodes 2 held 1 free 95\n")
+}
+
+#[test]
+fn floor_taken(rt: HostRuntime) -> Result<(), Fail> {
+    let job = "\
+callers = ['a 0 0', 'b 0 0']
+calls = ['a creat /x 644', 'b creat /p 644', 'b creat /q 644', 'b creat /r 644', 'b creat /s 644', 'b creat /t 644']
+order = 'A Bbba A Bbba A Bbba A Bbba A Bb'
+";
+    let lines = "\
+1 b creat /p 644 = 3
+2 b creat /q 644 = 4
+3 b creat /r 644 = 5
+4 b creat /s 644 = 6
+5 a creat /x 644 = 3
+6 b creat /t 644 = 7
+7 a exit = 0
+8 b exit = 0
+end 8 faults 0 seal 8
+";
+    let end = expect(&rt, fresh(rt.alloc())?, job, 0, lines)?;
+    let wanted = [0, 0, 0, 0, 1];
+    assert_eq!(rt;
+        stale(rt.alloc(), &end.trail)?.as_slice(),
+        wanted.as_slice()
+    );
+    checked(&rt, end.image, 0, "sound nodes 7 held 1 free 95\n")
+}
+
+// `=` takes a checkpoint: what was answered before it is not done again. `>` writes a page back, and `*` makes a step of a
+// recovery, where there is one.
+#[test]
+fn an_order_takes_checkpoints(rt: HostRuntime) -> Result<(), Fail> {
+    let job = "\
+calls = ['a creat /f 644', 'a text 3 hi', 'a open /f r', 'a read 4 9']
+faults = ['4 enter 0 1 wipe 3']
+order = '*Aaa = Aaa >>>>> *'
+";
+    let lines = "\
+1 a creat /f 644 = 3
+2 a text 3 hi = 2
+3 a open /f r = 4
+4 a read 4 9 = 2 6869
+5 a exit = 0
+end 5 faults 1 seal 5
+";
+    let end = expect(&rt, fresh(rt.alloc())?, job, 0, lines)?;
+    assert!(rt; end.trail.contains(&Step::Sealed(1)));
+    assert_eq!(rt;
+        replayed(rt.alloc(), &end.trail)?.as_slice(),
+        [1, 2].as_slice()
+    );
+    checked(&rt, end.image, 0, "sound nodes 2 held 2 free 94\n")
+}
+
+// Who reads needs leave of the mode; moments follow the callers' first letters in the order.
+#[test]
+fn callers_have_their_own_identities_and_moments(rt: HostRuntime) -> Result<(), Fail> {
+    let job = "\
+callers = ['a 0 0', 'b 5 6']
+calls = ['a creat /x 600', 'b open /x r', 'b umask 77', 'b creat /y 666', 'b stat /y', 'a stat /x']
+start = 1000
+order = 'ba'
+";
+    let lines = "\
+1 a creat /x 600 = 3
+2 b open /x r = EACCES
+3 b umask 77 = 0
+4 b creat /y 666 = 3
+5 b stat /y = ino 4 mode 100600 nlink 1 uid 5 gid 6 size 0 atime 1004 mtime 1004 ctime 1004
+6 a stat /x = ino 3 mode 100600 nlink 1 uid 0 gid 0 size 0 atime 1002 mtime 1002 ctime 1002
+7 a exit = 0
+8 b exit = 0
+end 8 faults 0 seal 8
+";
+    expect(&rt, fresh(rt.alloc())?, job, 0, lines)?;
+    Ok(())
+}
+
+// The session of `examples/two-callers`.
+#[test]
+fn two_callers_are_struck_four_times(rt: HostRuntime) -> Result<(), Fail> {
+    let end = expect(
+        &rt,
+        fresh(rt.alloc())?,
+        TWO_CALLERS_JOB,
+        0,
+        TWO_CALLERS_TEXT,
+    )?;
+    checked(&rt, end.image, 0, TWO_CALLERS_SOUND)
+}

@@ -1,0 +1,386 @@
+use crate::example_files::{WIPED_JOB, WIPED_TEXT};
+use crate::example_tests::HI_JOB;
+use crate::trials::{
+    Failing, NOTHING_FAILS, checked, expect, first_read, fresh, printed, replayed, run,
+};
+use crate::volumes::{HELLO_CTIME_LOW, HELLO_MODE, changed_volume, hello_volume};
+use mb_core_spec::Step;
+use std::alloc::{AllocError, Global};
+use std::test::Fail;
+
+// The job of the example with a line more.
+fn hi_job(alloc: Global, line: &str) -> Result<String, AllocError> {
+    format!(in alloc; "{HI_JOB}\n{line}\n")
+}
+
+const HI_STRUCK: &str = "\
+1 a creat /f 644 = 3
+2 a text 3 hi = 2
+3 a close 3 = 0
+4 a exit = 0
+end 4 faults 1 seal 4
+";
+
+#[test]
+fn chmod_wiped(rt: HostRuntime) -> Result<(), Fail> {
+    let end = expect(&rt, hello_volume(rt.alloc())?, WIPED_JOB, 0, WIPED_TEXT)?;
+    assert_eq!(rt; end.image.len(), 51200);
+    assert!(rt; end.image[1152..].starts_with(b"\xa0\x81"));
+    assert!(rt; end.image[1212..].starts_with(b"\0\0\x03\0"));
+    assert!(rt;
+        end.image == changed_volume(rt.alloc(), 0o640, 3)?,
+        "nothing else changed"
+    );
+    Ok(())
+}
+
+#[test]
+fn wiped_at_gather(rt: HostRuntime) -> Result<(), Fail> {
+    let job = hi_job(rt.alloc(), "faults = ['2 gather 0 1 wipe 255']")?;
+    let end = expect(&rt, fresh(rt.alloc())?, job.as_str(), 0, HI_STRUCK)?;
+    assert_eq!(rt;
+        replayed(rt.alloc(), &end.trail)?.as_slice(),
+        [1].as_slice()
+    );
+    checked(&rt, end.image, 0, "sound nodes 2 held 2 free 94\n")
+}
+
+#[test]
+fn wiped_at_leave(rt: HostRuntime) -> Result<(), Fail> {
+    let job = hi_job(rt.alloc(), "faults = ['1 leave 0 1 wipe 0']")?;
+    let end = expect(&rt, fresh(rt.alloc())?, job.as_str(), 0, HI_STRUCK)?;
+    assert_eq!(rt; end.image.len(), 51200);
+    assert!(rt;
+        end.image[2080..].starts_with(b"\x03\0f\0\0"),
+        "the third slot of the root"
+    );
+    assert!(rt;
+        end.image[2096..].starts_with(&[0; 464]),
+        "the name stands once"
+    );
+    checked(&rt, end.image, 0, "sound nodes 2 held 2 free 94\n")
+}
+
+#[test]
+fn reused_inode(rt: HostRuntime) -> Result<(), Fail> {
+    let job = "\
+calls = ['a creat /x 644', 'a creat /y 644', 'a close 3', 'a unlink /x', 'a creat /z 600', 'a stat /y', 'a stat /z']
+faults = ['6 enter 0 1 wipe 170']
+";
+    let lines = "\
+1 a creat /x 644 = 3
+2 a creat /y 644 = 4
+3 a close 3 = 0
+4 a unlink /x = 0
+5 a creat /z 600 = 3
+6 a stat /y = ino 4 mode 100644 nlink 1 uid 0 gid 0 size 0 atime 2 mtime 2 ctime 2
+7 a stat /z = ino 3 mode 100600 nlink 1 uid 0 gid 0 size 0 atime 5 mtime 5 ctime 5
+8 a exit = 0
+end 8 faults 1 seal 8
+";
+    let end = expect(&rt, fresh(rt.alloc())?, job, 0, lines)?;
+    let wanted = [1, 2, 3, 4, 5];
+    assert_eq!(rt;
+        replayed(rt.alloc(), &end.trail)?.as_slice(),
+        wanted.as_slice()
+    );
+    Ok(())
+}
+
+// The second of two numbers that were freed is picked first.
+#[test]
+fn relayed_later(rt: HostRuntime) -> Result<(), Fail> {
+    let calls =
+        "calls = ['a creat /x 644', 'a creat /y 644', 'a close 3', 'a close 4', 'a unlink /x', 'a unlink /y', 'a creat /z 644', 'a stat /z']";
+    let lines = "\
+1 a creat /x 644 = 3
+2 a creat /y 644 = 4
+3 a close 3 = 0
+4 a close 4 = 0
+5 a unlink /x = 0
+6 a unlink /y = 0
+7 a creat /z 644 = 3
+8 a stat /z = ino 4 mode 100644 nlink 1 uid 0 gid 0 size 0 atime 7 mtime 7 ctime 7
+9 a exit = 0
+end 9 faults 1 seal 9
+";
+    for fault in ["7 enter 0 1 wipe 0", "8 enter 0 1 wipe 0"] {
+        let job = format!(in rt.alloc(); "{calls}\nfaults = ['{fault}']\n")?;
+        expect(&rt, fresh(rt.alloc())?, job.as_str(), 0, lines)?;
+    }
+    Ok(())
+}
+
+// Each operation is replayed as it was logged.
+#[test]
+fn folded_run(rt: HostRuntime) -> Result<(), Fail> {
+    let job = "\
+threshold = 4096
+calls = ['a creat /f 644', 'a chmod /f 600', 'a chmod /f 640', 'a text 3 ab', 'a text 3 cd', 'a lseek 3 0 0',
+    'a text 3 e', 'a stat /f']
+faults = ['8 enter 0 1 wipe 4']
+";
+    let lines = "\
+1 a creat /f 644 = 3
+2 a chmod /f 600 = 0
+3 a chmod /f 640 = 0
+4 a text 3 ab = 2
+5 a text 3 cd = 2
+6 a lseek 3 0 0 = 0
+7 a text 3 e = 1
+8 a stat /f = ino 3 mode 100640 nlink 1 uid 0 gid 0 size 4 atime 1 mtime 7 ctime 7
+9 a exit = 0
+end 9 faults 1 seal 9
+";
+    let end = expect(&rt, fresh(rt.alloc())?, job, 0, lines)?;
+    let wanted = [1, 2, 3, 4, 5, 6];
+    assert_eq!(rt;
+        replayed(rt.alloc(), &end.trail)?.as_slice(),
+        wanted.as_slice()
+    );
+    Ok(())
+}
+
+#[test]
+fn unlinked_open(rt: HostRuntime) -> Result<(), Fail> {
+    let job = "\
+calls = ['a creat /f 644', 'a open /f r', 'a unlink /f', 'a text 3 lost', 'a read 4 8', 'a close 3', 'a close 4',
+    'a creat /g 644', 'a fstat 3']
+faults = ['5 enter 0 1 wipe 255 count 3 0']
+";
+    let lines = "\
+1 a creat /f 644 = 3
+2 a open /f r = 4
+3 a unlink /f = 0
+4 a text 3 lost = 4
+5 a read 4 8 = 4 6c6f7374
+6 a close 3 = 0
+7 a close 4 = 0
+8 a creat /g 644 = 3
+9 a fstat 3 = ino 3 mode 100644 nlink 1 uid 0 gid 0 size 0 atime 8 mtime 8 ctime 8
+10 a exit = 0
+end 10 faults 1 seal 10
+";
+    expect(&rt, fresh(rt.alloc())?, job, 0, lines)?;
+    Ok(())
+}
+
+#[test]
+fn struck_twice(rt: HostRuntime) -> Result<(), Fail> {
+    let job = "\
+calls = ['a creat /f 644', 'a text 3 hi', 'a text 3 yo', 'a open /f r', 'a read 4 9']
+faults = ['2 gather 0 2 wipe 9']
+";
+    let lines = "\
+1 a creat /f 644 = 3
+2 a text 3 hi = EIO restart 1 2
+3 a text 3 yo = 2
+4 a open /f r = 4
+5 a read 4 9 = 2 796f
+6 a exit = 0
+end 6 faults 2 seal 6
+";
+    expect(&rt, fresh(rt.alloc())?, job, 0, lines)?;
+    Ok(())
+}
+
+#[test]
+fn limit_passed(rt: HostRuntime) -> Result<(), Fail> {
+    let job = "\
+calls = ['a creat /f 644', 'a text 3 hi', 'a close 3', 'a open /f r', 'a stat /f']
+limit = 1
+faults = ['4 gather 0 1', '4 replay 1 1']
+";
+    let lines = "\
+1 a creat /f 644 = 3
+2 a text 3 hi = 2
+3 a close 3 = 0
+4 a open /f r = FAILED 2
+5 a stat /f = FAILED 2
+6 a exit = FAILED 2
+failed 6 faults 2 seal 0
+";
+    let end = expect(&rt, fresh(rt.alloc())?, job, 4, lines)?;
+    assert_eq!(rt;
+        replayed(rt.alloc(), &end.trail)?.as_slice(),
+        [1].as_slice()
+    );
+    assert!(rt; end.image == fresh(rt.alloc())?);
+    Ok(())
+}
+
+#[test]
+fn sealed_before_fault(rt: HostRuntime) -> Result<(), Fail> {
+    let job = "\
+threshold = 1
+calls = ['a creat /f 644', 'a sync', 'a text 3 hi']
+faults = ['3 enter 0 1 wipe 1']
+";
+    let lines = "\
+1 a creat /f 644 = 3
+2 a sync = 0
+3 a text 3 hi = 2
+4 a exit = 0
+end 4 faults 1 seal 4
+";
+    let end = expect(&rt, fresh(rt.alloc())?, job, 0, lines)?;
+    assert!(rt; replayed(rt.alloc(), &end.trail)?.is_empty());
+    assert!(rt; end.trail.contains(&Step::Sealed(1)));
+    Ok(())
+}
+
+fn long_job(alloc: Global) -> Result<String, AllocError> {
+    let mut job = String::new(alloc);
+    job.push_str(
+        "threshold = 4096\nfaults = ['4003 enter 0 1 wipe 1']\ncalls = ['a creat /f 644', 'a sync'",
+    )?;
+    for _ in 0..4000 {
+        job.push_str(", 'a text 3 x'")?;
+    }
+    job.push_str(", 'a close 3']\n")?;
+    Ok(job)
+}
+
+fn long_text(alloc: Global) -> Result<String, AllocError> {
+    let mut lines = String::new(alloc);
+    lines.push_str("1 a creat /f 644 = 3\n2 a sync = 0\n")?;
+    for moment in 3..4003 {
+        let line = format!(in alloc; "{moment} a text 3 x = 1\n")?;
+        lines.push_str(line.as_str())?;
+    }
+    lines.push_str("4003 a close 3 = 0\n4004 a exit = 0\nend 4004 faults 1 seal 4004\n")?;
+    Ok(lines)
+}
+
+#[test]
+fn long_log(rt: HostRuntime) -> Result<(), Fail> {
+    let job = long_job(rt.alloc())?;
+    let lines = long_text(rt.alloc())?;
+    let end = expect(&rt, fresh(rt.alloc())?, job.as_str(), 0, lines.as_str())?;
+    assert_eq!(rt; replayed(rt.alloc(), &end.trail)?.len(), 4000);
+    checked(&rt, end.image, 0, "sound nodes 2 held 9 free 87\n")
+}
+
+#[test]
+fn failing_remount(rt: HostRuntime) -> Result<(), Fail> {
+    let job = "calls = ['a stat /', 'a stat /']\nfaults = ['1 enter 0 1']";
+    let lines = "\
+1 a stat / = EIO device
+2 a stat / = ino 2 mode 040777 nlink 2 uid 0 gid 0 size 32 atime 0 mtime 0 ctime 0
+3 a exit = 0
+end 3 faults 1 seal 3
+";
+    let image = fresh(rt.alloc())?;
+    let reads = [first_read(rt.alloc(), &image)?];
+    let failing = Failing {
+        inputs: &[],
+        reads: &reads,
+        writes: &[],
+        outputs: &[],
+    };
+    let end = run(rt.alloc(), &["run", "v"], image, job, failing)?;
+    printed(&rt, &end, 0, lines)
+}
+
+#[test]
+fn resumed_by_other(rt: HostRuntime) -> Result<(), Fail> {
+    let job =
+        "callers = ['a 0 0', 'b 0 0']\ncalls = ['a stat /', 'b stat /']\nfaults = ['1 enter 0 1']";
+    let lines = "\
+1 a stat / = EIO device
+2 b stat / = ino 2 mode 040777 nlink 2 uid 0 gid 0 size 32 atime 0 mtime 0 ctime 0
+3 a exit = 0
+4 b exit = 0
+end 4 faults 1 seal 4
+";
+    let image = fresh(rt.alloc())?;
+    let reads = [first_read(rt.alloc(), &image)?];
+    let failing = Failing {
+        inputs: &[],
+        reads: &reads,
+        writes: &[],
+        outputs: &[],
+    };
+    let end = run(rt.alloc(), &["run", "v"], image, job, failing)?;
+    printed(&rt, &end, 0, lines)
+}
+
+#[test]
+fn two_rules_at_one_fault_point_are_one_fault(rt: HostRuntime) -> Result<(), Fail> {
+    let job =
+        "calls = ['a open /hello r']\nfaults = ['1 finish 0 1 wipe 7', '1 finish 0 1 wipe 8']";
+    let lines = "1 a open /hello r = 3\n2 a exit = 0\nend 2 faults 1 seal 2\n";
+    let end = expect(&rt, hello_volume(rt.alloc())?, job, 0, lines)?;
+    assert!(rt; end.image == hello_volume(rt.alloc())?);
+    Ok(())
+}
+
+// Where faults may strike one call at every fault point, and what it is answered then.
+#[test]
+fn each_fault_point_is_one_of_a_call(rt: HostRuntime) -> Result<(), Fail> {
+    for (fault, reply, faults) in [
+        ("1 enter 0 1", "3", 1),
+        ("1 gather 0 1", "3", 1),
+        ("1 finish 0 1", "3", 1),
+        ("1 leave 0 1", "3", 1),
+        ("1 enter 1 1", "3", 0),
+        ("1 leave 1 1", "3", 0),
+        ("1 remount 0 1", "3", 0),
+        ("1 replay 0 1", "3", 0),
+        ("1 enter 0 2", "EIO restart 1 2", 2),
+        ("1 gather 0 2", "EIO restart 1 2", 2),
+        ("1 finish 0 2", "EIO restart 1 2", 2),
+        ("1 leave 0 2", "3", 1),
+        ("1 finish 0 1 wipe 0 page 0 7 count 2 9", "3", 1),
+    ] {
+        let job = format!(in rt.alloc(); "calls = ['a open / r']\nfaults = ['{fault}']")?;
+        let lines = format!(in rt.alloc();
+            "1 a open / r = {reply}\n2 a exit = 0\nend 2 faults {faults} seal 2\n"
+        )?;
+        let end = expect(&rt, fresh(rt.alloc())?, job.as_str(), 0, lines.as_str())?;
+        assert!(rt; end.image == fresh(rt.alloc())?);
+    }
+    Ok(())
+}
+
+// 255 calls of chmod, each with a fault that wipes the pages.
+fn many_faults(alloc: Global) -> Result<String, AllocError> {
+    let mut job = String::new(alloc);
+    job.push_str("calls = [")?;
+    for _ in 0..255 {
+        job.push_str("'a chmod /hello 600', ")?;
+    }
+    job.push_str("]\nfaults = [")?;
+    for call in 1..256u32 {
+        let text = format!(in alloc; "'{call} finish 0 1 wipe 255', ")?;
+        job.push_str(text.as_str())?;
+    }
+    job.push_str("]")?;
+    Ok(job)
+}
+
+#[test]
+fn as_many_faults_as_there_may_be_are_recovered_from(rt: HostRuntime) -> Result<(), Fail> {
+    let job = many_faults(rt.alloc())?;
+    let failing = NOTHING_FAILS;
+    let end = run(
+        rt.alloc(),
+        &["run", "v"],
+        hello_volume(rt.alloc())?,
+        job.as_str(),
+        failing,
+    )?;
+    assert_eq!(rt; end.status, 0);
+    assert!(rt;
+        end.printed
+            .ends_with(b"256 a exit = 0\nend 256 faults 255 seal 256\n")
+    );
+    assert_eq!(rt; end.image.len(), 51200);
+    assert_eq!(rt; end.image[HELLO_MODE], 0x80);
+    assert_eq!(rt;
+        end.image[HELLO_CTIME_LOW],
+        255,
+        "the moment of the last call"
+    );
+    Ok(())
+}
