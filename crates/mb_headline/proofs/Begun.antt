@@ -1,5 +1,5 @@
 -- A core that begins over a disk, as the driver sees it.
-use Rattle.std.proofs.Common.{◌≡◌, List, [], ◌∷◌, ℕ, zero, suc, ◌+◌, ◌<◌, ◌≤◌, Bool, true, false, Option, None, Some, length, map, slice_get, refl, ap, sym, subst, ◌∙◌, arith}
+use Rattle.std.proofs.Common.{◌≡◌, ℕ, zero, suc, Option, None, length, slice_get, refl, ap, sym, subst, ◌∙◌, arith}
 use Rattle.std.specs.Prelude.{replicate}
 use Rattle.std.specs.FinMap as fin
 use Rattle.std.proofs.lemmas.List.{length-map}
@@ -7,8 +7,7 @@ use Rattle.mb_cache.specs.State.{CacheState}
 use Rattle.mb_core_events.specs.Beginning.{IsBegunOver}
 use Rattle.mb_core_spec.specs.Begun.{begun_core, idle}
 use Rattle.mb_core_spec.specs.Bounds.{IsConfig}
-use Rattle.mb_core_spec.specs.Callers.{begun, total}
-use Rattle.mb_core_spec.specs.Numbers.{open_calls}
+use Rattle.mb_core_spec.specs.Callers.{total}
 use Rattle.mb_core_spec.specs.Right.{Right}
 use Rattle.mb_core_spec.specs.State.{CallerState, CoreState, JournalRoom}
 use Rattle.mb_core_spec.specs.declared.config.Config.{Config}
@@ -19,8 +18,7 @@ use Rattle.mb_jobs.specs.declared.jobs.Job.{Job}
 use Rattle.mb_kinds.specs.Image.{Image}
 use Rattle.mb_run.specs.CoreSight.{seat_of, sight_of}
 use Rattle.mb_run.specs.Drives.{IsBegun}
-use Rattle.mb_run.specs.Served.{calls_of}
-use Rattle.mb_run.specs.Sights.{IsOrderly, Seat}
+use Rattle.mb_run.specs.Sights.{IsOrderly}
 use Rattle.mb_run.proofs.Completing.{calls_few}
 use Rattle.mb_headline.specs.Headline.{IsConfigOf}
 use Rattle.mb_headline.specs.Laws.{MayBeginAll}

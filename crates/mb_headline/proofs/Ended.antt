@@ -1,14 +1,14 @@
 -- The end of a run.
-use Rattle.std.proofs.Common.{◌≡◌, ◌≢◌, List, [], ◌∷◌, ℕ, ◌+◌, ◌-◌, ◌^◌, ◌<◌, ◌≤◌, ◌⊎◌, inl, inr, Bool, true, false, Option, None, Some, length, slice_get, refl, ap, sym, subst, ◌∙◌, arith}
+use Rattle.std.proofs.Common.{◌≡◌, ℕ, ◌+◌, ◌-◌, ◌^◌, ◌<◌, ◌≤◌, ◌⊎◌, inl, inr, true, false, Option, None, Some, length, refl, ap, sym, subst, ◌∙◌, arith}
 use Rattle.std.specs.List.{count_by}
 use Rattle.std.proofs.lemmas.List.{nil_from_length}
 use Rattle.std.proofs.lemmas.Option.{slice_get_within}
-use Rattle.mb_cache.specs.Pages.{PageList, under}
+use Rattle.mb_cache.specs.Pages.{under}
 use Rattle.mb_core_spec.specs.Callers.{EachCaller}
-use Rattle.mb_core_spec.specs.Faults.{FewDevices, MayNumber, is_device}
+use Rattle.mb_core_spec.specs.Faults.{MayNumber, is_device}
 use Rattle.mb_core_spec.specs.Histories.{IsCheckpointed}
 use Rattle.mb_core_spec.specs.Right.{Right}
-use Rattle.mb_core_spec.specs.State.{CallerState, CoreState}
+use Rattle.mb_core_spec.specs.State.{CoreState}
 use Rattle.mb_core_spec.specs.declared.stages.Stage.{Stage}
 use Rattle.mb_core_spec.specs.declared.stages.Stage.TheVariants as stage
 use Rattle.mb_edge.specs.Causes.{Rose}
@@ -18,12 +18,9 @@ use Rattle.mb_kinds.specs.declared.entries.Entry.{Entry}
 use Rattle.mb_run.specs.CoreSight.{seat_of, sight_of}
 use Rattle.mb_run.specs.Settling.{IsSettled}
 use Rattle.mb_run.specs.Sights.{Limits, Seat, recovers}
-use Rattle.mb_tree.specs.Volume.{IsVolume}
-use Rattle.mb_tree.specs.declared.machines.Machine.{Machine}
-use Rattle.mb_tree.specs.declared.trees.Tree.{Tree}
-use Rattle.mb_headline.specs.Headline.{FewerDevices, IsAtRest, IsDone, IsGivenUp, IsLeft, LeavesImage, opened}
+use Rattle.mb_headline.specs.Headline.{FewerDevices, IsAtRest, IsDone, IsGivenUp, LeavesImage, opened}
 use Rattle.mb_headline.specs.Laws.{IsPath}
-use Rattle.mb_headline.proofs.Running.{path_config, path_few, path_first, path_history, path_opened, path_scanned, told_now}
+use Rattle.mb_headline.proofs.Running.{path_few, path_first, path_history, path_opened, told_now}
 
 no_both : true ≡ false → ⊥
 no_both same = cc
@@ -77,16 +74,16 @@ module _ {F D : Type 0} (fs : F) (told : D → Option Image) (faults : D → ℕ
     pub path_ends : IsDone job ended ⊎ IsGivenUp job ended
     path_ends = elim (runs_or_failed ended.stage settled.over) [
       | inl runs ↦ inl (record {
-          rest = path_rest;
-          runs = runs;
-          few = subst (MayNumber (length ended.journal.records) job.limit) runs (path_few fs told faults job disk begun driven ended path);
-          sealed_at = settled.sealed_at runs;
-        })
+        rest = path_rest;
+        runs = runs;
+        few = subst (MayNumber (length ended.journal.records) job.limit) runs (path_few fs told faults job disk begun driven ended path);
+        sealed_at = settled.sealed_at runs;
+      })
       | inr failed ↦ inr (record {
-          rest = path_rest;
-          failed = failed;
-          many = subst (MayNumber (length ended.journal.records) job.limit) failed (path_few fs told faults job disk begun driven ended path);
-        })
+        rest = path_rest;
+        failed = failed;
+        many = subst (MayNumber (length ended.journal.records) job.limit) failed (path_few fs told faults job disk begun driven ended path);
+      })
     ]
 
   pub path_fewer : Right told faults driven → driven.first ≡ begun.first → Rose (faults driven.cache.disk) (faults ended.cache.disk) → FewerDevices (faults disk) (faults ended.cache.disk) ended.journal.history

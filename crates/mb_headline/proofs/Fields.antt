@@ -1,9 +1,9 @@
 -- What the fields of a job's table keep within.
-use Rattle.std.proofs.Common.{◌≡◌, List, [], ◌∷◌, ◌++◌, ℕ, ◌+◌, ◌<◌, ◌≤◌, Bool, true, false, cond, nat_le, Option, None, Some, Result, Ok, Err, length, refl, ap, sym, subst, ◌∙◌, arith}
-use Rattle.std.specs.Prelude.{ℤ, pos, codes, ◌&&◌, option_and_then}
+use Rattle.std.proofs.Common.{◌≡◌, List, [], ◌∷◌, ℕ, ◌≤◌, nat_le, Option, None, Some, Result, Ok, Err, length, refl, subst, arith}
+use Rattle.std.specs.Prelude.{pos, codes, ◌&&◌, option_and_then}
 use Rattle.std.proofs.lemmas.Bool.{and_parts, leb-true}
 use Rattle.std.proofs.lemmas.Option.{same_Some}
-use Rattle.toml.specs.Data.{Data, string, integer, float, boolean, datetime, array, table, Members, get_member}
+use Rattle.toml.specs.Data.{Data, integer, Members, get_member}
 use Rattle.mb_jobs.specs.declared.jobs.Caller.{Caller}
 use Rattle.mb_jobs.specs.Callers.{callers_in, next_caller, the_caller}
 use Rattle.mb_jobs.specs.Folds.{read_all}
@@ -56,11 +56,11 @@ found_fit : (callers : List Caller) (limit start threshold : ℕ) (members : Mem
     → given 64 (whole_from 1 4096) (get_member (codes "threshold") members) ≡ Some threshold
     → AreSome callers × IsWithin 0 255 limit × IsWithin 0 1000000000 start × IsWithin 1 4096 threshold
 found_fit callers limit start threshold members some low early often = (
-    given_has AreSome (the_caller ∷ []) some_callers (get_member (codes "callers") members) callers (omega arith, omega arith) some_have some,
-    given_has (IsWithin 0 255) 255 (whole_from 0 255) (get_member (codes "limit") members) limit (omega arith, omega arith) (whole_has 0 255) low,
-    given_has (IsWithin 0 1000000000) 0 (whole_from 0 1000000000) (get_member (codes "start") members) start (omega arith, omega arith) (whole_has 0 1000000000) early,
-    given_has (IsWithin 1 4096) 64 (whole_from 1 4096) (get_member (codes "threshold") members) threshold (omega arith, omega arith) (whole_has 1 4096) often,
-  )
+  given_has AreSome (the_caller ∷ []) some_callers (get_member (codes "callers") members) callers (omega arith, omega arith) some_have some,
+  given_has (IsWithin 0 255) 255 (whole_from 0 255) (get_member (codes "limit") members) limit (omega arith, omega arith) (whole_has 0 255) low,
+  given_has (IsWithin 0 1000000000) 0 (whole_from 0 1000000000) (get_member (codes "start") members) start (omega arith, omega arith) (whole_has 0 1000000000) early,
+  given_has (IsWithin 1 4096) 64 (whole_from 1 4096) (get_member (codes "threshold") members) threshold (omega arith, omega arith) (whole_has 1 4096) often,
+)
 
 -- what comes after each key
 abbrev after_start : Members → List Caller → List (List ℕ) → List (List ℕ) → ℕ → Option (List ℕ) → ℕ → Result Fields (List ℕ)
@@ -92,8 +92,8 @@ known_fit calls members fields is =
     needs_then _ _ (after_start members callers texts faults limit order) fields (AreFit fields) started (λ start early due.
     needs_then _ _ _ fields (AreFit fields) due (λ threshold often made.
     (let found : Fields = record { callers = callers; calls = texts; faults = faults; limit = limit; order = order; start = start; threshold = threshold } in
-      let fit = found_fit callers limit start threshold members some low early often in
-      subst AreFit (same_ok (Ok found) found fields refl made) (record { some = fit.0.0; few = fit.0.1; limit = fit.1.1; start = fit.2.1; due = fit.3.0; often = fit.3.1 })))))))))
+    let fit = found_fit callers limit start threshold members some low early often in
+    subst AreFit (same_ok (Ok found) found fields refl made) (record { some = fit.0.0; few = fit.0.1; limit = fit.1.1; start = fit.2.1; due = fit.3.0; often = fit.3.1 })))))))))
 
 known_of : (unknown : Option (List ℕ)) (found : Result Fields (List ℕ)) (fields : Fields) → or_unknown unknown found ≡ Ok fields → found ≡ Ok fields
 known_of None found fields is = is

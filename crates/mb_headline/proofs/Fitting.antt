@@ -1,5 +1,5 @@
 -- A job that a text writes can be run, and its rules fire early.
-use Rattle.std.proofs.Common.{◌≡◌, List, ℕ, ◌+◌, ◌*◌, ◌<◌, ◌≤◌, Ok, length, map, refl, ap, sym, subst, ◌∙◌, arith}
+use Rattle.std.proofs.Common.{◌≡◌, List, ℕ, ◌<◌, ◌≤◌, Ok, length, ap, sym, subst, ◌∙◌, arith}
 use Rattle.std.specs.List.{AllByRecursion}
 use Rattle.std.proofs.lemmas.List.{length-map}
 use Rattle.std.proofs.lemmas.Nat.{mul-le}
@@ -54,7 +54,7 @@ module _ (job : Job) (read : IsRead job) where
     runnable = record {
       callers = fit_few;
       named = subst (λ callers. AllByRecursion (λ made. made.caller < length callers) job.calls) callers_are
-        (subst (AllByRecursion (λ made. made.caller < length read.fields.callers)) calls_are (all_named read.fields.callers read.fields.calls read.made.calls read.made.called));
+          (subst (AllByRecursion (λ made. made.caller < length read.fields.callers)) calls_are (all_named read.fields.callers read.fields.calls read.made.calls read.made.called));
       small = (let few = fit_calls in omega (arith, few));
     };
     config = fit_config;

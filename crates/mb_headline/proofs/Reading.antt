@@ -1,5 +1,5 @@
 -- What a text that writes a job gave for its parts.
-use Rattle.std.proofs.Common.{◌≡◌, List, [], ◌∷◌, ◌++◌, ℕ, ◌+◌, ◌<◌, Bool, true, false, cond, Option, None, Some, Result, Ok, Err, length, length-append, refl, ap, sym, subst, ◌∙◌, arith}
+use Rattle.std.proofs.Common.{◌≡◌, List, [], ◌∷◌, ◌++◌, ℕ, ◌+◌, Bool, true, false, cond, Option, None, Some, Result, Ok, Err, length, length-append, refl, ap, sym, subst, ◌∙◌, arith}
 use Rattle.std.proofs.lemmas.Option.{same_Some}
 use Rattle.std.specs.List.{AllByRecursion}
 use Rattle.std.specs.Option.{is_some, option_to_list}
@@ -8,7 +8,6 @@ use Rattle.std.specs.Result.{result_ok}
 use Rattle.mb_plan.specs.declared.rules.Rule.{Rule}
 use Rattle.mb_jobs.specs.declared.jobs.Job.{Job}
 use Rattle.mb_jobs.specs.declared.jobs.JobCall.{JobCall}
-use Rattle.mb_jobs.specs.declared.jobs.JobFault.{JobFault}
 use Rattle.mb_jobs.specs.declared.jobs.JobFault.TheVariants.{TooLong, NotToml, BadKey, BadCall, BadFault, BadOrder}
 use Rattle.mb_jobs.specs.Folds.{read_all}
 use Rattle.mb_jobs.specs.Job.{job_called, job_in, job_keyed, job_of_document, job_ordered, job_planned, job_with, table_in}

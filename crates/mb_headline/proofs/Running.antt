@@ -1,15 +1,9 @@
 -- A job that was begun, driven and ended.
-use Rattle.std.proofs.Common.{◌≡◌, ◌≢◌, List, [], ◌∷◌, ℕ, ◌+◌, ◌-◌, ◌^◌, ◌<◌, ◌≤◌, Bool, true, false, Option, None, Some, IsSome, Ok, length, map, refl, ap, sym, subst, ◌∙◌, arith}
-use Rattle.std.specs.List.{AllByRecursion, count_by}
-use Rattle.mb_core_spec.specs.Faults.{FewDevices, MayNumber, Says, is_device}
-use Rattle.mb_core_spec.specs.Right.{Right}
+use Rattle.std.proofs.Common.{◌≡◌, ◌≢◌, List, [], ◌∷◌, ℕ, ◌≤◌, true, false, Option, None, Some, IsSome, length, refl, ap, sym, subst, ◌∙◌, arith}
+use Rattle.std.specs.List.{AllByRecursion}
+use Rattle.mb_core_spec.specs.Faults.{FewDevices, MayNumber, Says}
 use Rattle.mb_core_spec.specs.State.{CoreState}
-use Rattle.mb_core_spec.specs.declared.config.Config.{Config}
 use Rattle.mb_core_spec.specs.declared.stages.Stage.{Stage}
-use Rattle.mb_core_spec.specs.declared.stages.Stage.TheVariants as stage
-use Rattle.mb_edge.specs.declared.crossings.Crossing.{Crossing}
-use Rattle.mb_jobs.specs.Job.{job_in}
-use Rattle.mb_jobs.specs.declared.jobs.Caller.{Caller}
 use Rattle.mb_jobs.specs.declared.jobs.Job.{Job}
 use Rattle.mb_kinds.specs.Image.{Image}
 use Rattle.mb_kinds.specs.declared.entries.Entry.{Entry}
@@ -18,15 +12,12 @@ use Rattle.mb_kinds.specs.declared.replies.Reply.{Reply}
 use Rattle.mb_kinds.specs.declared.replies.Reply.TheVariants as reply
 use Rattle.mb_plan.specs.Fires.{fires}
 use Rattle.mb_plan.specs.declared.rules.Rule.{Rule}
-use Rattle.mb_run.specs.CoreSight.{sight_of}
-use Rattle.mb_run.specs.Drives.{HasEachMoment, IsDriven, IsLinedUp}
+use Rattle.mb_run.specs.Drives.{HasEachMoment, IsLinedUp}
 use Rattle.mb_run.specs.Recovering.{crossing_of}
 use Rattle.mb_run.specs.Runs.{AreDistinct, HasFailed, HasRecords, NamesTwo}
-use Rattle.mb_run.specs.Served.{AreApart, AreSound, IsApart, calls_in, calls_of}
-use Rattle.mb_run.specs.Sights.{Sight}
+use Rattle.mb_run.specs.Served.{AreApart, AreSound, IsApart, calls_in}
 use Rattle.mb_tree.specs.History.{Legal}
 use Rattle.mb_tree.specs.Opening.{opening}
-use Rattle.mb_tree.specs.Volume.{IsVolume}
 use Rattle.mb_tree.specs.declared.trees.Tree.{Tree}
 use Rattle.mb_headline.specs.Headline.{HasHistory, HasOwnCalls, IsConfigOf, IsRun, opened}
 use Rattle.mb_headline.specs.Laws.{IsPath}
