@@ -84,10 +84,10 @@ pub record IsGivenUp {F D : Type 0} (job : Job) (core : CoreState F D) : Type 0 
   pub rest : IsAtRest core
   pub failed : core.stage ≡ stage.Failed
   pub many : length core.journal.records ≡ job.limit + 1
-  pub sealed_at : core.journal.sealed_at ≤ length core.journal.history
 
 -- an image is a volume of the tree after the first entries of a history, all else kept
 pub record IsLeft (job : Job) (history : List Entry) (count : ℕ) (first last : Image) (tree : Tree) : Type 0 where
+  pub within : count ≤ length history
   pub volume : IsVolume last (after_first (opened job tree) history count).tree
   pub kept : Kept tree first (after_first (opened job tree) history count).tree last
 
