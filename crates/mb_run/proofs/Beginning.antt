@@ -51,12 +51,16 @@ named_below job runners runnable new = subst (λ n. AllByRecursion (λ (made : J
 
 -- ---- at the end
 
+declared : (job : Job) (old new : Sight) → IsBegun job old → new.config ≡ old.config → new.config.callers ≡ length job.callers
+declared job old new begun config = ap (λ (l : Limits). l.callers) config ∙ begun.callers
+
 pub listed : (job : Job) (test : Option (Crossing → Bool)) (old new : Sight) (callers : ℕ) → IsBegun job old → job.order ≡ None → callers ≡ length job.callers → IsRunInOrder job.calls callers test new → new.config ≡ old.config → IsOrderly new
     → IsDriven job test old new
 listed job test old new callers begun none same ran config right =
     let start : new.config.start ≡ job.start = ap (λ (l : Limits). l.start) config ∙ begun.start in
     record {
       config = config;
+      free = λ caller low. (let few : caller < callers = omega (arith, low, same, declared job old new begun config) in ran.free caller few);
       own_calls = λ caller low. (let few : caller < callers = omega (arith, low, same) in ran.own_calls caller few);
       moments = subst (λ n. HasEachMoment n new.history) start (each_moment new right ran.begun);
       lined = subst (λ order. IsLinedUp order job.calls job.start new.history) (sym none) (ran.listed, subst (λ n. moments_in new.history ≡ range_with_len (n + 1) (length new.history)) start ran.moments);
@@ -69,6 +73,7 @@ ordered job test old new callers order begun some same done config right =
     let start : new.config.start ≡ job.start = ap (λ (l : Limits). l.start) config ∙ begun.start in
     record {
       config = config;
+      free = λ caller low. (let few : caller < callers = omega (arith, low, same, declared job old new begun config) in done.free caller few);
       own_calls = λ caller low. (let few : caller < callers = omega (arith, low, same) in done.own_calls caller few);
       moments = subst (λ n. HasEachMoment n new.history) start (each_moment new right done.begun);
       lined = subst (λ given. IsLinedUp given job.calls job.start new.history) (sym some) tt;

@@ -108,11 +108,13 @@ complete calls test sight runners underway even out =
     let past : (caller : ℕ) (low : caller < length runners) → length (calls_of calls caller) ≤ (runner_at runners caller low).0.done =
     λ caller low. (let is = ap done_by (runner_at runners caller low).1 in let all = ap (λ ms. length (calls_of ms caller)) (take_all (length calls) calls (omega arith)) in
     let enough = out caller low in omega (arith, is, all, enough)) in
+    let free : (caller : ℕ) → caller < length runners → (sight.seats caller).flight ≡ None =
+    λ caller low. (let served = underway.served caller (runner_at runners caller low).0 (runner_at runners caller low).1 in
+    free_by (calls_of calls caller) (calls_in sight.history caller) (runner_at runners caller low).0.done (sight.seats caller).begun (sight.seats caller).flight (past caller low) served.calls) in
     record {
+      free = free;
       own_calls = λ caller low. own_calls calls test sight runners caller (runner_at runners caller low).0 underway (runner_at runners caller low).1 (past caller low);
-      begun = (let none : sight.open_calls ≡ 0 = underway.right.open_calls (λ caller few. (let low : caller < length runners = omega (arith, few, underway.callers) in
-          let served = underway.served caller (runner_at runners caller low).0 (runner_at runners caller low).1 in
-          free_by (calls_of calls caller) (calls_in sight.history caller) (runner_at runners caller low).0.done (sight.seats caller).begun (sight.seats caller).flight (past caller low) served.calls)) in
+      begun = (let none : sight.open_calls ≡ 0 = underway.right.open_calls (λ caller few. (let low : caller < length runners = omega (arith, few, underway.callers) in free caller low)) in
           omega (arith, even, none));
       sound = underway.sound;
     }

@@ -17,7 +17,7 @@ use Rattle.mb_cache.specs.declared.answers.Flushed.TheVariants as flushed
 use Rattle.mb_run.proofs.Quiet.{quiet_alone}
 
 quiet_keeps : (old new : Sight) → IsQuiet old new → Keeps old new
-quiet_keeps old new quiet = record { history = quiet.counts.history; records = quiet.records; config = quiet.config }
+quiet_keeps old new quiet = record { history = quiet.counts.history; records = quiet.records; config = quiet.config; seats = quiet.seats }
 
 pub alone_keeps : (test : Option (Crossing → Bool)) (old new : Sight) (by : Option Crossings) (answer : Stepped) → GoOn None by → Steps test None by old new answer → Keeps old new
 alone_keeps test old new by answer on steps = quiet_keeps old new (quiet_alone test old new by answer on steps)
@@ -27,10 +27,10 @@ never_struck test None old new strikes = strikes
 never_struck test (Some now) old new strikes = strikes
 
 pub keeps_same : (s : Sight) → Keeps s s
-keeps_same s = record { history = refl; records = refl; config = refl }
+keeps_same s = record { history = refl; records = refl; config = refl; seats = λ caller. refl }
 
 pub keeps_then : (a b d : Sight) → Keeps a b → Keeps b d → Keeps a d
-keeps_then a b d one two = record { history = two.history ∙ one.history; records = two.records ∙ one.records; config = two.config ∙ one.config }
+keeps_then a b d one two = record { history = two.history ∙ one.history; records = two.records ∙ one.records; config = two.config ∙ one.config; seats = λ caller. two.seats caller ∙ one.seats caller }
 
 pub rose_later : (a b d : ℕ) → a ≤ b → Rose b d → Rose a d
 rose_later a b d less rose = omega (arith, less, rose)
@@ -44,12 +44,12 @@ flushed_end old mid new so_far same = same ∙ so_far ∙ ap (λ n. record old {
 
 sealed_keeps : (old new : Sight) → IsSealedNow old new → Keeps old new
 sealed_keeps old new is = elim is [
-  | inl taken ↦ subst (Keeps old) (sym taken.1) (record { history = refl; records = refl; config = refl })
+  | inl taken ↦ subst (Keeps old) (sym taken.1) (record { history = refl; records = refl; config = refl; seats = λ caller. refl })
   | inr none ↦ subst (Keeps old) (sym none.1) (keeps_same old)
 ]
 
 pub flushed_keeps : (old new : Sight) (came : SettleEnd) → IsFlushed old new came → Keeps old new
-flushed_keeps old new came is = subst (Keeps old) (sym is.rest) (record { history = refl; records = refl; config = refl })
+flushed_keeps old new came is = subst (Keeps old) (sym is.rest) (record { history = refl; records = refl; config = refl; seats = λ caller. refl })
 
 pub quiet_kept : (old new : Sight) → IsQuiet old new → Keeps old new
 quiet_kept old new quiet = quiet_keeps old new quiet

@@ -99,6 +99,7 @@ runner_at (first ∷ runners) (suc place) low = runner_at runners place (omega a
 
 pub order_over : (calls : List JobCall) (test : Option (Crossing → Bool)) (sight : Sight) (runners : List Runner) (index : ℕ) → length calls ≤ index → IsAfter calls test sight runners index → IsRunInOrder calls (length runners) test sight
 order_over calls test sight runners index past after = record {
+  free = λ caller low. (let few : caller < sight.config.callers = omega (arith, low, after.underway.callers) in after.free caller few);
   own_calls = λ caller low. (
       let there = runner_at runners caller low in
       let done : there.0.done ≡ length (calls_of (take index calls) caller) = after.done caller there.0 there.1 in

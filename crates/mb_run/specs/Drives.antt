@@ -33,8 +33,9 @@ pub record IsBegun (job : Job) (sight : Sight) : Type 0 where
   pub most : (caller : ℕ) → length (calls_of job.calls caller) ≤ sight.config.most
   pub right : IsOrderly sight
 
--- every call of the job has its entry, and the fault records are sound
+-- every call of the job has its entry, and none is in flight; the fault records are sound
 pub record IsComplete (calls : List JobCall) (callers : ℕ) (test : Option (Crossing → Bool)) (sight : Sight) : Type 0 where
+  pub free : (caller : ℕ) → caller < callers → (sight.seats caller).flight ≡ None
   pub own_calls : (caller : ℕ) → caller < callers → calls_in sight.history caller ≡ calls_of calls caller
   pub begun : sight.begun ≡ length sight.history
   pub sound : AreSound test sight.records
@@ -53,6 +54,7 @@ IsLinedUp (Some order) calls start history = Unit {0}
 -- what a job leaves of a core that was begun for it
 pub record IsDriven (job : Job) (test : Option (Crossing → Bool)) (old new : Sight) : Type 0 where
   pub config : new.config ≡ old.config
+  pub free : (caller : ℕ) → caller < new.config.callers → (new.seats caller).flight ≡ None
   pub own_calls : (caller : ℕ) → caller < length job.callers → calls_in new.history caller ≡ calls_of job.calls caller
   pub moments : HasEachMoment job.start new.history
   pub lined : IsLinedUp job.order job.calls job.start new.history

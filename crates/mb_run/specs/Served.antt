@@ -313,8 +313,9 @@ pub record IsAfter (calls : List JobCall) (test : Option (Crossing → Bool)) (s
   pub lined : IsLined sight.config.start sight.history sight.begun
   pub done : (caller : ℕ) (runner : Runner) → slice_get runners caller ≡ Some runner → runner.done ≡ length (calls_of (take index calls) caller)
 
--- a job that was run in list order
+-- a job that was run in list order; none of its calls is in flight
 pub record IsRunInOrder (calls : List JobCall) (callers : ℕ) (test : Option (Crossing → Bool)) (sight : Sight) : Type 0 where
+  pub free : (caller : ℕ) → caller < callers → (sight.seats caller).flight ≡ None
   pub own_calls : (caller : ℕ) → caller < callers → calls_in sight.history caller ≡ calls_of calls caller
   pub listed : IsListed sight.history calls
   pub moments : moments_in sight.history ≡ range_with_len (sight.config.start + 1) (length sight.history)
