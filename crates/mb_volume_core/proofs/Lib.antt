@@ -1,0 +1,3 @@
+pub mod Orderly
+pub mod Origins
+pub mod Staying
