@@ -1,6 +1,6 @@
 pub mod Orderly
-pub mod Staying
 pub mod Origins
+pub mod Staying
 pub mod Answering
 pub mod Freshness
 pub mod Gathering
