@@ -68,6 +68,9 @@ pub asked_ready : (test : Option (Crossing → Bool)) (old mid : Sight) (before 
 asked_ready test old mid before m ticket kind call ready asks performs =
     subst (λ (r : Runner). Performs r.pages ticket.caller call ticket.moment (performed.Ready ready)) (sym asks.1) performs
 
+pub asked_there : (test : Option (Crossing → Bool)) (old mid : Sight) (before m : Runner) (ticket : Ticket) (kind : Kind) → Asks test old mid before m ticket kind false → has before.pages 0 ≡ true → has m.pages 0 ≡ true
+asked_there test old mid before m ticket kind asks there = subst (λ (r : Runner). has r.pages 0 ≡ true) (sym asks.1) there
+
 -- ---- a checkpoint
 
 acts_sealed : (caller : ℕ) (old mid new : Sight) → Acts caller old mid → Acts caller old (sealed mid new)

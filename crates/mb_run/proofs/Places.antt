@@ -30,8 +30,8 @@ at_logs list made done begun flight lacks at =
     (at.1, at.1, at.2, ap (λ cs. cs ++ flight.call ∷ []) so_far ∙ sym (take_next list done flight.call at.2))
 
 -- a flight with its entry ends
-pub at_leaves : (list made : List Call) (done begun : ℕ) (flight : Flight) → flight.answered ≡ true → IsAtBy list made done begun (Some flight) → IsAtBy list made (done + 1) flight.ordinal None
-at_leaves list made done begun flight has at = (at.1, at.3 ∙ ap (λ b. take (done + one_if b) list) has)
+pub at_leaves : (list made : List Call) (done begun : ℕ) (flight : Flight) → flight.answered ≡ true → IsAtBy list made done begun (Some flight) → IsAtBy list made (done + 1) begun None
+at_leaves list made done begun flight has at = (at.0, at.3 ∙ ap (λ b. take (done + one_if b) list) has)
 
 -- a flight without an entry gets one and ends
 pub at_ends : (list made : List Call) (done begun : ℕ) (flight : Flight) → flight.answered ≡ false → IsAtBy list made done begun (Some flight)

@@ -10,7 +10,7 @@ use Rattle.mb_kinds.specs.declared.entries.Flight.{Flight}
 use Rattle.mb_kinds.specs.declared.faults.FaultRecord.{FaultRecord}
 use Rattle.mb_kinds.specs.declared.faults.Ticket.{Ticket}
 use Rattle.mb_kinds.specs.declared.replies.Reply.TheVariants as reply
-use Rattle.mb_run.specs.Recovering.{EndsByDevice, GoOn, GoesOn, Rolls, Steps, Strikes, Waits}
+use Rattle.mb_run.specs.Recovering.{EndsByDevice, GoOn, GoesOn, Rolls, RunsFor, Steps, Strikes, Waits}
 use Rattle.mb_run.specs.Served.{Acts, AreCounts, AreSound, Did, IsAtBy, IsCounted, IsResting, IsServed, IsStanding, Keeps, MayStep, Nears, Rolled, advanced, with_crossings, busy, calls_in, calls_of, rank}
 use Rattle.mb_run.specs.Sights.{IsOld, IsOrderly, IsWaiting, Limits, Sight, one_if, recovers}
 use Rattle.mb_core_spec.specs.Copies.{PagesState}
@@ -84,6 +84,12 @@ module _ (calls : List JobCall) (test : Option (Crossing → Bool)) (old : Sight
     marked = rw (waits.seats runner.crossings.caller) may.served.marked;
     counted = all;
   }
+
+  -- the crossings are those of its call in flight
+  pub runs_for : IsWaiting (old.seats runner.crossings.caller) → RunsFor old runner.crossings
+  runs_for waiting =
+      let at_it = subst (IsAtBy (calls_of calls runner.crossings.caller) (calls_in old.history runner.crossings.caller) runner.done (old.seats runner.crossings.caller).begun) waiting.1 may.served.calls in
+      (waiting.0, waiting.1, waiting.2, may.served.ordinal ∙ sym at_it.1)
 
   counts_on : (crossings : Crossings) → GoesOn runner.crossings crossings → AreCounts crossings
   counts_on crossings on = record { six = on.six ∙ may.counts.six; fits = on.fits }

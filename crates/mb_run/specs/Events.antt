@@ -72,7 +72,7 @@ pub record Leaves (caller : ℕ) (flight : Flight) (old new : Sight) : Type 0 wh
   pub stays : Stays caller old new
   pub was : (old.seats caller).flight ≡ Some flight
   pub answered : flight.answered ≡ true
-  pub mine : new.seats caller ≡ record { begun = flight.ordinal; flight = None }
+  pub mine : new.seats caller ≡ record { begun = (old.seats caller).begun; flight = None }
   pub counts : Counts old new
   pub floor : (new.floor ≡ None) ⊎ (new.floor ≡ old.floor)
 

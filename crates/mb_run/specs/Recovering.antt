@@ -14,6 +14,10 @@ use Rattle.mb_core_spec.specs.declared.stages.Stage.TheVariants as stage
 use Rattle.mb_run.specs.declared.answers.Stepped.{Stepped}
 use Rattle.mb_run.specs.declared.answers.Stepped.TheVariants as stepped
 
+-- the crossings are those of a caller's call in flight, which has no entry
+abbrev pub RunsFor : Sight → Crossings → Type 0
+RunsFor sight by = (flight : Flight) × ((sight.seats by.caller).flight ≡ Some flight) × (flight.answered ≡ false) × (by.ordinal ≡ flight.ordinal)
+
 -- the crossing of a fault record
 abbrev pub crossing_of : FaultRecord → Crossing
 crossing_of fault = record { caller = fault.caller; ordinal = fault.ordinal; kind = fault.kind; nth = fault.nth }

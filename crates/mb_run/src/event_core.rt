@@ -4,10 +4,9 @@ ghost use Rattle.mb_core_state.specs.declared.answers.Finished.TheVariants as fi
 ghost use Rattle.mb_cache.specs.declared.answers.Flushed.TheVariants as flushed;
 ghost use Rattle.mb_edge.specs.Causes.{Rose};
 ghost use Rattle.mb_run.specs.declared.answers.Stepped.TheVariants as stepped;
-ghost use Rattle.mb_edge.specs.declared.crossings.Crossings.{Crossings};
 ghost use Rattle.mb_run.specs.Events.{Enters, FaultsWith, Finishes, FlushesWith, Gathers, IsAsked, IsReadyAt, LeavesWith, Quits, sealed};
 ghost use Rattle.mb_run.specs.Pages.{HasTablesFor, Performs, has};
-ghost use Rattle.mb_run.specs.Recovering.{GoOn, Steps};
+ghost use Rattle.mb_run.specs.Recovering.{GoOn, RunsFor, Steps};
 ghost use Rattle.mb_run.specs.Served.{MayEnter};
 ghost use Rattle.mb_run.specs.Sights.{HasTicket, IsOrderly, IsTicketOf, IsWaiting, Sight, limits_of};
 
@@ -75,16 +74,19 @@ pub trait EventCore {
     fn gather(&mut self, alloc: Global, ticket: &Ticket, need: Need, pages: &mut Pages) -> Gathered
         requires ticket { HasTicket false ((sight self.old).seats ticket.now.caller) ticket.now }
         requires first { need.first < 262144 }
+        requires some { 1 ≤ need.count }
         requires count { need.count ≤ 32 }
         requires right { IsOrderly (sight self.old) }
         ensures gathers { Gathers (sight self.old) (sight self.new) ticket.now need pages.old pages.new result }
         ensures origin { origin self.new ≡ origin self.old }
         ensures right { IsOrderly (sight self.new) };
 
-    /// A call inside, without its entry, finishes with what was performed over its pages. After `Logged` a checkpoint
-    /// is not refused.
+    /// A call inside, without its entry, finishes with what was performed over its pages, which have the tables. After
+    /// `Logged` a checkpoint is not refused.
     fn finish(&mut self, alloc: Global, ticket: &Ticket, pages: &Pages, ready: Ready) -> Finished
         requires ticket { HasTicket false ((sight self.old).seats ticket.now.caller) ticket.now }
+        requires there { has pages.now 0 ≡ true }
+        requires tables { HasTablesFor (sight self.old).config.callers pages.now }
         requires ready { IsReadyAt (sight self.old) ticket.now pages.now ready }
         requires right { IsOrderly (sight self.old) }
         ensures finishes { Finishes (sight self.old) (sight self.new) ticket.now pages.now result }
@@ -117,7 +119,7 @@ pub trait EventCore {
         by: &mut Option<Crossings>,
         hook: &mut H,
     ) -> Stepped
-        requires by { IfSome by.old (λ (b : Crossings). IsWaiting ((sight self.old).seats b.caller)) }
+        requires by { IfSome by.old (RunsFor (sight self.old)) }
         requires right { IsOrderly (sight self.old) }
         ensures on { GoOn by.old by.new }
         ensures test { H.test hook.new ≡ H.test hook.old }

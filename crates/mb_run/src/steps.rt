@@ -113,6 +113,7 @@ fn gather<C: EventCore, H: Hook>(
     requires inside { runner.old.at ≡ at.Inside ticket.now }
     requires lacks { has runner.old.pages need.first ≡ false }
     requires first { need.first < 262144 }
+    requires some { 1 ≤ need.count }
     requires count { need.count ≤ 32 }
     ensures did { Did calls.now (H.test hook.old) (C.sight core.old) (C.sight core.new) runner.old runner.new result }
     ensures test { H.test hook.new ≡ H.test hook.old }
@@ -166,6 +167,7 @@ fn finish_now<C: EventCore, H: Hook>(
 ) -> Went
     requires may { MayStep calls.now (H.test hook.now) (C.sight core.old) runner.old call.now }
     requires inside { runner.old.at ≡ at.Inside ticket.now }
+    requires there { has runner.old.pages 0 ≡ true }
     requires ready { Performs runner.old.pages ticket.now.caller call.now ticket.now.moment (performed.Ready ready) }
     ensures did { Did calls.now (H.test hook.now) (C.sight core.old) (C.sight core.new) runner.old runner.new result }
     ensures origin { C.origin core.new ≡ C.origin core.old }
@@ -208,6 +210,7 @@ fn finish<C: EventCore, H: Hook>(
 ) -> Went
     requires may { MayStep calls.now (H.test hook.old) (C.sight core.old) runner.old call.now }
     requires inside { runner.old.at ≡ at.Inside ticket.now }
+    requires there { has runner.old.pages 0 ≡ true }
     requires ready { Performs runner.old.pages ticket.now.caller call.now ticket.now.moment (performed.Ready ready) }
     ensures did { Did calls.now (H.test hook.old) (C.sight core.old) (C.sight core.new) runner.old runner.new result }
     ensures test { H.test hook.new ≡ H.test hook.old }

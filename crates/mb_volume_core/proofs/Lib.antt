@@ -1,0 +1,9 @@
+pub mod Orderly
+pub mod Origins
+pub mod Staying
+pub mod Answering
+pub mod Freshness
+pub mod Gathering
+pub mod Finishing
+pub mod Recovering
+pub mod Sealing

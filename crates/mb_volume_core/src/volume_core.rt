@@ -1,10 +1,13 @@
+ghost use Rattle.std.specs.Prelude.{IfSome};
+ghost use Rattle.mb_core_spec.specs.Right.{Right};
 ghost use Rattle.mb_core_spec.specs.declared.config.Config.{Config};
 ghost use Rattle.mb_run.specs.CoreSight.{has_seal_room, sight_of};
+ghost use Rattle.mb_run.specs.Served.{AreCounts};
 
 use crate::answers::{as_ready, entered_as, stepped_as};
 use mb_cache::Flushed;
 use mb_calls::{Performed, Ready};
-use mb_callers::Pages;
+use mb_callers::{Pages, least_stale_block};
 use mb_core_events::Core;
 use mb_core_spec::{Config, Stage};
 use mb_core_state::{Fault, Finished, Gathered, Left};
@@ -24,6 +27,22 @@ pub struct Origin<D: Disk> {
 /// The event core of a volume, as the driver of a job calls it.
 pub struct VolumeCore<F: FileSys, D: Disk> {
     pub core: Core<F, D>,
+}
+
+/// A core is always in order. It does nothing, and shows this to whoever calls it.
+fn in_order<F: FileSys, D: Disk>(core: &Core<F, D>)
+    ensures { Right D.told D.faults core.now }
+{
+    core.history();
+}
+
+/// A call has six counts, each of 32 bits. It does nothing, and shows this to whoever calls it.
+fn counts_fit(by: &Option<Crossings>)
+    ensures { IfSome by.now AreCounts }
+{
+    if let Some(crossings) = by {
+        let [_enter, _gather, _finish, _leave, _remount, _replay] = crossings.counts;
+    }
 }
 
 impl<F: FileSys, D: Disk> EventCore for VolumeCore<F, D> {
@@ -81,10 +100,13 @@ impl<F: FileSys, D: Disk> EventCore for VolumeCore<F, D> {
         need: Need,
         pages: &mut Pages,
     ) -> Gathered {
+        in_order(&self.core);
         self.core.gather(alloc, ticket, need, pages)
     }
 
     fn finish(&mut self, alloc: Global, ticket: &Ticket, pages: &Pages, ready: Ready) -> Finished {
+        in_order(&self.core);
+        least_stale_block();
         self.core.finish(alloc, ticket, pages, as_ready(ready))
     }
 
@@ -102,7 +124,11 @@ impl<F: FileSys, D: Disk> EventCore for VolumeCore<F, D> {
         by: &mut Option<Crossings>,
         hook: &mut H,
     ) -> Stepped {
-        stepped_as(recover_step(alloc, &mut self.core, by, hook))
+        in_order(&self.core);
+        counts_fit(by);
+        let stepped = recover_step(alloc, &mut self.core, by, hook);
+        in_order(&self.core);
+        stepped_as(stepped)
     }
 
     fn quit(&mut self, caller: u8) {

@@ -1,10 +1,13 @@
 use Rattle.mb_run.specs.declared.answers.Stepped.TheVariants as stepped
 use Rattle.mb_run.proofs.Inside.{room}
-use Rattle.mb_run.proofs.Rolling.{kept_roll, device_rolls, rolled_nothing}
+use Rattle.mb_run.proofs.Rolling.{kept_roll, device_rolls, rolled_nothing, runs_for}
 use Rattle.mb_run.proofs.runs.roll.Goals as goal
 
 pub advance-requires-clause-done : goal.advance-requires-clause-done
 advance-requires-clause-done g c = room _ _ _ _ _ c.requires.may
+
+pub recover_step-requires-clause-by : goal.recover_step-requires-clause-by
+recover_step-requires-clause-by g c = runs_for _ _ _ _ _ c.requires.may c.requires.rests c.requires.waits
 
 pub returns-in-Device-clause-rolled : goal.returns-in-Device-clause-rolled
 returns-in-Device-clause-rolled g c = rw c.advance.ensures (device_rolls _ _ _ _ _ c.requires.may c.requires.rests c.requires.waits _ _ c.in-Device.ensures.on c.in-Device.ensures.steps)

@@ -1,6 +1,6 @@
 use Rattle.mb_kinds.specs.declared.faults.Kind.TheVariants as kind
 use Rattle.mb_run.proofs.Inside.{inside_asked, asked_did, asked_may}
-use Rattle.mb_run.proofs.Finishing.{asked_ready}
+use Rattle.mb_run.proofs.Finishing.{asked_ready, asked_there}
 use Rattle.mb_run.proofs.Inside.{has_ticket}
 use Rattle.mb_run.proofs.Places.{of_ticket}
 use Rattle.mb_run.proofs.steps.finish.Goals as goal
@@ -19,3 +19,6 @@ finish_now-requires-2-clause-ready g c = asked_ready (g.H.Hook.test c.args.hook.
 
 pub is_struck-requires-clause-ticket : goal.is_struck-requires-clause-ticket
 is_struck-requires-clause-ticket g c = of_ticket _ _ _ (has_ticket _ _ _ _ _ c.requires.may c.args.ticket.now c.requires.inside)
+
+pub finish_now-requires-2-clause-there : goal.finish_now-requires-2-clause-there
+finish_now-requires-2-clause-there g c = asked_there (g.H.Hook.test c.args.hook.now) _ _ _ _ c.args.ticket.now kind.Finish c.if-is_struck.ensures.asks c.requires.there

@@ -3,7 +3,7 @@ use Rattle.mb_run.specs.Served.{Did, backed}
 use Rattle.mb_run.specs.Sights.{Sight}
 use Rattle.mb_run.specs.declared.progress.Went.TheVariants as went
 use Rattle.mb_run.proofs.Inside.{inside_back, did_busy, did_nothing, did_stale, did_log}
-use Rattle.mb_run.proofs.Finishing.{did_seals, logged_runs, ready_at}
+use Rattle.mb_run.proofs.Finishing.{did_seals, held_tables, logged_runs, ready_at}
 use Rattle.mb_run.proofs.steps.finish_now.Goals as goal
 
 pub returns-in-Skip-clause-did : goal.returns-in-Skip-clause-did
@@ -26,3 +26,6 @@ seal_if_due-requires-clause-runs g c = logged_runs _ _ _ _ _ c.requires.may c.ar
 
 pub finish-finished-requires-clause-ready : goal.finish-finished-requires-clause-ready
 finish-finished-requires-clause-ready g c = ready_at _ _ _ _ _ c.requires.may c.args.ticket.now c.requires.inside _ c.requires.ready
+
+pub finish-finished-requires-clause-tables : goal.finish-finished-requires-clause-tables
+finish-finished-requires-clause-tables g c = held_tables _ _ _ _ _ c.requires.may c.args.ticket.now c.requires.inside

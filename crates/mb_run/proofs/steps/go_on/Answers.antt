@@ -18,5 +18,8 @@ gather-requires-in-Need-clause-lacks g c = need_lacks _ _ c.in-Need.ensures.aske
 pub gather-requires-in-Need-clause-first : goal.gather-requires-in-Need-clause-first
 gather-requires-in-Need-clause-first g c = omega (arith, c.in-Need.ensures.asked.below)
 
+pub gather-requires-in-Need-clause-some : goal.gather-requires-in-Need-clause-some
+gather-requires-in-Need-clause-some g c = c.in-Need.ensures.asked.some
+
 pub gather-requires-in-Need-clause-count : goal.gather-requires-in-Need-clause-count
 gather-requires-in-Need-clause-count g c = c.in-Need.ensures.asked.few
