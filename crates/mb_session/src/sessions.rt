@@ -54,6 +54,13 @@ impl Sessions {
         Ok(Sessions { seats })
     }
 
+    /// The callers' sessions, in the order of their numbers.
+    pub fn as_slice(&self) -> &[Seat]
+        ensures { result.now ≡ self.now }
+    {
+        self.seats.as_slice()
+    }
+
     /// The number of callers.
     pub fn callers(&self) -> u8
         ensures count { result ≡ length self.now }
