@@ -1,11 +1,16 @@
 -- A job at its beginning.
-use Rattle.std.proofs.Common.{◌≡◌, List, [], ◌∷◌, ℕ, zero, suc, ◌+◌, ◌<◌, ◌≤◌, Bool, refl, ap, sym, subst, ◌∙◌, arith, Option, None, Some, length, take, slice_get}
+use Rattle.std.proofs.Common.{◌≡◌, List, [], ◌∷◌, ℕ, zero, suc, ◌+◌, ◌<◌, ◌≤◌, Bool, refl, ap, sym, subst, ◌∙◌, arith, inl, inr, Option, None, Some, length, take, slice_get}
 use Rattle.std.proofs.lemmas.List.{length-take-le}
-use Rattle.std.proofs.lemmas.Option.{same_Some, slice_get_within}
+use Rattle.std.proofs.lemmas.Option.{same_Some, slice_get_past, slice_get_within}
 use Rattle.mb_edge.specs.declared.crossings.Crossing.{Crossing}
 use Rattle.mb_jobs.specs.declared.jobs.Job.{Job}
 use Rattle.mb_jobs.specs.declared.jobs.JobCall.{JobCall}
-use Rattle.mb_run.specs.Drives.{AreNew, HasEachMoment, IsBegun, IsComplete, IsDriven, IsLinedUp, IsRunnable, new_runner}
+use Rattle.mb_kinds.specs.declared.entries.Entry.{Entry}
+use Rattle.mb_kinds.specs.declared.entries.Flight.{Flight}
+use Rattle.mb_run.specs.Drives.{AreNew, HasEachMoment, IsBegun, IsComplete, IsDriven, IsLinedUp, IsRunnable, RisesByOrder, new_runner}
+use Rattle.mb_run.specs.Firsts.{HasFirst}
+use Rattle.mb_run.specs.Letters.{AreLetters, HasBegunBy, letters_of}
+use Rattle.mb_run.specs.Runs.{FirstsRise}
 use Rattle.mb_run.specs.Served.{AreCounts, IsAfter, IsBalanced, IsRunInOrder, IsServed, Underway, calls_of, moments_in}
 use Rattle.mb_run.specs.Sights.{IsOrderly, Limits, Seat, Sight}
 use Rattle.mb_run.specs.declared.runner.Runner.{Runner}
@@ -49,6 +54,29 @@ begins_after job test sight runners runnable begun new = record {
 pub named_below : (job : Job) (runners : List Runner) → IsRunnable job → AreNew runners (length job.callers) → AllByRecursion (λ (made : JobCall). made.caller < length runners) job.calls
 named_below job runners runnable new = subst (λ n. AllByRecursion (λ (made : JobCall). made.caller < n) job.calls) (sym new.size) runnable.named
 
+never_entry : (entry : Entry) → None ≡ Some entry → ⊥
+never_entry entry same = cc
+
+never_flight : (flight : Flight) → None ≡ Some flight → ⊥
+never_flight flight same = cc
+
+nobody : (job : Job) (sight : Sight) (caller moment : ℕ) → IsBegun job sight → HasFirst sight caller moment → ⊥
+nobody job sight caller moment begun has = elim has [
+  | inl found ↦ never_entry found.entry (sym (slice_get_past [] found.place (omega arith)) ∙ ap (λ h. slice_get h found.place) (sym begun.history) ∙ found.here)
+  | inr found ↦ never_flight found.flight (ap (λ (s : Seat). s.flight) (sym (begun.seats caller)) ∙ found.here)
+]
+
+-- nobody called yet
+pub begins_firsts : (letters : List ℕ) (job : Job) (sight : Sight) → IsBegun job sight → HasBegunBy letters job.calls [] sight
+begins_firsts letters job sight begun = record {
+  within = λ caller moment has. absurd (nobody job sight caller moment begun has);
+  below = λ caller moment has. absurd (nobody job sight caller moment begun has);
+  empty = λ caller moment has zero. nobody job sight caller moment begun has;
+  seen_is = λ caller letter has there. absurd (omega (arith, there));
+  later = λ caller letter has past. ap (λ (s : Seat). s.begun) (begun.seats caller);
+  rises = λ one other first second before after called here there lower higher less. absurd (nobody job sight one first begun here);
+}
+
 -- ---- at the end
 
 declared : (job : Job) (old new : Sight) → IsBegun job old → new.config ≡ old.config → new.config.callers ≡ length job.callers
@@ -64,12 +92,13 @@ listed job test old new callers begun none same ran config right =
       own_calls = λ caller low. (let few : caller < callers = omega (arith, low, same) in ran.own_calls caller few);
       moments = subst (λ n. HasEachMoment n new.history) start (each_moment new right ran.begun);
       lined = subst (λ order. IsLinedUp order job.calls job.start new.history) (sym none) (ran.listed, subst (λ n. moments_in new.history ≡ range_with_len (n + 1) (length new.history)) start ran.moments);
+      firsts = subst (λ order. RisesByOrder order job.callers new.history) (sym none) tt;
       sound = ran.sound;
     }
 
 pub ordered : (job : Job) (test : Option (Crossing → Bool)) (old new : Sight) (callers : ℕ) (order : List ℕ) → IsBegun job old → job.order ≡ Some order → callers ≡ length job.callers → IsComplete job.calls callers test new → new.config ≡ old.config → IsOrderly new
-    → IsDriven job test old new
-ordered job test old new callers order begun some same done config right =
+    → (AreLetters (letters_of job.callers) → FirstsRise order (letters_of job.callers) new.history) → IsDriven job test old new
+ordered job test old new callers order begun some same done config right rises =
     let start : new.config.start ≡ job.start = ap (λ (l : Limits). l.start) config ∙ begun.start in
     record {
       config = config;
@@ -77,6 +106,7 @@ ordered job test old new callers order begun some same done config right =
       own_calls = λ caller low. (let few : caller < callers = omega (arith, low, same) in done.own_calls caller few);
       moments = subst (λ n. HasEachMoment n new.history) start (each_moment new right done.begun);
       lined = subst (λ given. IsLinedUp given job.calls job.start new.history) (sym some) tt;
+      firsts = subst (λ given. RisesByOrder given job.callers new.history) (sym some) rises;
       sound = done.sound;
     }
 

@@ -14,7 +14,8 @@ use Rattle.mb_kinds.specs.declared.replies.Reply.{Reply}
 use Rattle.std.proofs.lemmas.Bool.{eq-eqb}
 use Rattle.mb_core_spec.specs.Copies.{PagesState, no_pages}
 use Rattle.mb_run.specs.Pages.{has}
-use Rattle.mb_run.specs.Events.{Answers, Enters, EntersInside, Leaves, entry_of}
+use Rattle.mb_run.specs.Events.{Answers, Begins, Enters, EntersInside, Leaves, entry_of}
+use Rattle.mb_run.specs.Firsts.{KeepsFirsts}
 use Rattle.mb_run.specs.Served.{Acts, AreCounts, Did, GoesIn, IsAtBy, IsCounted, InLine, IsBalanced, IsStanding, LineBy, MayStep, Nears, advanced, busy, calls_in, calls_of, missing, rank, work}
 use Rattle.mb_run.specs.Sights.{IsOld, IsOrderly, Limits, Seat, Sight, flight_of, one_if, recovers}
 use Rattle.mb_run.specs.declared.runner.At.{At}
@@ -26,6 +27,7 @@ use Rattle.mb_run.specs.declared.progress.Went.TheVariants as went
 use Rattle.mb_run.specs.declared.runner.Runner.{Runner}
 use Rattle.mb_run.proofs.Acting.{acts_same, acts_then, acts_stays, acts_entry}
 use Rattle.mb_run.proofs.Balance.{balanced_answers, balanced_begins, balanced_same, marked_begins, marked_lacks}
+use Rattle.mb_run.proofs.Firsts.{CameFrom, came_from, counted_from, firsts_answers, firsts_begins, firsts_leaves}
 use Rattle.mb_run.proofs.Lines.{line_enters, line_leaves}
 use Rattle.mb_run.proofs.Openings.{line_answers, line_made}
 use Rattle.mb_run.proofs.Lists.{all_map, calls_push}
@@ -84,17 +86,18 @@ module _ (calls : List JobCall) (test : Option (Crossing → Bool)) (old : Sight
   pub did_leave : (new : Sight) (flight : Flight) → Leaves runner.crossings.caller flight old new → Did calls test old new runner (advanced runner) went.Ended
   did_leave new flight leaves =
       let was = subst (IsAtBy (calls_of calls runner.crossings.caller) (calls_in old.history runner.crossings.caller) runner.done (old.seats runner.crossings.caller).begun) leaves.was may.served.calls in
-      did_end new (acts_stays runner.crossings.caller old new leaves.stays leaves.counts.history (elim leaves.floor [ inl none ↦ inl none | inr same ↦ inr (inr same) ])) (line_leaves runner.crossings.caller flight old new leaves) (balanced_same old new leaves.counts) leaves.stays.records
+      did_end new (acts_stays runner.crossings.caller old new leaves.stays leaves.counts.history (elim leaves.floor [ inl none ↦ inl none | inr same ↦ inr (inr same) ]) (firsts_leaves old new runner.crossings.caller flight may.within (counted_from flight.ordinal runner.done was.1) leaves)) (line_leaves runner.crossings.caller flight old new leaves) (balanced_same old new leaves.counts) leaves.stays.records
       (rw (leaves.mine, leaves.counts.history) (at_leaves (calls_of calls runner.crossings.caller) (calls_in old.history runner.crossings.caller) runner.done (old.seats runner.crossings.caller).begun flight leaves.answered was))
       (ap (λ (s : Seat). s.flight) leaves.mine)
 
   -- an entry that changes nothing: the call begins, if it had not, and ends
   pub did_answer : (new : Sight) (flight : Flight) (answer : Reply) → Answers runner.crossings.caller flight answer old new → flight.answered ≡ false
       → IsAtBy (calls_of calls runner.crossings.caller) (calls_in old.history runner.crossings.caller) runner.done flight.ordinal (Some flight)
-      → (Answers runner.crossings.caller flight answer old new → InLine runner.crossings.caller old → LineBy old.config.start old.history new.begun (Some flight)) → Did calls test old new runner (advanced runner) went.Ended
-  did_answer new flight answer answers lacks here line =
+      → (Answers runner.crossings.caller flight answer old new → InLine runner.crossings.caller old → LineBy old.config.start old.history new.begun (Some flight))
+      → (Answers runner.crossings.caller flight answer old new → CameFrom old new runner.crossings.caller flight) → Did calls test old new runner (advanced runner) went.Ended
+  did_answer new flight answer answers lacks here line came =
       let entry = entry_of runner.crossings.caller flight None answer in
-      did_end new (acts_entry runner.crossings.caller old new entry answers.stays refl answers.history (elim answers.floor [ inl none ↦ inl none | inr same ↦ inr (inr same) ])) (λ lined. line_answers runner.crossings.caller flight answer old new answers lacks (line answers lined)) (balanced_answers runner.crossings.caller flight answer old new answers) answers.stays.records
+      did_end new (acts_entry runner.crossings.caller old new entry answers.stays refl answers.history (elim answers.floor [ inl none ↦ inl none | inr same ↦ inr (inr same) ]) (firsts_answers old new runner.crossings.caller flight answer may.within (counted_from flight.ordinal runner.done here.1) (came answers) answers)) (λ lined. line_answers runner.crossings.caller flight answer old new answers lacks (line answers lined)) (balanced_answers runner.crossings.caller flight answer old new answers) answers.stays.records
       (rw (answers.mine, answers.history, calls_push old.history entry runner.crossings.caller refl)
       (at_ends (calls_of calls runner.crossings.caller) (calls_in old.history runner.crossings.caller) runner.done flight.ordinal flight lacks here))
       (ap (λ (s : Seat). s.flight) answers.mine)
@@ -108,11 +111,19 @@ module _ (calls : List JobCall) (test : Option (Crossing → Bool)) (old : Sight
   begun flight ordinal called answered =
       at_begins (calls_of calls runner.crossings.caller) (calls_in old.history runner.crossings.caller) runner.done old runner.crossings.caller call (old.seats runner.crossings.caller).flight flight may.served.calls may.next ordinal called answered
 
+  firsts_in : (new : Sight) (flight : Flight) → flight.ordinal ≡ (flight_of old runner.crossings.caller call (old.seats runner.crossings.caller).flight).ordinal → flight.moment ≡ (flight_of old runner.crossings.caller call (old.seats runner.crossings.caller).flight).moment → flight.call ≡ (flight_of old runner.crossings.caller call (old.seats runner.crossings.caller).flight).call → flight.answered ≡ (flight_of old runner.crossings.caller call (old.seats runner.crossings.caller).flight).answered
+      → Begins runner.crossings.caller flight old new → KeepsFirsts old new
+  firsts_in new flight ordinal moment called answered begins =
+      let here = begun flight ordinal called answered in
+      firsts_begins old new runner.crossings.caller flight may.within (counted_from flight.ordinal runner.done here.1)
+      (came_from old new runner.crossings.caller call (old.seats runner.crossings.caller).flight flight refl ordinal moment begins.begun) begins
+
   pub did_done : (new : Sight) (answer : Reply) → Enters old new runner.crossings.caller call (enter.Done answer) → Did calls test old new runner (advanced runner) went.Ended
   did_done new answer enters = elim enters [
     | inl left ↦ did_leave new left.0 left.1
     | inr made ↦ did_answer new (flight_of old runner.crossings.caller call (old.seats runner.crossings.caller).flight) answer made.2 made.0 (begun (flight_of old runner.crossings.caller call (old.seats runner.crossings.caller).flight) refl refl refl)
         (λ answers line. line_made runner.crossings.caller call answer old new answers line)
+        (λ answers. came_from old new runner.crossings.caller call (old.seats runner.crossings.caller).flight (flight_of old runner.crossings.caller call (old.seats runner.crossings.caller).flight) refl refl refl answers.begun)
   ]
 
   -- before it the call was outside
@@ -131,7 +142,7 @@ module _ (calls : List JobCall) (test : Option (Crossing → Bool)) (old : Sight
           nears = record {
             same = refl;
             counts = may.counts;
-            acts = acts_stays runner.crossings.caller old new begins.stays begins.history (inr (inr begins.floor));
+            acts = acts_stays runner.crossings.caller old new begins.stays begins.history (inr (inr begins.floor)) (firsts_in new (flight_of old runner.crossings.caller call (old.seats runner.crossings.caller).flight) refl refl refl refl begins);
             lined = line_enters runner.crossings.caller call (flight_of old runner.crossings.caller call (old.seats runner.crossings.caller).flight) old new begins refl refl;
             balanced = balanced_begins runner.crossings.caller (flight_of old runner.crossings.caller call (old.seats runner.crossings.caller).flight) old new begins;
             served = record {
@@ -203,7 +214,7 @@ module _ (calls : List JobCall) (test : Option (Crossing → Bool)) (old : Sight
         let nears : Nears calls test old new runner now = record {
           same = goes.nears.same;
           counts = goes.nears.counts;
-          acts = acts_then runner.crossings.caller old mid new (acts_stays runner.crossings.caller old mid begins.stays begins.history (inr (inr begins.floor))) goes.nears.acts;
+          acts = acts_then runner.crossings.caller old mid new (acts_stays runner.crossings.caller old mid begins.stays begins.history (inr (inr begins.floor)) (firsts_in mid (record (flight_of old runner.crossings.caller call (old.seats runner.crossings.caller).flight) { ticket = Some ticket }) refl refl refl refl begins)) goes.nears.acts;
           lined = λ line. goes.nears.lined (line_enters runner.crossings.caller call (record (flight_of old runner.crossings.caller call (old.seats runner.crossings.caller).flight) { ticket = Some ticket }) old mid begins refl refl line);
           balanced = λ even. goes.nears.balanced (balanced_begins runner.crossings.caller (record (flight_of old runner.crossings.caller call (old.seats runner.crossings.caller).flight) { ticket = Some ticket }) old mid begins even);
           served = goes.nears.served;

@@ -90,6 +90,7 @@ acts_sealed caller old mid new acts = record {
   stales = acts.stales;
   calm = acts.calm;
   floor = acts.floor;
+  firsts = record { begun = acts.firsts.begun; none = acts.firsts.none; firsts = acts.firsts.firsts };
 }
 
 stands_sealed : (mid new : Sight) (caller : ℕ) (pages : PagesState) (a : At) → IsStanding mid caller pages a → IsStanding (sealed mid new) caller pages a

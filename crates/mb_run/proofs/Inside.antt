@@ -27,6 +27,7 @@ use Rattle.mb_run.specs.declared.progress.Went.TheVariants as went
 use Rattle.mb_run.specs.declared.runner.Runner.{Runner}
 use Rattle.mb_run.proofs.Acting.{acts_same, acts_stays, acts_entry}
 use Rattle.mb_run.proofs.Balance.{balanced_logs, balanced_same, marked_here}
+use Rattle.mb_run.proofs.Firsts.{counted_from, firsts_logs, firsts_stays}
 use Rattle.mb_run.proofs.Lines.{line_logs, line_same}
 use Rattle.mb_run.proofs.Lists.{calls_push}
 use Rattle.mb_run.proofs.Missing.{missing_less, missing_most}
@@ -118,7 +119,7 @@ module _ (calls : List JobCall) (test : Option (Crossing → Bool)) (old : Sight
           nears = record {
             same = refl;
             counts = may.counts;
-            acts = acts_stays runner.crossings.caller old new gains.stays gains.counts.history (inr (inr gains.floor));
+            acts = acts_stays runner.crossings.caller old new gains.stays gains.counts.history (inr (inr gains.floor)) (firsts_stays old new runner.crossings.caller gains.stays.seats gains.mine gains.counts.history gains.counts.begun);
             lined = line_same runner.crossings.caller old new gains.stays.config gains.counts gains.mine;
             balanced = balanced_same old new gains.counts;
             served = record {
@@ -149,6 +150,7 @@ module _ (calls : List JobCall) (test : Option (Crossing → Bool)) (old : Sight
         let made : Answers runner.crossings.caller stood.0.flight reply.Device old new = subst (λ n. Answers n stood.0.flight reply.Device old new) own_ticket (given stood.0.flight (ap (λ n. (old.seats n).flight) own_ticket ∙ stood.0.here)) in
         did_answer calls test old runner call may new stood.0.flight reply.Device made stood.0.answered (here.1, here.1, here.2, here.3)
         (λ made line. line_open runner.crossings.caller stood.0.flight reply.Device old new made stood.0.here line)
+        (λ made. inl (record { was = stood.0.flight; here = stood.0.here; ordinal = refl; moment = refl }))
 
     pub did_busy : (new : Sight) (holder : Ticket) → Finishes old new ticket runner.pages (finished.Busy holder) → Did calls test old new runner (record runner { asked = true }) (went.Busy holder)
     did_busy new holder finishes = subst (λ (s : Sight). Did calls test old s runner (record runner { asked = true }) (went.Busy holder)) (sym finishes.3) (record {
@@ -179,7 +181,7 @@ module _ (calls : List JobCall) (test : Option (Crossing → Bool)) (old : Sight
           nears = record {
             same = refl;
             counts = may.counts;
-            acts = acts_stays runner.crossings.caller old new stale.stays stale.counts.history (elim stale.floor [ inl none ↦ inl none | inr mine ↦ inr (inl mine) ]);
+            acts = acts_stays runner.crossings.caller old new stale.stays stale.counts.history (elim stale.floor [ inl none ↦ inl none | inr mine ↦ inr (inl mine) ]) (firsts_stays old new runner.crossings.caller stale.stays.seats stale.mine stale.counts.history stale.counts.begun);
             lined = line_same runner.crossings.caller old new stale.stays.config stale.counts stale.mine;
             balanced = balanced_same old new stale.counts;
             served = record {
@@ -220,7 +222,7 @@ module _ (calls : List JobCall) (test : Option (Crossing → Bool)) (old : Sight
           nears = record {
             same = refl;
             counts = may.counts;
-            acts = acts_entry runner.crossings.caller old new entry logs.stays refl logs.history (inl logs.floor);
+            acts = acts_entry runner.crossings.caller old new entry logs.stays refl logs.history (inl logs.floor) (firsts_logs old new runner.crossings.caller ticket may.within logs (counted_from logs.flight.ordinal runner.done here.1));
             balanced = balanced_logs runner.crossings.caller old new ticket logs;
             lined = λ line. rw logs.mine (line_logs runner.crossings.caller logs.flight old new entry logs.was lacks logs.stays.config logs.begun refl logs.history line);
             served = record {

@@ -1,7 +1,8 @@
 pub mod Lists
+pub mod Counting
+pub mod Firsts
 pub mod Acting
 pub mod Places
-pub mod Counting
 pub mod Missing
 pub mod Balance
 pub mod Struck
@@ -23,3 +24,5 @@ pub mod InOrder
 pub mod Completing
 pub mod Beginning
 pub mod Ending
+pub mod Letters
+pub mod Starting

@@ -14,6 +14,7 @@ use Rattle.mb_run.specs.declared.runner.Runner.{Runner}
 use Rattle.mb_run.proofs.Balance.{marked_here}
 use Rattle.mb_run.proofs.Counting.{same_or_not}
 use Rattle.mb_run.proofs.Everybody.{got, put_here, put_there, put_underway}
+use Rattle.mb_run.proofs.Firsts.{firsts_same, firsts_then}
 use Rattle.mb_run.proofs.Going.{IsTurning, nears_then}
 
 -- ---- before a step
@@ -77,10 +78,11 @@ moved_whole calls test old new runners caller d now underway low moves right = r
   grows = grows_put runners caller d now low (elim moves.done [ inl same ↦ (omega (arith, same)) | inr more ↦ (omega (arith, more)) ]);
   balanced = moves.nears.balanced;
   config = moves.nears.acts.config;
+  firsts = moves.nears.acts.firsts;
 }
 
 pub whole_same : (calls : List JobCall) (test : Option (Crossing → Bool)) (sight : Sight) (runners : List Runner) → Underway calls test sight runners → IsWhole calls test sight sight runners runners
-whole_same calls test sight runners underway = record { underway = underway; grows = grows_same runners; balanced = λ even. even; config = refl }
+whole_same calls test sight runners underway = record { underway = underway; grows = grows_same runners; balanced = λ even. even; config = refl; firsts = firsts_same sight }
 
 pub whole_then : (calls : List JobCall) (test : Option (Crossing → Bool)) (a b d : Sight) (r s t : List Runner) → IsWhole calls test a b r s → IsWhole calls test b d s t → IsWhole calls test a d r t
 whole_then calls test a b d r s t one two = record {
@@ -88,6 +90,7 @@ whole_then calls test a b d r s t one two = record {
   grows = grows_then r s t one.grows two.grows;
   balanced = λ even. two.balanced (one.balanced even);
   config = two.config ∙ one.config;
+  firsts = firsts_then a b d one.config one.firsts two.firsts;
 }
 
 no_yes : false ≡ true → ⊥

@@ -17,6 +17,7 @@ use Rattle.mb_run.specs.declared.answers.Stepped.{Stepped}
 use Rattle.mb_run.specs.declared.answers.Stepped.TheVariants as stepped
 use Rattle.mb_run.specs.declared.runner.Runner.{Runner}
 use Rattle.mb_run.proofs.Balance.{balanced_same}
+use Rattle.mb_run.proofs.Firsts.{firsts_still}
 use Rattle.mb_run.proofs.Moving.{grows_same}
 use Rattle.mb_run.proofs.Rolling.{not_running, other_served}
 
@@ -37,6 +38,7 @@ quiet_acts caller old new quiet = record {
   stales = λ same running other apart. quiet.stales running other;
   calm = λ same. quiet.incarnation;
   floor = elim quiet.floor [ inl none ↦ inl none | inr same ↦ inr (inr same) ];
+  firsts = firsts_still old new quiet.counts.history quiet.counts.begun quiet.seats;
 }
 
 pub quiet_whole : (calls : List JobCall) (test : Option (Crossing → Bool)) (old new : Sight) (runners : List Runner) → Underway calls test old runners → IsQuiet old new → IsOrderly new → IsWhole calls test old new runners runners
@@ -55,6 +57,7 @@ quiet_whole calls test old new runners underway quiet right = record {
   grows = grows_same runners;
   balanced = balanced_same old new quiet.counts;
   config = quiet.config;
+  firsts = firsts_still old new quiet.counts.history quiet.counts.begun quiet.seats;
 }
 
 pub quiet_same : (old new : Sight) → new ≡ old → IsQuiet old new

@@ -29,6 +29,7 @@ use Rattle.mb_run.proofs.Entered.{did_answer}
 use Rattle.mb_run.proofs.Openings.{line_open}
 use Rattle.mb_run.proofs.Balance.{balanced_same, marked_here}
 use Rattle.mb_run.proofs.Lines.{line_same}
+use Rattle.mb_run.proofs.Firsts.{firsts_still}
 use Rattle.mb_run.proofs.Lists.{all_map, all_both}
 use Rattle.mb_run.proofs.Struck.{one_most, rank_old}
 
@@ -52,6 +53,7 @@ acts_waits caller old new more waits recovered records mine = record {
   stales = λ same running other apart. absurd (not_running old recovered running);
   calm = λ same. waits.incarnation;
   floor = elim waits.floor [ inl none ↦ inl none | inr same ↦ inr (inr same) ];
+  firsts = firsts_still old new waits.counts.history waits.counts.begun waits.seats;
 }
 
 -- a call that is outside, or has an older ticket, stands as before
@@ -202,6 +204,7 @@ module _ (calls : List JobCall) (test : Option (Crossing → Bool)) (old : Sight
       let at_it = subst (IsAtBy (calls_of calls runner.crossings.caller) (calls_in old.history runner.crossings.caller) runner.done (old.seats runner.crossings.caller).begun) here may.served.calls in
       did_answer calls test old runner call may new flight reply.Device (ends flight here) lacks (at_it.1, at_it.1, at_it.2, at_it.3)
       (λ made line. line_open runner.crossings.caller flight reply.Device old new made here line)
+      (λ made. inl (record { was = flight; here = here; ordinal = refl; moment = refl }))
 
 -- ---- what a caller's steps leave of another caller
 

@@ -4,9 +4,12 @@ use Rattle.std.specs.List.{AllByRecursion, range_with_len}
 use Rattle.mb_core_spec.specs.declared.stages.Stage.{Stage}
 use Rattle.mb_core_spec.specs.declared.stages.Stage.TheVariants as stage
 use Rattle.mb_edge.specs.declared.crossings.Crossing.{Crossing}
+use Rattle.mb_jobs.specs.declared.jobs.Caller.{Caller}
 use Rattle.mb_jobs.specs.declared.jobs.Job.{Job}
 use Rattle.mb_jobs.specs.declared.jobs.JobCall.{JobCall}
 use Rattle.mb_kinds.specs.declared.entries.Entry.{Entry}
+use Rattle.mb_run.specs.Letters.{AreLetters, letters_of}
+use Rattle.mb_run.specs.Runs.{FirstsRise}
 use Rattle.mb_run.specs.Served.{AreSound, IsListed, calls_in, calls_of, moments_in}
 use Rattle.mb_run.specs.Sights.{AreApart, IsOrderly, Sight}
 use Rattle.mb_core_spec.specs.Copies.{no_pages}
@@ -51,6 +54,12 @@ abbrev pub IsLinedUp : Option (List ℕ) → List JobCall → ℕ → List Entry
 IsLinedUp None calls start history = IsListed history calls × (moments_in history ≡ range_with_len (start + 1) (length history))
 IsLinedUp (Some order) calls start history = Unit {0}
 
+-- under an order the moments of the callers' first calls rise as their letters, small or capital, first stand in it; the letters
+-- are a job's, small ones and no two alike
+abbrev pub RisesByOrder : Option (List ℕ) → List Caller → List Entry → Type 0
+RisesByOrder None callers history = Unit {0}
+RisesByOrder (Some order) callers history = AreLetters (letters_of callers) → FirstsRise order (letters_of callers) history
+
 -- what a job leaves of a core that was begun for it
 pub record IsDriven (job : Job) (test : Option (Crossing → Bool)) (old new : Sight) : Type 0 where
   pub config : new.config ≡ old.config
@@ -58,6 +67,7 @@ pub record IsDriven (job : Job) (test : Option (Crossing → Bool)) (old new : S
   pub own_calls : (caller : ℕ) → caller < length job.callers → calls_in new.history caller ≡ calls_of job.calls caller
   pub moments : HasEachMoment job.start new.history
   pub lined : IsLinedUp job.order job.calls job.start new.history
+  pub firsts : RisesByOrder job.order job.callers new.history
   pub sound : AreSound test new.records
 
 -- the end tells whether the volume failed

@@ -3,9 +3,11 @@ pub mod Sights
 pub mod CoreSight
 pub mod Events
 pub mod Recovering
+pub mod Firsts
 pub mod Served
 pub mod Orders
-pub mod Drives
 pub mod Settling
 pub mod Runs
+pub mod Letters
+pub mod Drives
 pub mod Examples

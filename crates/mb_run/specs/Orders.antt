@@ -5,6 +5,7 @@ use Rattle.mb_core_spec.specs.declared.stages.Stage.TheVariants as stage
 use Rattle.mb_jobs.specs.declared.jobs.Caller.{Caller}
 use Rattle.mb_jobs.specs.declared.jobs.JobCall.{JobCall}
 use Rattle.mb_run.specs.Events.{Counts, sealed}
+use Rattle.mb_run.specs.Firsts.{KeepsFirsts}
 use Rattle.mb_run.specs.Pages.{HasTablesFor}
 use Rattle.mb_run.specs.Served.{IsBalanced, Nears, Underway, calls_of}
 use Rattle.mb_run.specs.Sights.{Sight}
@@ -24,9 +25,10 @@ MayLookAt sight runner _ = Unit {0}
 abbrev pub MayLook : Sight → Runner → Type 0
 MayLook sight runner = MayLookAt sight runner runner.at
 
--- want of memory is met by a call inside alone, and a call that has its entry finishes no more
+-- want of memory is met by a call inside alone, and a call that is outside enters next
 abbrev pub Ahead : Runner → Next → Type 0
 Ahead runner next.NoMemory = runner.answered ≡ false
+Ahead runner next.Late = runner.at ≢ at.Outside
 Ahead runner _ = Unit {0}
 
 -- steps of a caller's call, with which it was answered, or not
@@ -58,6 +60,7 @@ pub record IsWhole (calls : List JobCall) (test : Option (Crossing → Bool)) (o
   pub grows : Grows before now
   pub balanced : IsBalanced old → IsBalanced new
   pub config : new.config ≡ old.config
+  pub firsts : KeepsFirsts old new
 
 -- nobody's call did anything: calls, entries and records stay, and while the volume runs, so does what calls gathered
 pub record IsQuiet (old new : Sight) : Type 0 where

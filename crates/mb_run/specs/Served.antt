@@ -17,6 +17,7 @@ use Rattle.mb_run.specs.Recovering.{crossing_of}
 use Rattle.mb_run.specs.Sights.{Sight, Seat, HasTicket, IsOld, IsOrderly, IsWaiting, one_if, recovers}
 use Rattle.mb_kinds.specs.declared.calls.Call.TheVariants as call
 use Rattle.mb_run.specs.Events.{Strikes, sealed}
+use Rattle.mb_run.specs.Firsts.{KeepsFirsts}
 use Rattle.mb_jobs.specs.declared.jobs.JobCall.{JobCall}
 use Rattle.mb_run.specs.declared.runner.At.{At}
 use Rattle.mb_run.specs.declared.runner.At.TheVariants as at
@@ -131,6 +132,7 @@ pub record Acts (caller : ℕ) (old new : Sight) : Type 0 where
   pub stales : new.incarnation ≡ old.incarnation → old.stage ≡ stage.Running → (other : ℕ) → other ≢ caller → new.stales other ≡ old.stales other
   pub calm : length new.records ≡ length old.records → new.incarnation ≡ old.incarnation
   pub floor : (new.floor ≡ None) ⊎ (new.floor ≡ Some caller) ⊎ (new.floor ≡ old.floor)
+  pub firsts : KeepsFirsts old new
 
 -- ---- how much is left of a call
 

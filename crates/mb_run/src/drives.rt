@@ -1,8 +1,10 @@
-ghost use Rattle.std.specs.Prelude.{◌≡◌, ◌≢◌, ◌<◌, ◌≤◌, true, length};
+ghost use Rattle.std.specs.Prelude.{[], ◌≡◌, ◌≢◌, ◌<◌, ◌≤◌, true, length};
 ghost use Rattle.std.specs.List.{AllByRecursion};
 ghost use Rattle.mb_jobs.specs.declared.jobs.JobCall.{JobCall};
 ghost use Rattle.mb_run.specs.Drives.{AreNew, Ends, IsBegun, IsComplete, IsDriven, IsRunnable};
+ghost use Rattle.mb_run.specs.Letters.{AreLetters, HasBegunBy, letters_of};
 ghost use Rattle.mb_run.specs.Orders.{AreRunOut, IsReached, IsWhole};
+ghost use Rattle.mb_run.specs.Runs.{FirstsRise};
 ghost use Rattle.mb_run.specs.Served.{IsBalanced, Underway};
 ghost use Rattle.mb_run.specs.Sights.{IsOrderly};
 ghost use Rattle.mb_run.specs.declared.drives.DriveEnd.TheVariants as end;
@@ -106,6 +108,7 @@ fn run_by_order<C: EventCore, H: Hook>(
     requires small { length calls.now < 4294967290 }
     requires balanced { IsBalanced (C.sight core.old) }
     ensures complete { result ≡ true → IsComplete calls.now (length runners.old) (H.test hook.old) (C.sight core.new) }
+    ensures firsts { result ≡ true → AreLetters (letters_of callers.now) → HasBegunBy (letters_of callers.now) calls.now [] (C.sight core.old) → FirstsRise order.now (letters_of callers.now) (C.sight core.new).history }
     ensures config { result ≡ true → (C.sight core.new).config ≡ (C.sight core.old).config }
     ensures origin { C.origin core.new ≡ C.origin core.old }
     ensures right { IsOrderly (C.sight core.new) }
@@ -132,18 +135,12 @@ fn run_all<C: EventCore, H: Hook>(
     ensures right { IsOrderly (C.sight core.new) }
 {
     let calls = job.calls.as_slice();
+    let callers = job.callers.as_slice();
     match &job.order {
         None => return run_in_order(alloc, core, hook, runners, calls),
         Some(order) => {
-            return run_by_order(
-                alloc,
-                core,
-                hook,
-                runners,
-                calls,
-                job.callers.as_slice(),
-                order.as_slice(),
-            );
+            let steps = order.as_slice();
+            return run_by_order(alloc, core, hook, runners, calls, callers, steps);
         }
     }
 }
@@ -193,8 +190,10 @@ fn drive_core<C: EventCore, H: Hook>(
 /// indices, the calls that are left.
 ///
 /// At every end but `NoMemory` each caller's own entries are its calls of the job, in its order; the moments of `n`
-/// entries are `start + 1` to `start + n`, each once, and in list order one after another; and each fault record is at
-/// a crossing where the fault injector faults, no two at one whose `nth` is below 4294967295.
+/// entries are `start + 1` to `start + n`, each once, and in list order one after another; by an order, the moments of
+/// the callers' first calls rise as their letters first stand in it, and those of callers without a letter in it come
+/// last; and each fault record is at a crossing where the fault injector faults, no two at one whose `nth` is below
+/// 4294967295.
 pub fn drive<C: EventCore, H: Hook>(alloc: Global, core: C, job: &Job, hook: &mut H) -> Driven<C>
     requires runnable { IsRunnable job.now }
     requires begun { IsBegun job.now (C.sight core) }

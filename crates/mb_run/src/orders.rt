@@ -1,4 +1,5 @@
-ghost use Rattle.std.specs.Prelude.{◌≡◌, ◌<◌, ◌≤◌, IfSome, true, length};
+ghost use Rattle.std.specs.Prelude.{[], ◌≡◌, ◌≢◌, ◌<◌, ◌≤◌, IfSome, None, Some, true, length};
+ghost use Rattle.mb_run.specs.Letters.{AreLetters, BeginsAlone, BeginsByLetter, HasBegun, HasBegunBy, LacksLetter, letters_of};
 ghost use Rattle.mb_run.specs.Orders.{Ahead, HasLetter, IsOpenAt, IsQuiet, IsSealedNow, IsWhole, MayLook, Moved};
 ghost use Rattle.mb_run.specs.Served.{MayStep, Underway};
 ghost use Rattle.mb_run.specs.Sights.{IsOrderly, recovers};
@@ -48,6 +49,7 @@ fn step_once<C: EventCore, H: Hook>(
 ) -> bool
     requires { MayStep calls.now (H.test hook.old) (C.sight core.old) runner.old call.now }
     ensures moved { Moved calls.now (H.test hook.old) (C.sight core.old) (C.sight core.new) runner.old runner.new result }
+    ensures begins { result ≡ true → ((C.sight core.new).seats runner.old.crossings.caller).begun ≢ 0 }
     ensures test { H.test hook.new ≡ H.test hook.old }
     ensures origin { C.origin core.new ≡ C.origin core.old }
     ensures right { IsOrderly (C.sight core.new) }
@@ -78,6 +80,7 @@ fn step_to_finish<C: EventCore, H: Hook>(
 ) -> bool
     requires { MayStep calls.now (H.test hook.old) (C.sight core.old) runner.old call.now }
     ensures moved { Moved calls.now (H.test hook.old) (C.sight core.old) (C.sight core.new) runner.old runner.new result }
+    ensures begins { result ≡ true → ((C.sight core.new).seats runner.old.crossings.caller).begun ≢ 0 }
     ensures test { H.test hook.new ≡ H.test hook.old }
     ensures origin { C.origin core.new ≡ C.origin core.old }
     ensures right { IsOrderly (C.sight core.new) }
@@ -118,6 +121,8 @@ fn step_letter<C: EventCore, H: Hook>(
     requires underway { Underway calls.now (H.test hook.old) (C.sight core.old) runners.old }
     requires within { caller < length runners.old }
     ensures whole { result ≡ true → IsWhole calls.now (H.test hook.old) (C.sight core.old) (C.sight core.new) runners.old runners.new }
+    ensures begins { result ≡ true → HasBegun calls.now caller (C.sight core.new) }
+    ensures alone { result ≡ true → BeginsAlone (Some caller) (C.sight core.old) (C.sight core.new) }
     ensures length { length runners.new ≡ length runners.old }
     ensures test { H.test hook.new ≡ H.test hook.old }
     ensures origin { C.origin core.new ≡ C.origin core.old }
@@ -201,6 +206,7 @@ fn recover_once<C: EventCore, H: Hook>(
 ) -> bool
     requires underway { Underway calls.now (H.test hook.old) (C.sight core.old) runners.old }
     ensures whole { result ≡ true → IsWhole calls.now (H.test hook.old) (C.sight core.old) (C.sight core.new) runners.old runners.new }
+    ensures alone { result ≡ true → BeginsAlone None (C.sight core.old) (C.sight core.new) }
     ensures length { length runners.new ≡ length runners.old }
     ensures test { H.test hook.new ≡ H.test hook.old }
     ensures origin { C.origin core.new ≡ C.origin core.old }
@@ -260,10 +266,11 @@ fn flush<C: EventCore>(core: &mut C)
     let _ = core.flush_one();
 }
 
-/// The place of the caller with that letter.
+/// The place of the caller with that letter, and nothing where no caller has it.
 fn find_letter(callers: &[Caller], letter: u8) -> Option<u8>
     requires few { length callers.now ≤ 8 }
-    ensures { IfSome result (λ caller. HasLetter callers.now letter caller) }
+    ensures found { IfSome result (λ caller. HasLetter callers.now letter caller) }
+    ensures lacks { result ≡ None → LacksLetter callers.now letter }
 {
     let mut place: u8 = 0;
     for caller in callers {
@@ -288,6 +295,7 @@ fn step_character<C: EventCore, H: Hook>(
     requires underway { Underway calls.now (H.test hook.old) (C.sight core.old) runners.old }
     requires callers { length callers.now ≡ length runners.old }
     ensures whole { result ≡ true → IsWhole calls.now (H.test hook.old) (C.sight core.old) (C.sight core.new) runners.old runners.new }
+    ensures letters { result ≡ true → AreLetters (letters_of callers.now) → BeginsByLetter (letters_of callers.now) calls.now character (C.sight core.old) (C.sight core.new) }
     ensures length { length runners.new ≡ length runners.old }
     ensures test { H.test hook.new ≡ H.test hook.old }
     ensures origin { C.origin core.new ≡ C.origin core.old }
@@ -306,8 +314,8 @@ fn step_character<C: EventCore, H: Hook>(
     if character == b'*' {
         return recover_once(alloc, core, hook, runners, calls);
     }
-    let capital = character < b'a';
-    let letter = character | 32;
+    let capital = character.is_ascii_uppercase();
+    let letter = character.to_ascii_lowercase();
     let Some(caller) = find_letter(callers, letter) else {
         return true;
     };
@@ -327,6 +335,7 @@ pub fn run_order<C: EventCore, H: Hook>(
     requires underway { Underway calls.now (H.test hook.old) (C.sight core.old) runners.old }
     requires callers { length callers.now ≡ length runners.old }
     ensures whole { result ≡ true → IsWhole calls.now (H.test hook.old) (C.sight core.old) (C.sight core.new) runners.old runners.new }
+    ensures firsts { result ≡ true → AreLetters (letters_of callers.now) → HasBegunBy (letters_of callers.now) calls.now [] (C.sight core.old) → HasBegunBy (letters_of callers.now) calls.now order.now (C.sight core.new) }
     ensures length { length runners.new ≡ length runners.old }
     ensures test { H.test hook.new ≡ H.test hook.old }
     ensures origin { C.origin core.new ≡ C.origin core.old }

@@ -4,6 +4,7 @@ ghost use Rattle.mb_core_spec.specs.declared.stages.Stage.TheVariants as stage;
 ghost use Rattle.mb_run.specs.Pages.{Performs, has};
 ghost use Rattle.mb_run.specs.Served.{Asks, Did, GoesIn, MayStep, SealsIf, is_due};
 ghost use Rattle.mb_run.specs.Sights.{IsOrderly, IsTicketOf};
+ghost use Rattle.mb_run.specs.declared.progress.Went.TheVariants as went;
 ghost use Rattle.mb_run.specs.declared.runner.At.TheVariants as at;
 
 use crate::answers::Enter;
@@ -79,6 +80,7 @@ fn enter<C: EventCore, H: Hook>(
     requires may { MayStep calls.now (H.test hook.old) (C.sight core.old) runner.old call.now }
     requires outside { runner.old.at ≡ at.Outside }
     ensures did { Did calls.now (H.test hook.old) (C.sight core.old) (C.sight core.new) runner.old runner.new result }
+    ensures begins { result ≢ went.NoMemory → ((C.sight core.new).seats runner.old.crossings.caller).begun ≢ 0 }
     ensures test { H.test hook.new ≡ H.test hook.old }
     ensures origin { C.origin core.new ≡ C.origin core.old }
     ensures right { IsOrderly (C.sight core.new) }
@@ -298,7 +300,8 @@ fn go_on<C: EventCore, H: Hook>(
     }
 }
 
-/// One step of a caller, whose next call is that one: it enters, gathers, finishes or leaves.
+/// One step of a caller, whose next call is that one: it enters, gathers, finishes or leaves. Where
+/// memory suffices the call was begun.
 pub fn step<C: EventCore, H: Hook>(
     alloc: Global,
     core: &mut C,
@@ -309,6 +312,7 @@ pub fn step<C: EventCore, H: Hook>(
 ) -> Went
     requires { MayStep calls.now (H.test hook.old) (C.sight core.old) runner.old call.now }
     ensures did { Did calls.now (H.test hook.old) (C.sight core.old) (C.sight core.new) runner.old runner.new result }
+    ensures begins { result ≢ went.NoMemory → ((C.sight core.new).seats runner.old.crossings.caller).begun ≢ 0 }
     ensures test { H.test hook.new ≡ H.test hook.old }
     ensures origin { C.origin core.new ≡ C.origin core.old }
     ensures right { IsOrderly (C.sight core.new) }

@@ -1,6 +1,7 @@
-use Rattle.std.proofs.Common.{◌∙◌, refl, subst}
+use Rattle.std.proofs.Common.{◌∙◌, refl, subst, sym}
 use Rattle.mb_run.specs.Drives.{IsComplete}
 use Rattle.mb_run.proofs.Completing.{complete}
+use Rattle.mb_run.proofs.Letters.{order_rises}
 use Rattle.mb_run.proofs.drives.run_by_order.Goals as goal
 
 pub returns-clause-complete : goal.returns-clause-complete
@@ -12,3 +13,10 @@ returns-clause-complete g c = λ so.
 
 pub returns-clause-config : goal.returns-clause-config
 returns-clause-config g c = λ so. (c.run_out.ensures.whole so).config ∙ (c.if-not-run_order.ensures.whole refl).config
+
+pub returns-clause-firsts : goal.returns-clause-firsts
+returns-clause-firsts g c = λ so letters fresh.
+    let one = c.if-not-run_order.ensures.whole refl in
+    let two = rw c.run_order.ensures.test at c.run_out.ensures.whole so in
+    order_rises _ _ _ _ _ _ _ (c.if-not-run_order.ensures.firsts refl letters fresh) two.firsts one.underway.callers (c.requires.callers ∙ sym c.run_order.ensures.length)
+    (complete _ _ _ _ two.underway (two.balanced (one.balanced c.requires.balanced)) (c.run_out.ensures.out so)) c.run_out.ensures.length

@@ -4,7 +4,11 @@ use Rattle.mb_run.proofs.Moving.{moved_whole}
 use Rattle.mb_run.proofs.Quiet.{quiet_whole}
 use Rattle.mb_run.proofs.Waiting.{letter_may, open_has, open_low, open_rests, open_waits, rolled_gives_up, rolled_move}
 use Rattle.mb_run.specs.Sights.{recovers}
+use Rattle.mb_run.proofs.Starting.{open_rolls, quiet_alone, same_alone}
 use Rattle.mb_run.proofs.orders.recover_once.Goals as goal
+
+pub returns-in_default-clause-alone : goal.returns-in_default-clause-alone
+returns-in_default-clause-alone g c = λ so. quiet_alone _ _ c.recover_alone.ensures.quiet
 
 pub returns-in_default-clause-whole : goal.returns-in_default-clause-whole
 returns-in_default-clause-whole g c = λ so. quiet_whole _ _ _ _ _ c.requires.underway c.recover_alone.ensures.quiet c.recover_alone.ensures.right
@@ -42,6 +46,7 @@ give_up-requires g c = rolled_gives_up _ _ _ _ _ _ _ _ _ c.requires.underway (op
 pub returns-in_default-roll : goal.returns-in_default-roll
 returns-in_default-roll g c = record {
   whole = λ so. moved_whole _ _ _ _ _ _ _ _ c.requires.underway (open_low _ _ _ _ _ c.requires.underway c.in-Some.ensures) (rolled_move _ _ _ _ _ _ c.roll.result c.roll.ensures.rolled) c.roll.ensures.right;
+  alone = λ so. open_rolls _ _ _ _ _ _ _ _ _ c.requires.underway c.in-Some.ensures c.roll.ensures.rolled;
   length = length-set c.args.runners.now c.in-Some.caller c.roll.new.runner;
   origin = c.roll.ensures.origin;
   test = c.roll.ensures.test;

@@ -1,6 +1,8 @@
 use Rattle.std.proofs.Common.{◌<◌, arith, length}
 use Rattle.std.proofs.lemmas.Option.{slice_get_within}
 use Rattle.mb_run.proofs.Quiet.{quiet_whole}
+use Rattle.std.proofs.Common.{refl}
+use Rattle.mb_run.proofs.Starting.{lacked_begins, letter_begins, no_letter_begins, no_letter_is, quiet_alone, same_alone}
 use Rattle.mb_run.proofs.orders.step_character.Goals as goal
 
 pub returns-then-character-eq61-clause-whole : goal.returns-then-character-eq61-clause-whole
@@ -11,5 +13,23 @@ returns-then-character-eq62-clause-whole g c = λ so. quiet_whole _ _ _ _ _ c.re
 
 pub step_letter-requires-clause-within : goal.step_letter-requires-clause-within
 step_letter-requires-clause-within g c =
-    let low : c.in-Some.caller < length c.args.callers.now = slice_get_within c.args.callers.now c.in-Some.caller c.in-Some.ensures.caller c.in-Some.ensures.here in
+    let low : c.in-Some.caller < length c.args.callers.now = slice_get_within c.args.callers.now c.in-Some.caller c.in-Some.ensures.found.caller c.in-Some.ensures.found.here in
     omega (arith, low, c.requires.callers)
+
+pub returns-then-character-eq32-clause-letters : goal.returns-then-character-eq32-clause-letters
+returns-then-character-eq32-clause-letters g c = λ so letters. no_letter_begins _ _ (g.C.EventCore.sight c.args.core.now) (g.C.EventCore.sight c.args.core.now) letters _ (no_letter_is _ 32 c.if-character-eq32.true (omega arith)) (same_alone (g.C.EventCore.sight c.args.core.now))
+
+pub returns-then-character-eq61-clause-letters : goal.returns-then-character-eq61-clause-letters
+returns-then-character-eq61-clause-letters g c = λ so letters. no_letter_begins _ _ _ _ letters _ (no_letter_is _ 61 c.if-character-eq61.true (omega arith)) (quiet_alone _ _ c.seal_now.ensures.quiet)
+
+pub returns-then-character-eq62-clause-letters : goal.returns-then-character-eq62-clause-letters
+returns-then-character-eq62-clause-letters g c = λ so letters. no_letter_begins _ _ _ _ letters _ (no_letter_is _ 62 c.if-character-eq62.true (omega arith)) (quiet_alone _ _ c.flush.ensures.quiet)
+
+pub returns-then-character-eq42-clause-letters : goal.returns-then-character-eq42-clause-letters
+returns-then-character-eq42-clause-letters g c = λ so letters. no_letter_begins _ _ _ _ letters _ (no_letter_is _ 42 c.if-character-eq42.true (omega arith)) (c.recover_once.ensures.alone so)
+
+pub returns-in_default-clause-letters : goal.returns-in_default-clause-letters
+returns-in_default-clause-letters g c = λ so letters. lacked_begins _ _ (g.C.EventCore.sight c.args.core.now) (g.C.EventCore.sight c.args.core.now) letters _ (rw c.to_ascii_lowercase-letter.ensures.value at c.in_default.ensures.lacks refl) refl
+
+pub returns-clause-letters : goal.returns-clause-letters
+returns-clause-letters g c = λ so letters. letter_begins _ _ _ _ letters _ _ (rw c.to_ascii_lowercase-letter.ensures.value at c.in-Some.ensures.found) (c.step_letter.ensures.begins so) (c.step_letter.ensures.alone so)

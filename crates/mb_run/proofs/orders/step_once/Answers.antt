@@ -1,6 +1,7 @@
 use Rattle.mb_run.proofs.Moving.{did_move}
 use Rattle.mb_run.proofs.GivingUp.{may_give_up}
 use Rattle.mb_run.specs.declared.progress.Went.TheVariants as went
+use Rattle.mb_run.proofs.Starting.{back_goes, busy_goes, ended_goes, on_goes, shut_goes}
 use Rattle.mb_run.proofs.orders.step_once.Goals as goal
 
 pub returns-in-Ended-clause-moved : goal.returns-in-Ended-clause-moved
@@ -20,3 +21,18 @@ returns-in-Busy-clause-moved g c = did_move _ _ _ _ _ _ (went.Busy c.in-Busy.fie
 
 pub give_up-requires : goal.give_up-requires
 give_up-requires g c = may_give_up _ _ _ _ _ _ _ _ c.requires c.in-NoMemory.ensures.did.nears c.in-NoMemory.ensures.did.goes.1 c.step.ensures.right
+
+pub returns-in-Ended-clause-begins : goal.returns-in-Ended-clause-begins
+returns-in-Ended-clause-begins g c = λ so. c.in-Ended.ensures.begins ended_goes
+
+pub returns-in-On-clause-begins : goal.returns-in-On-clause-begins
+returns-in-On-clause-begins g c = λ so. c.in-On.ensures.begins on_goes
+
+pub returns-in-Back-clause-begins : goal.returns-in-Back-clause-begins
+returns-in-Back-clause-begins g c = λ so. c.in-Back.ensures.begins back_goes
+
+pub returns-in-Shut-clause-begins : goal.returns-in-Shut-clause-begins
+returns-in-Shut-clause-begins g c = λ so. c.in-Shut.ensures.begins shut_goes
+
+pub returns-in-Busy-clause-begins : goal.returns-in-Busy-clause-begins
+returns-in-Busy-clause-begins g c = λ so. c.in-Busy.ensures.begins (busy_goes c.in-Busy.field-0)

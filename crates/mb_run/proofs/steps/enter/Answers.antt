@@ -1,6 +1,17 @@
 use Rattle.mb_run.proofs.Entered.{did_done, did_shut, may_inside, did_inside, did_not_enter}
 use Rattle.mb_run.proofs.Inside.{room}
+use Rattle.mb_run.proofs.Starting.{ended_begun, inside_begun, kept_begun, shut_begun}
+use Rattle.std.proofs.Common.{refl}
 use Rattle.mb_run.proofs.steps.enter.Goals as goal
+
+pub returns-in-Done-clause-begins : goal.returns-in-Done-clause-begins
+returns-in-Done-clause-begins g c = λ goes. ended_begun _ _ _ _ _ _ (did_done _ _ _ _ _ c.requires.may _ _ c.in-Done.ensures.enters)
+
+pub returns-in-Shut-clause-begins : goal.returns-in-Shut-clause-begins
+returns-in-Shut-clause-begins g c = λ goes. shut_begun _ _ _ _ _ _ (did_shut _ _ _ _ _ c.requires.may c.requires.outside _ c.in-Shut.ensures.enters)
+
+pub returns-in-Inside-clause-begins : goal.returns-in-Inside-clause-begins
+returns-in-Inside-clause-begins g c = λ goes. kept_begun _ _ _ c.go_in.ensures.did.nears.acts.firsts (inside_begun _ _ _ _ _ _ (may_inside _ _ _ _ _ c.requires.may c.requires.outside _ _ c.in-Inside.ensures.enters c.enter.ensures.right) refl)
 
 pub advance-requires-clause-done : goal.advance-requires-clause-done
 advance-requires-clause-done g c = room _ _ _ _ _ c.requires.may
