@@ -12,7 +12,7 @@ use Rattle.mb_kinds.specs.declared.replies.Reply.{Reply}
 use Rattle.mb_kinds.specs.declared.replies.Reply.TheVariants as reply
 use Rattle.mb_plan.specs.Fires.{fires}
 use Rattle.mb_plan.specs.declared.rules.Rule.{Rule}
-use Rattle.mb_run.specs.Drives.{HasEachMoment, IsLinedUp}
+use Rattle.mb_run.specs.Drives.{HasEachMoment, IsLinedUp, RisesByOrder}
 use Rattle.mb_run.specs.Recovering.{crossing_of}
 use Rattle.mb_run.specs.Runs.{AreDistinct, HasFailed, HasRecords, NamesTwo}
 use Rattle.mb_run.specs.Served.{AreApart, AreSound, IsApart, calls_in}
@@ -140,6 +140,7 @@ module _ {F D : Type 0} (fs : F) (told : D → Option Image) (faults : D → ℕ
     own_calls = path_calls;
     moments = subst (HasEachMoment job.start) (sym path_history) path.drives.moments;
     lined = subst (IsLinedUp job.order job.calls job.start) (sym path_history) path.drives.lined;
+    firsts = subst (RisesByOrder job.order job.callers) (sym path_history) path.drives.firsts;
     records = path_recorded early;
     failures = all_failed ended.journal.records job.limit ended.stage ended.journal.history path_few path_says;
     devices = path_devices;
