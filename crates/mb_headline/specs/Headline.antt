@@ -93,7 +93,7 @@ pub record IsLeft (job : Job) (history : List Entry) (count : ℕ) (first last :
   pub volume : IsVolume last (after_first (opened job tree) history count).tree
   pub kept : Kept tree first (after_first (opened job tree) history count).tree last
 
--- the disk has an image that is one of the entries up to the last checkpoint
+-- the disk has an image: a volume of the tree after the entries up to the last checkpoint
 abbrev pub LeavesImage : {F D : Type 0} → (D → Option Image) → Job → D → CoreState F D → Type 0
 LeavesImage told job disk core = OverVolume told disk (λ image tree.
     (left : Image) × (told core.cache.disk ≡ Some left) × IsLeft job core.journal.history core.journal.sealed_at image left tree)
