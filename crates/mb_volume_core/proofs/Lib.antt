@@ -7,3 +7,6 @@ pub mod Gathering
 pub mod Finishing
 pub mod Recovering
 pub mod Sealing
+pub mod Leaving
+pub mod Striking
+pub mod Entering

@@ -24,6 +24,13 @@ pub struct Origin<D: Disk> {
     pub config: Config,
 }
 
+/// A core is in order. It does nothing, and shows this to whoever calls it.
+fn in_order<F: FileSys, D: Disk>(core: &Core<F, D>)
+    ensures { Right D.told D.faults core.now }
+{
+    core.history();
+}
+
 /// The event core of a volume, as the driver of a job calls it.
 pub struct VolumeCore<F: FileSys, D: Disk> {
     pub core: Core<F, D>,
@@ -69,12 +76,16 @@ impl<F: FileSys, D: Disk> EventCore for VolumeCore<F, D> {
     }
 
     fn begun(&self, caller: u8) -> u32 {
+        in_order(&self.core);
         self.core.begun(caller)
     }
 
     fn perform(&self, alloc: Global, pages: &Pages, ticket: &Ticket, call: &Call) -> Performed {
         let fs = self.core.fs();
-        let (Some(sessions), Some(opens)) = (pages.sessions(), pages.opens()) else {
+        let Some(sessions) = pages.sessions() else {
+            unreachable!()
+        };
+        let Some(opens) = pages.opens() else {
             unreachable!()
         };
         mb_calls::perform(
@@ -90,6 +101,7 @@ impl<F: FileSys, D: Disk> EventCore for VolumeCore<F, D> {
     }
 
     fn enter(&mut self, alloc: Global, caller: u8, call: &Call) -> Enter {
+        in_order(&self.core);
         entered_as(self.core.enter(alloc, caller, call))
     }
 

@@ -1,0 +1,15 @@
+use Rattle.mb_volume_core.proofs.Orderly.{orderly}
+use Rattle.mb_volume_core.proofs.Striking.{fault_origin, faults_by, holds_ticket}
+use Rattle.mb_volume_core.proofs.volume_core.VolumeCoreEventCore.fault.Goals as goal
+
+pub fault-requires-clause-holder : goal.fault-requires-clause-holder
+fault-requires-clause-holder g c = holds_ticket c.args.self.now.core c.args.ticket.now c.requires.ticket
+
+pub returns-clause-faults : goal.returns-clause-faults
+returns-clause-faults g c = faults_by c.args.self.now.core c.fault.new.self c.args.ticket.now c.args.kind c.args.nth (g.H.Hook.strokes c.args.hook.now) c.fault.result c.fault.ensures.strikes
+
+pub returns-clause-origin : goal.returns-clause-origin
+returns-clause-origin g c = fault_origin c.args.self.now.core c.fault.new.self c.args.ticket.now c.args.kind c.args.nth (g.H.Hook.strokes c.args.hook.now) c.fault.result c.fault.ensures.strikes
+
+pub returns-clause-right : goal.returns-clause-right
+returns-clause-right g c = orderly g.D.Disk.told g.D.Disk.faults c.fault.new.self c.fault.ensures.right
