@@ -84,16 +84,25 @@ fn run_begun<D: Disk>(alloc: Global, core: Core<V7, D>, job: &Job) -> Decided<D>
     paths_fail::<V7, D>();
     let mut hook = job.plan.hook();
     let Driven { core, end } = drive(alloc, VolumeCore { core }, job, &mut hook);
+    in_order(&core.core);
     if end == DriveEnd::NoMemory {
         return held(core, Outcome::OutOfMemory);
     }
     let Settled { core, end } = settle(alloc, core);
+    in_order(&core.core);
     let outcome = match end {
         SettleEnd::Clean => ended(alloc, job, &core.core),
         SettleEnd::Device => unsettled(alloc, job, &core.core),
         SettleEnd::NoMemory => Outcome::OutOfMemory,
     };
     held(core, outcome)
+}
+
+// A core is always in order. It does nothing, and shows this to whoever calls it.
+fn in_order<D: Disk>(core: &Core<V7, D>)
+    ensures { Right D.told D.faults core.now }
+{
+    core.history();
 }
 
 // The core that a run drove.

@@ -24,13 +24,6 @@ pub struct Origin<D: Disk> {
     pub config: Config,
 }
 
-/// A core is in order. It does nothing, and shows this to whoever calls it.
-fn in_order<F: FileSys, D: Disk>(core: &Core<F, D>)
-    ensures { Right D.told D.faults core.now }
-{
-    core.history();
-}
-
 /// The event core of a volume, as the driver of a job calls it.
 pub struct VolumeCore<F: FileSys, D: Disk> {
     pub core: Core<F, D>,
