@@ -86,7 +86,7 @@ module _ (calls : List JobCall) (test : Option (Crossing → Bool)) (old : Sight
   pub did_leave : (new : Sight) (flight : Flight) → Leaves runner.crossings.caller flight old new → Did calls test old new runner (advanced runner) went.Ended
   did_leave new flight leaves =
       let was = subst (IsAtBy (calls_of calls runner.crossings.caller) (calls_in old.history runner.crossings.caller) runner.done (old.seats runner.crossings.caller).begun) leaves.was may.served.calls in
-      did_end new (acts_stays runner.crossings.caller old new leaves.stays leaves.counts.history (elim leaves.floor [ inl none ↦ inl none | inr same ↦ inr (inr same) ]) (firsts_leaves old new runner.crossings.caller flight may.within (counted_from flight.ordinal runner.done was.1) leaves)) (line_leaves runner.crossings.caller flight old new leaves) (balanced_same old new leaves.counts) leaves.stays.records
+      did_end new (acts_stays runner.crossings.caller old new leaves.stays leaves.counts.history (elim leaves.floor [ inl none ↦ inl none | inr same ↦ inr (inr same) ]) (firsts_leaves old new runner.crossings.caller flight may.within (counted_from flight.ordinal runner.done was.1) (was.0 ∙ sym was.1) leaves)) (line_leaves runner.crossings.caller flight old new leaves) (balanced_same old new leaves.counts) leaves.stays.records
       (rw (leaves.mine, leaves.counts.history) (at_leaves (calls_of calls runner.crossings.caller) (calls_in old.history runner.crossings.caller) runner.done (old.seats runner.crossings.caller).begun flight leaves.answered was))
       (ap (λ (s : Seat). s.flight) leaves.mine)
 

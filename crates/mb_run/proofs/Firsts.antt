@@ -167,9 +167,9 @@ firsts_logs old new caller ticket within logs counted =
     (ap (λ (f : Flight). f.ordinal) (sym is), ap (λ (f : Flight). f.moment) (sym is))))
 
 -- it has its entry and ends
-pub firsts_leaves : (old new : Sight) (caller : ℕ) (flight : Flight) → caller < old.config.callers → flight.ordinal ≢ 0 → Leaves caller flight old new → KeepsFirsts old new
-firsts_leaves old new caller flight within counted leaves =
-    firsts_by old new caller flight within counted (ap (λ (s : Seat). s.begun) leaves.mine) (inl (record { was = flight; here = leaves.was; ordinal = refl; moment = refl })) (omega (arith, leaves.counts.begun)) leaves.stays.seats
+pub firsts_leaves : (old new : Sight) (caller : ℕ) (flight : Flight) → caller < old.config.callers → flight.ordinal ≢ 0 → (old.seats caller).begun ≡ flight.ordinal → Leaves caller flight old new → KeepsFirsts old new
+firsts_leaves old new caller flight within counted last leaves =
+    firsts_by old new caller flight within counted (ap (λ (s : Seat). s.begun) leaves.mine ∙ last) (inl (record { was = flight; here = leaves.was; ordinal = refl; moment = refl })) (omega (arith, leaves.counts.begun)) leaves.stays.seats
     (λ place entry here. inl (subst (λ h. slice_get h place ≡ Some entry) leaves.counts.history here))
     (λ held here. absurd (never_flight held (ap (λ (s : Seat). s.flight) (sym leaves.mine) ∙ here)))
 
