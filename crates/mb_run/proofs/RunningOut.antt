@@ -1,14 +1,16 @@
 -- The calls that an order left, run to their ends in the order of their indices.
-use Rattle.std.proofs.Common.{◌≡◌, List, [], ◌∷◌, ℕ, zero, suc, ◌<◌, ◌≤◌, Bool, inl, inr, ap, arith, Option, None, Some, length, get_or, slice_get, slice_set}
+use Rattle.std.proofs.Common.{◌≡◌, List, [], ◌∷◌, ℕ, zero, suc, ◌+◌, ◌<◌, ◌≤◌, Bool, inl, inr, ap, sym, subst, ◌∙◌, arith, Option, None, Some, length, get_or, slice_get, slice_set}
 use Rattle.mb_edge.specs.declared.crossings.Crossing.{Crossing}
 use Rattle.mb_jobs.specs.declared.jobs.JobCall.{JobCall}
 use Rattle.mb_kinds.specs.declared.calls.Call.{Call}
 use Rattle.mb_run.specs.Orders.{Grows, IsAnswered, Moves, done_by}
-use Rattle.mb_run.specs.Served.{HasRun, Turns, calls_of}
+use Rattle.mb_run.specs.Served.{Did, HasRun, Recovers, Turns, calls_of, work}
 use Rattle.mb_run.specs.Sights.{Sight}
 use Rattle.mb_run.specs.declared.progress.Turn.TheVariants as turn
+use Rattle.mb_run.specs.declared.progress.Went.TheVariants as went
 use Rattle.mb_run.specs.declared.runner.Runner.{Runner}
 use Rattle.mb_run.proofs.Everybody.{got, put_here}
+use Rattle.mb_run.proofs.Going.{nears_then}
 
 -- ---- turns of a caller
 
@@ -44,3 +46,25 @@ none_answered calls first runners caller x low none =
     let is = ap done_by (got runners caller x low) in
     let past = past_end (calls_of calls caller) (get_or runners caller x).done none in
     inr (omega (arith, is, past))
+
+-- ---- a turn with the recovery for which the call waited
+
+pub shut_ended : (calls : List JobCall) (test : Option (Crossing → Bool)) (old mid new : Sight) (before m now : Runner) → Did calls test old mid before m went.Shut → Recovers calls test mid new m now went.Ended → Turns calls test old new before now turn.Ended
+shut_ended calls test old mid new before m now did recovers = record {
+  nears = nears_then calls test old mid new before m now did.nears recovers.nears;
+  goes = (recovers.goes.0 ∙ ap (λ n. n + 1) did.goes.0, ap (λ n. (new.seats n).flight) (sym did.nears.same) ∙ recovers.goes.1);
+}
+
+pub shut_stopped : (calls : List JobCall) (test : Option (Crossing → Bool)) (old mid new : Sight) (before m now : Runner) → Did calls test old mid before m went.Shut → Recovers calls test mid new m now went.NoMemory → Turns calls test old new before now turn.NoMemory
+shut_stopped calls test old mid new before m now did recovers = record {
+  nears = nears_then calls test old mid new before m now did.nears recovers.nears;
+  goes = (recovers.goes.0 ∙ did.goes.0, recovers.goes.1);
+}
+
+pub shut_again : (calls : List JobCall) (test : Option (Crossing → Bool)) (old mid new : Sight) (before m now : Runner) → Did calls test old mid before m went.Shut → Recovers calls test mid new m now went.Back → Turns calls test old new before now turn.Again
+shut_again calls test old mid new before m now did recovers =
+    let less : work new before.crossings.caller now < work mid before.crossings.caller m = subst (λ n. work new n now < work mid n m) did.nears.same recovers.goes.1 in
+    record {
+      nears = nears_then calls test old mid new before m now did.nears recovers.nears;
+      goes = (recovers.goes.0 ∙ did.goes.0, omega (arith, less, did.goes.1));
+    }
