@@ -230,6 +230,16 @@ failed 3 faults 1 seal 1
     checked(&rt, end.image, 0, "sound nodes 2 held 1 free 95\n")
 }
 
+// The first fault at one kind of fault point of the second call of the one caller.
+fn first_of_second(kind: Kind) -> FaultRecord {
+    FaultRecord {
+        caller: 0,
+        ordinal: 2,
+        kind,
+        nth: 1,
+    }
+}
+
 // The faults of a recovery are not the call's own.
 #[test]
 fn faults_strike_a_recovery_too(rt: HostRuntime) -> Result<(), Fail> {
@@ -245,16 +255,10 @@ fn faults_strike_a_recovery_too(rt: HostRuntime) -> Result<(), Fail> {
 end 4 faults 3 seal 4
 ";
     let end = expect(&rt, fresh(rt.alloc())?, job.as_str(), 0, lines)?;
-    let of_call = |kind| FaultRecord {
-        caller: 0,
-        ordinal: 2,
-        kind,
-        nth: 1,
-    };
     let wanted = [
-        of_call(Kind::Gather),
-        of_call(Kind::Remount),
-        of_call(Kind::Replay),
+        first_of_second(Kind::Gather),
+        first_of_second(Kind::Remount),
+        first_of_second(Kind::Replay),
     ];
     assert_eq!(rt; end.records.as_slice(), wanted.as_slice());
     assert_eq!(rt;
