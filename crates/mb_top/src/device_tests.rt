@@ -2,6 +2,7 @@ use crate::example_files::{HELLO_JOB, WIPED_JOB, WIPED_TEXT};
 use crate::example_tests::{HI_JOB, HI_TEXT};
 use crate::finish::Finish;
 use crate::membrane::membrane;
+use crate::recovery_tests::FAILED_JOB;
 use crate::slow_sinks::SlowSink;
 use crate::trials::{End, Failing, NOTHING_FAILS, disk, first_read, fresh, printed, run, words};
 use crate::volumes::{changed_volume, hello_volume};
@@ -24,10 +25,8 @@ fn failing_disk(rt: HostRuntime) -> Result<(), Fail> {
     let image = fresh(rt.alloc())?;
     let reads = [first_read(rt.alloc(), &image)?];
     let failing = Failing {
-        inputs: &[],
         reads: &reads,
-        writes: &[],
-        outputs: &[],
+        ..NOTHING_FAILS
     };
     let job = "calls = ['a stat /', 'a stat /']";
     let lines = "\
@@ -43,10 +42,8 @@ end 3 faults 0 seal 3
 #[test]
 fn failing_disk_at_every_write(rt: HostRuntime) -> Result<(), Fail> {
     let failing = Failing {
-        inputs: &[],
-        reads: &[],
         writes: &[1, 2, 3, 4, 5, 6, 7, 8],
-        outputs: &[],
+        ..NOTHING_FAILS
     };
     let end = run(
         rt.alloc(),
@@ -63,10 +60,8 @@ fn failing_disk_at_every_write(rt: HostRuntime) -> Result<(), Fail> {
 fn run_with_failing_write(alloc: Global, list: &[&str], write: u64) -> Result<End, Fail> {
     let writes = [write];
     let failing = Failing {
-        inputs: &[],
-        reads: &[],
         writes: &writes,
-        outputs: &[],
+        ..NOTHING_FAILS
     };
     run(alloc, list, fresh(alloc)?, HI_JOB, failing)
 }
@@ -94,13 +89,48 @@ fn the_disk_fails_while_a_volume_is_made(rt: HostRuntime) -> Result<(), Fail> {
     Ok(())
 }
 
+// A checkpoint that was taken before the volume failed is written back, and a fault of the disk is told before that.
+#[test]
+fn the_disk_fails_after_the_volume_failed(rt: HostRuntime) -> Result<(), Fail> {
+    let failing = Failing {
+        writes: &[1],
+        ..NOTHING_FAILS
+    };
+    let lines = "\
+1 a creat /f 644 = 3
+2 a text 3 hi = FAILED 1
+3 a exit = FAILED 1
+disk fault
+";
+    let end = run(
+        rt.alloc(),
+        &["run", "v"],
+        fresh(rt.alloc())?,
+        FAILED_JOB,
+        failing,
+    )?;
+    printed(&rt, &end, 5, lines)
+}
+
+#[test]
+fn the_disk_does_not_tell_its_size(rt: HostRuntime) -> Result<(), Fail> {
+    let failing = Failing {
+        sizes: &[1],
+        ..NOTHING_FAILS
+    };
+    for list in [["run", "v"], ["check", "v"]] {
+        let end = run(rt.alloc(), &list, fresh(rt.alloc())?, HI_JOB, failing)?;
+        printed(&rt, &end, 5, "disk fault\n")?;
+        assert!(rt; end.image == fresh(rt.alloc())?);
+    }
+    Ok(())
+}
+
 fn run_with_failing_read(alloc: Global, list: &[&str], read: u64) -> Result<End, Fail> {
     let reads = [read];
     let failing = Failing {
-        inputs: &[],
         reads: &reads,
-        writes: &[],
-        outputs: &[],
+        ..NOTHING_FAILS
     };
     run(alloc, list, hello_volume(alloc)?, WIPED_JOB, failing)
 }
@@ -196,9 +226,7 @@ fn the_input_fails(rt: HostRuntime) -> Result<(), Fail> {
         let inputs = [read];
         let failing = Failing {
             inputs: &inputs,
-            reads: &[],
-            writes: &[],
-            outputs: &[],
+            ..NOTHING_FAILS
         };
         let end = run(
             rt.alloc(),
@@ -217,10 +245,8 @@ fn the_input_fails(rt: HostRuntime) -> Result<(), Fail> {
 #[test]
 fn the_output_fails(rt: HostRuntime) -> Result<(), Fail> {
     let failing = Failing {
-        inputs: &[],
-        reads: &[],
-        writes: &[],
         outputs: &[1],
+        ..NOTHING_FAILS
     };
     for (list, job) in [
         ([].as_slice(), ""),
@@ -264,8 +290,8 @@ fn slow_run<R: Abort + AllocGlobal>(
 #[test]
 fn the_output_fails_at_one_write_after_another(rt: HostRuntime) -> Result<(), Fail> {
     let text = HI_TEXT.as_bytes();
-    for (taken, write) in (0..text.len()).zip(1..) {
-        let out = slow_run(&rt, HI_JOB, write, 7)?;
+    for taken in 0..text.len() {
+        let out = slow_run(&rt, HI_JOB, (taken as u64).saturating_add(1), 7)?;
         assert_eq!(rt; out.taken().len(), taken);
         assert!(rt; text.starts_with(out.taken()));
     }
@@ -281,13 +307,12 @@ fn the_first_cause_ends_the_run(rt: HostRuntime) -> Result<(), Fail> {
         inputs: &[1],
         reads: &[1],
         writes: &[1],
-        outputs: &[],
+        ..NOTHING_FAILS
     };
     let the_disk_fails = Failing {
-        inputs: &[],
         reads: &[1],
         writes: &[1],
-        outputs: &[],
+        ..NOTHING_FAILS
     };
     let unsound = "volume refused: block 1 rule 1\n";
     for (list, job, failing, status, line) in [

@@ -2,7 +2,7 @@ use crate::example_files::{HELLO_JOB, HELLO_TEXT};
 use crate::finish::Finish;
 use crate::membrane::membrane;
 use crate::trials::{NOTHING_FAILS, checked, expect, fresh, printed, run, words};
-use crate::volumes::{hello_volume, put, volume_with};
+use crate::volumes::{fresh_volume, hello_volume, put, volume_with};
 use mb_edge::{Bytes, Fails, MemSink, SureDisk, SureSource};
 use std::alloc::{AllocError, Global};
 use std::test::Fail;
@@ -163,6 +163,7 @@ fn fresh_bytes(rt: HostRuntime) -> Result<(), Fail> {
         end.image[1088..].starts_with(b"\xff\x41\x02\0\0\0\0\0\0\0\x20\0\0\x04\0"),
         "the inode of the root, as far as its first address"
     );
+    assert!(rt; end.image == fresh_volume(rt.alloc())?);
     checked(&rt, end.image, 0, "sound nodes 1 held 1 free 95\n")
 }
 

@@ -1,5 +1,5 @@
 use crate::example_files::{TWO_CALLERS_JOB, TWO_CALLERS_SOUND, TWO_CALLERS_TEXT};
-use crate::trials::{checked, expect, fresh, replayed, stale, unwound};
+use crate::trials::{NOTHING_FAILS, checked, expect, fresh, replayed, run, stale, unwound};
 use mb_core_spec::Step;
 use mb_kinds::{FaultRecord, Kind};
 use std::test::Fail;
@@ -141,4 +141,35 @@ fn two_callers_are_struck_four_times(rt: HostRuntime) -> Result<(), Fail> {
         TWO_CALLERS_TEXT,
     )?;
     checked(&rt, end.image, 0, TWO_CALLERS_SOUND)
+}
+
+// Each of eight callers makes a file, all of them step by step at the same time: as each name is a change of the root, one
+// caller after another is done. Faults strike the second and the fifth, and the recoveries go on between the steps.
+#[test]
+fn eight_callers_step_at_the_same_time(rt: HostRuntime) -> Result<(), Fail> {
+    let mut job = String::new(rt.alloc());
+    job.push_str(
+        "callers = ['a 0 0', 'b 0 0', 'c 0 0', 'd 0 0', 'e 0 0', 'f 0 0', 'g 0 0', 'h 0 0']\n",
+    )?;
+    job.push_str(
+        "calls = ['a creat /1 644', 'b creat /2 644', 'c creat /3 644', 'd creat /4 644', ",
+    )?;
+    job.push_str("'e creat /5 644', 'f creat /6 644', 'g creat /7 644', 'h creat /8 644']\n")?;
+    job.push_str("faults = ['2 gather 1 1 wipe 255', '5 finish 0 1 wipe 0']\norder = '")?;
+    for _ in 0..100 {
+        job.push_str("abcdefgh**")?;
+    }
+    job.push_str("'\n")?;
+    let words = ["run", "v"];
+    let end = run(
+        rt.alloc(),
+        &words,
+        fresh(rt.alloc())?,
+        job.as_str(),
+        NOTHING_FAILS,
+    )?;
+    assert_eq!(rt; end.status, 0);
+    assert!(rt; end.printed.ends_with(b"\nend 16 faults 2 seal 16\n"));
+    assert!(rt; !stale(rt.alloc(), &end.trail)?.is_empty());
+    checked(&rt, end.image, 0, "sound nodes 9 held 1 free 95\n")
 }

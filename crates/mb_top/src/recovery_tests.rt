@@ -5,6 +5,7 @@ use crate::trials::{
 };
 use crate::volumes::{HELLO_CTIME_LOW, HELLO_MODE, changed_volume, hello_volume};
 use mb_core_spec::Step;
+use mb_kinds::{FaultRecord, Kind};
 use std::alloc::{AllocError, Global};
 use std::test::Fail;
 
@@ -209,6 +210,64 @@ failed 6 faults 2 seal 0
     Ok(())
 }
 
+/// A job whose volume fails after its first call, of which a checkpoint was taken.
+pub const FAILED_JOB: &str = "\
+calls = ['a creat /f 644', 'a text 3 hi']
+threshold = 1
+limit = 0
+faults = ['2 enter 0 1 wipe 9']
+";
+
+#[test]
+fn a_volume_that_failed_is_left_as_it_was_at_its_checkpoint(rt: HostRuntime) -> Result<(), Fail> {
+    let lines = "\
+1 a creat /f 644 = 3
+2 a text 3 hi = FAILED 1
+3 a exit = FAILED 1
+failed 3 faults 1 seal 1
+";
+    let end = expect(&rt, fresh(rt.alloc())?, FAILED_JOB, 4, lines)?;
+    checked(&rt, end.image, 0, "sound nodes 2 held 1 free 95\n")
+}
+
+// The first fault at one kind of fault point of the second call of the one caller.
+fn first_of_second(kind: Kind) -> FaultRecord {
+    FaultRecord {
+        caller: 0,
+        ordinal: 2,
+        kind,
+        nth: 1,
+    }
+}
+
+// The faults of a recovery are not the call's own.
+#[test]
+fn faults_strike_a_recovery_too(rt: HostRuntime) -> Result<(), Fail> {
+    let job = hi_job(
+        rt.alloc(),
+        "faults = ['2 gather 0 1 wipe 255', '2 remount 0 1 wipe 0', '2 replay 0 1 count 3 0 wipe 170']",
+    )?;
+    let lines = "\
+1 a creat /f 644 = 3
+2 a text 3 hi = 2
+3 a close 3 = 0
+4 a exit = 0
+end 4 faults 3 seal 4
+";
+    let end = expect(&rt, fresh(rt.alloc())?, job.as_str(), 0, lines)?;
+    let wanted = [
+        first_of_second(Kind::Gather),
+        first_of_second(Kind::Remount),
+        first_of_second(Kind::Replay),
+    ];
+    assert_eq!(rt; end.records.as_slice(), wanted.as_slice());
+    assert_eq!(rt;
+        replayed(rt.alloc(), &end.trail)?.as_slice(),
+        [1].as_slice()
+    );
+    checked(&rt, end.image, 0, "sound nodes 2 held 2 free 94\n")
+}
+
 #[test]
 fn sealed_before_fault(rt: HostRuntime) -> Result<(), Fail> {
     let job = "\
@@ -273,10 +332,8 @@ end 3 faults 1 seal 3
     let image = fresh(rt.alloc())?;
     let reads = [first_read(rt.alloc(), &image)?];
     let failing = Failing {
-        inputs: &[],
         reads: &reads,
-        writes: &[],
-        outputs: &[],
+        ..NOTHING_FAILS
     };
     let end = run(rt.alloc(), &["run", "v"], image, job, failing)?;
     printed(&rt, &end, 0, lines)
@@ -296,10 +353,8 @@ end 4 faults 1 seal 4
     let image = fresh(rt.alloc())?;
     let reads = [first_read(rt.alloc(), &image)?];
     let failing = Failing {
-        inputs: &[],
         reads: &reads,
-        writes: &[],
-        outputs: &[],
+        ..NOTHING_FAILS
     };
     let end = run(rt.alloc(), &["run", "v"], image, job, failing)?;
     printed(&rt, &end, 0, lines)

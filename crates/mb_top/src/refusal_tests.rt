@@ -4,8 +4,8 @@ use std::alloc::{AllocError, Global};
 use std::process::Abort;
 use std::test::Fail;
 
-// The words of each command, near misses of them, and the commands that a later version has. The job is none, but where
-// the words are no `run` it is not read.
+// Near misses of each command, and the commands that a later version has. Neither reads its job, which is none, nor the
+// image.
 #[test]
 fn words_end_the_program_by_their_command(rt: HostRuntime) -> Result<(), Fail> {
     let refused = "words refused\n";

@@ -24,11 +24,6 @@ impl SlowSink {
     pub fn taken(&self) -> &[u8] {
         &self.bytes
     }
-
-    fn fail(&mut self) -> Failed {
-        self.faults = self.faults.saturating_add(1);
-        Failed
-    }
 }
 
 impl Sink for SlowSink {
@@ -42,7 +37,8 @@ impl Sink for SlowSink {
         };
         self.writes = self.writes.saturating_add(1);
         if self.writes == self.fails_at || self.bytes.push(*byte).is_err() {
-            return Err(self.fail());
+            self.faults = self.faults.saturating_add(1);
+            return Err(Failed);
         }
         Ok(1)
     }

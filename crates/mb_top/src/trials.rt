@@ -23,10 +23,12 @@ pub struct End {
     pub records: Vec<FaultRecord>,
 }
 
-/// Which calls of the outside fail, each kind of call numbered from 1.
+/// Which calls of the outside fail, each kind of call numbered from 1: reads of the input; how many blocks the disk has, its
+/// reads and its writes; writes of the output.
 #[derive(Clone, Copy, Drop)]
 pub struct Failing<'a> {
     pub inputs: &'a [u64],
+    pub sizes: &'a [u64],
     pub reads: &'a [u64],
     pub writes: &'a [u64],
     pub outputs: &'a [u64],
@@ -35,6 +37,7 @@ pub struct Failing<'a> {
 /// Nothing of the outside fails.
 pub const NOTHING_FAILS: Failing<'static> = Failing {
     inputs: &[],
+    sizes: &[],
     reads: &[],
     writes: &[],
     outputs: &[],
@@ -62,7 +65,7 @@ pub fn disk(alloc: Global, image: Vec<u8>, failing: Failing) -> Result<MemDisk, 
         alloc,
         Bytes::from_vec(image),
         ROOM,
-        fails(alloc, &[])?,
+        fails(alloc, failing.sizes)?,
         fails(alloc, failing.reads)?,
         fails(alloc, failing.writes)?,
     )?)
@@ -164,10 +167,8 @@ pub fn first_read(alloc: Global, image: &[u8]) -> Result<u64, Fail> {
     for read in 1..1000 {
         let reads = [read];
         let failing = Failing {
-            inputs: &[],
             reads: &reads,
-            writes: &[],
-            outputs: &[],
+            ..NOTHING_FAILS
         };
         let image = image.to_vec(alloc)?;
         let end = run(alloc, &["run", "v"], image, "calls = []", failing)?;

@@ -180,6 +180,11 @@ fn inode(mode: u16, nlink: u16, size: u32, addresses: &[u32]) -> Dinode {
     inode
 }
 
+/// A fresh volume of 100 blocks and 16 inodes.
+pub fn fresh_volume(alloc: Global) -> Result<Vec<u8>, AllocError> {
+    Making::new(alloc)?.image(alloc)
+}
+
 /// A volume of 100 blocks and 16 inodes with the file `hello` of those parts in its root.
 pub fn volume_with(
     alloc: Global,
