@@ -1,6 +1,6 @@
 mod Kept
-mod Knowing
-mod Phases
+pub mod Knowing
+pub mod Phases
 mod RightsOfBegin
 mod RightsOfCalls
 mod RightsOfEnter

@@ -1,5 +1,5 @@
 -- What each answer of a step of a recovery means: when it comes, and what it made of the core.
-use Rattle.std.specs.Prelude.{List, ℕ, ◌+◌, ◌<◌, ◌≤◌, ◌≡◌, ◌⊎◌, Option, Some, None, length, option_map, slice_get, slice_set}
+use Rattle.std.specs.Prelude.{List, ℕ, ◌+◌, ◌<◌, ◌≤◌, ◌≡◌, ◌⊎◌, Bool, true, Option, Some, None, IfSome, length, option_map, slice_get, slice_set}
 use Rattle.mb_kinds.specs.Image.{Image}
 use Rattle.mb_kinds.specs.declared.faults.Kind.{Kind}
 use Rattle.mb_kinds.specs.declared.faults.Kind.TheVariants.{Remount, Replay}
@@ -18,7 +18,7 @@ use Rattle.mb_core_spec.specs.declared.stages.Stage.TheVariants as stage
 use Rattle.mb_core_state.specs.Redoing.{FailsStep, IsReplayed}
 use Rattle.mb_core_state.specs.declared.answers.Phase.{Phase}
 use Rattle.mb_core_state.specs.declared.answers.Phase.TheVariants as phase
-use Rattle.mb_core_events.specs.Callings.{HasOpenCall, MayMeetFault, MayReplayNow, Unwinds, phase_now}
+use Rattle.mb_core_events.specs.Callings.{HasOpenCall, MayReplayNow, Unwinds, phase_now}
 use Rattle.mb_recover.specs.declared.steps.Stepped.{Stepped}
 use Rattle.mb_recover.specs.declared.steps.Stepped.TheVariants as stepped
 
@@ -61,11 +61,18 @@ PassesLimit old new count (stepped.Again faults) = (faults ≡ count) × (count 
 PassesLimit old new count (stepped.Failed faults) = (faults ≡ count) × (old.config.limit < count) × (new ≡ with_room (failing old) new)
 PassesLimit old new count _ = ⊥
 
--- the hook faulted at the next crossing
-pub record IsMet {F D : Type 0} (old new : CoreState F D) (by : Option Crossings) (strokes : List Stroke) (answer : Stepped) : Type 0 where
+-- the fault point of a step
+abbrev pub IsPointOf : Phase → Kind → Type 0
+IsPointOf phase.Remount kind = kind ≡ Remount
+IsPointOf (phase.Replay number) kind = kind ≡ Replay
+IsPointOf _ kind = ⊥
+
+-- the hook faulted at the next crossing of the step's fault point; its test holds there, where it tells one
+pub record IsMet {F D : Type 0} (old new : CoreState F D) (by : Option Crossings) (test : Option (Crossing → Bool)) (strokes : List Stroke) (answer : Stepped) : Type 0 where
   pub at : Crossing
   pub next : next_if at.kind by ≡ Some at
-  pub may : MayMeetFault (phase_now old)
+  pub point : IsPointOf (phase_now old) at.kind
+  pub tested : IfSome test (λ fires. fires at ≡ true)
   pub struck : IsStruck old new at strokes answer
 
 -- the dirty pages are dropped, or the volume is given up
@@ -99,8 +106,8 @@ Plainly old new stepped.NoMemory = new ≡ with_room old new
 Plainly old new _ = ⊥
 
 -- what a step comes to
-abbrev pub Recovers : {F D : Type 0} → (D → Option Image) → (D → ℕ) → CoreState F D → CoreState F D → Option Crossings → List Stroke → Stepped → Type 0
-Recovers told faults old new by strokes answer = Plainly old new answer ⊎ (Drops old new answer ⊎ (Remounts faults old new (caller_of by) answer ⊎ (Replays told faults old new (caller_of by) answer ⊎ IsMet old new by strokes answer)))
+abbrev pub Recovers : {F D : Type 0} → (D → Option Image) → (D → ℕ) → CoreState F D → CoreState F D → Option Crossings → Option (Crossing → Bool) → List Stroke → Stepped → Type 0
+Recovers told faults old new by test strokes answer = Plainly old new answer ⊎ (Drops old new answer ⊎ (Remounts faults old new (caller_of by) answer ⊎ (Replays told faults old new (caller_of by) answer ⊎ IsMet old new by test strokes answer)))
 
 -- the fault point of a step is counted, whether the hook faults there or not
 abbrev pub CountsAt : Phase → Option Crossings → Option Crossings → Type 0

@@ -1,4 +1,4 @@
-ghost use Rattle.std.specs.Prelude.{◌≡◌, ◌⊎◌, Some, IfSome, length};
+ghost use Rattle.std.specs.Prelude.{◌≡◌, ◌≤◌, ◌⊎◌, true, Some, IfSome, length};
 ghost use Rattle.mb_recover.specs.Steps.{CountsAt, Drops, IsMet, IsStruck, IsUnheard, PassesLimit, Recovers, Remounts, Replays, RunsFor, caller_of, counted_if, next_if};
 ghost use Rattle.mb_core_events.specs.Callings.{HasCall, MayMeetFault, phase_now};
 ghost use Rattle.mb_edge.specs.declared.crossings.Crossings.{Crossings};
@@ -48,7 +48,8 @@ pub fn recover_step<F: FileSys, D: Disk, H: Hook>(
     hook: &mut H,
 ) -> Stepped
     requires { IfSome by.old (RunsFor core.old) }
-    ensures recovers { Recovers D.told D.faults core.old core.new by.old (H.strokes hook.new) result }
+    ensures recovers { Recovers D.told D.faults core.old core.new by.old (H.test hook.old) (H.strokes hook.new) result }
+    ensures later { D.faults core.old.cache.disk ≤ D.faults core.new.cache.disk }
     ensures counted { CountsAt (phase_now core.old) by.old by.new }
     ensures heard { IsUnheard (H.struck hook.new) by.old result }
     ensures test { H.test hook.new ≡ H.test hook.old }
@@ -73,7 +74,8 @@ pub fn recover_step<F: FileSys, D: Disk, H: Hook>(
 /// The dirty pages are dropped, or the volume is given up where more faults struck than are recovered from.
 fn drop_pages<F: FileSys, D: Disk>(core: &mut Core<F, D>) -> Stepped
     requires { phase_now core.old ≡ Phase.Drop }
-    ensures { Drops core.old core.new result }
+    ensures drops { Drops core.old core.new result }
+    ensures later { D.faults core.old.cache.disk ≤ D.faults core.new.cache.disk }
 {
     let faults = core.records().len() as u32;
     if faults > core.config().limit {
@@ -93,7 +95,8 @@ fn remount<F: FileSys, D: Disk, H: Hook>(
 ) -> Stepped
     requires phase { phase_now core.old ≡ Phase.Remount }
     requires by { IfSome by.old (RunsFor core.old) }
-    ensures remounts { Remounts D.faults core.old core.new (caller_of by.old) result ⊎ IsMet core.old core.new by.old (H.strokes hook.new) result }
+    ensures remounts { Remounts D.faults core.old core.new (caller_of by.old) result ⊎ IsMet core.old core.new by.old (H.test hook.old) (H.strokes hook.new) result }
+    ensures later { D.faults core.old.cache.disk ≤ D.faults core.new.cache.disk }
     ensures counted { by.new ≡ counted_if Kind.Remount by.old }
     ensures heard { IsUnheard (H.struck hook.new) by.old result }
     ensures test { H.test hook.new ≡ H.test hook.old }
@@ -119,7 +122,8 @@ fn replay<F: FileSys, D: Disk, H: Hook>(
 ) -> Stepped
     requires phase { phase_now core.old ≡ Phase.Replay number }
     requires by { IfSome by.old (RunsFor core.old) }
-    ensures replays { Replays D.told D.faults core.old core.new (caller_of by.old) result ⊎ IsMet core.old core.new by.old (H.strokes hook.new) result }
+    ensures replays { Replays D.told D.faults core.old core.new (caller_of by.old) result ⊎ IsMet core.old core.new by.old (H.test hook.old) (H.strokes hook.new) result }
+    ensures later { D.faults core.old.cache.disk ≤ D.faults core.new.cache.disk }
     ensures counted { by.new ≡ counted_if Kind.Replay by.old }
     ensures heard { IsUnheard (H.struck hook.new) by.old result }
     ensures test { H.test hook.new ≡ H.test hook.old }
@@ -156,6 +160,7 @@ fn caller_of(by: &Option<Crossings>) -> Option<u8>
 fn meets<H: Hook>(by: &mut Option<Crossings>, hook: &mut H, kind: Kind) -> Option<Crossing>
     ensures counted { by.new ≡ counted_if kind by.old }
     ensures met { IfSome result (λ at. (at.kind ≡ kind) × (next_if kind by.old ≡ Some at) × (H.struck hook.new ≡ Some at)) }
+    ensures tested { IfSome result (λ at. IfSome (H.test hook.old) (λ fires. fires at ≡ true)) }
     ensures heard { IfSome by.old (λ (passed : Crossings). H.struck hook.new ≡ result) }
     ensures test { H.test hook.new ≡ H.test hook.old }
 {
@@ -175,7 +180,8 @@ fn strike<F: FileSys, D: Disk, H: Hook>(core: &mut Core<F, D>, at: Crossing, hoo
     requires phase { MayMeetFault (phase_now core.old) }
     requires of { (of : HasCall core.old at.caller) × (at.ordinal ≡ of.flight.ordinal) }
     requires struck { H.struck hook.now ≡ Some at }
-    ensures { IsStruck core.old core.new at (H.strokes hook.now) result }
+    ensures struck { IsStruck core.old core.new at (H.strokes hook.now) result }
+    ensures later { D.faults core.old.cache.disk ≤ D.faults core.new.cache.disk }
 {
     match core.strike(at.caller, at.kind, at.nth, hook) {
         Ok(faults) => pass_limit(core, faults),
@@ -187,7 +193,8 @@ fn strike<F: FileSys, D: Disk, H: Hook>(core: &mut Core<F, D>, at: Crossing, hoo
 fn pass_limit<F: FileSys, D: Disk>(core: &mut Core<F, D>, faults: u32) -> Stepped
     requires phase { phase_now core.old ≡ Phase.Drop }
     requires faults { faults ≡ length core.old.journal.records }
-    ensures { PassesLimit core.old core.new faults result }
+    ensures passes { PassesLimit core.old core.new faults result }
+    ensures later { D.faults core.old.cache.disk ≤ D.faults core.new.cache.disk }
 {
     if faults > core.config().limit {
         core.give_up();

@@ -4,3 +4,9 @@ pub mod Staying
 pub mod Leaving
 pub mod Striking
 pub mod Entering
+pub mod Answering
+pub mod Freshness
+pub mod Gathering
+pub mod Finishing
+pub mod Recovering
+pub mod Sealing

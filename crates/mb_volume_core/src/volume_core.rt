@@ -1,11 +1,13 @@
+ghost use Rattle.std.specs.Prelude.{IfSome};
 ghost use Rattle.mb_core_spec.specs.Right.{Right};
 ghost use Rattle.mb_core_spec.specs.declared.config.Config.{Config};
 ghost use Rattle.mb_run.specs.CoreSight.{has_seal_room, sight_of};
+ghost use Rattle.mb_run.specs.Served.{AreCounts};
 
 use crate::answers::{as_ready, entered_as, stepped_as};
 use mb_cache::Flushed;
+use mb_callers::{Pages, least_stale_block};
 use mb_calls::{Performed, Ready};
-use mb_callers::Pages;
 use mb_core_events::Core;
 use mb_core_spec::{Config, Stage};
 use mb_core_state::{Fault, Finished, Gathered, Left};
@@ -32,6 +34,15 @@ fn in_order<F: FileSys, D: Disk>(core: &Core<F, D>)
 /// The event core of a volume, as the driver of a job calls it.
 pub struct VolumeCore<F: FileSys, D: Disk> {
     pub core: Core<F, D>,
+}
+
+/// A call has six counts, each of 32 bits. It does nothing, and shows this to whoever calls it.
+fn counts_fit(by: &Option<Crossings>)
+    ensures { IfSome by.now AreCounts }
+{
+    if let Some(crossings) = by {
+        let [_enter, _gather, _finish, _leave, _remount, _replay] = crossings.counts;
+    }
 }
 
 impl<F: FileSys, D: Disk> EventCore for VolumeCore<F, D> {
@@ -94,10 +105,13 @@ impl<F: FileSys, D: Disk> EventCore for VolumeCore<F, D> {
         need: Need,
         pages: &mut Pages,
     ) -> Gathered {
+        in_order(&self.core);
         self.core.gather(alloc, ticket, need, pages)
     }
 
     fn finish(&mut self, alloc: Global, ticket: &Ticket, pages: &Pages, ready: Ready) -> Finished {
+        in_order(&self.core);
+        least_stale_block();
         self.core.finish(alloc, ticket, pages, as_ready(ready))
     }
 
@@ -115,7 +129,11 @@ impl<F: FileSys, D: Disk> EventCore for VolumeCore<F, D> {
         by: &mut Option<Crossings>,
         hook: &mut H,
     ) -> Stepped {
-        stepped_as(recover_step(alloc, &mut self.core, by, hook))
+        in_order(&self.core);
+        counts_fit(by);
+        let stepped = recover_step(alloc, &mut self.core, by, hook);
+        in_order(&self.core);
+        stepped_as(stepped)
     }
 
     fn quit(&mut self, caller: u8) {

@@ -1,4 +1,5 @@
-use Rattle.std.proofs.Common.{◌∙◌}
+use Rattle.std.proofs.Common.{◌≡◌, ◌∙◌, ap, arith}
+use Rattle.mb_core_spec.specs.State.{CoreState}
 use Rattle.mb_recover.proofs.Meeting.{drops_next, one_more, same_crossing}
 use Rattle.mb_recover.proofs.steps.strike.Goals as goal
 
@@ -14,3 +15,10 @@ pub pass_limit-requires-clause-faults : goal.pass_limit-requires-clause-faults
 pass_limit-requires-clause-faults g c =
     let of = c.requires.of.0 in
     one_more c.args.core.now c.strike.new.self c.args.at.caller of.flight.ordinal c.args.at.kind c.args.at.nth (g.H.Hook.strokes c.args.hook.now) c.in-Ok.faults c.in-Ok.ensures.number (c.in-Ok.ensures.ok of.mine of.flight of.here of.flies)
+
+pub returns-in-Ok-clause-later : goal.returns-in-Ok-clause-later
+returns-in-Ok-clause-later g c =
+    let of = c.requires.of.0 in
+    let same : g.D.Disk.faults c.strike.new.self.cache.disk ≡ g.D.Disk.faults c.args.core.now.cache.disk = ap (λ (core : CoreState _ _). g.D.Disk.faults core.cache.disk) (c.in-Ok.ensures.ok of.mine of.flight of.here of.flies) in
+    let later = c.pass_limit.ensures.later in
+    omega (arith, same, later)

@@ -1,0 +1,55 @@
+-- A checkpoint, and a page that is written back.
+use Rattle.std.proofs.Common.{◌≡◌, ◌∙◌, ◌≤◌, ◌+◌, ℕ, [], ◌∷◌, ◌++◌, Option, length, refl, ap, sym, subst, arith, length-append}
+use Rattle.mb_kinds.specs.Image.{Image}
+use Rattle.mb_edge.specs.Causes.{Rose}
+use Rattle.mb_cache.specs.Pages.{PageList}
+use Rattle.mb_cache.specs.State.{CacheState, Flushes}
+use Rattle.mb_cache.specs.declared.answers.Flushed.{Flushed}
+use Rattle.mb_cache.specs.declared.answers.Flushed.TheVariants as flushed
+use Rattle.mb_core_spec.specs.Callers.{insiders}
+use Rattle.mb_core_spec.specs.Events.{with_room}
+use Rattle.mb_core_spec.specs.Recovery.{flushing, sealing}
+use Rattle.mb_core_spec.specs.State.{CoreState}
+use Rattle.mb_core_spec.specs.declared.stages.Stage.{Stage}
+use Rattle.mb_core_spec.specs.declared.stages.Stage.TheVariants as stage
+use Rattle.mb_run.specs.CoreSight.{sight_of}
+use Rattle.mb_run.specs.Events.{FlushesWith, sealed}
+use Rattle.mb_run.specs.Sights.{Sight, steps_left}
+
+abbrev with_left : Sight → ℕ → Sight
+with_left sight n = record sight { left = n }
+
+module _ {F D : Type 0} (core new : CoreState F D) where
+  abbrev with_sealed : ℕ → Sight
+  with_sealed n = record (sight_of core) { sealed = n }
+
+  -- no recovery is in progress before or after
+  none_left : core.stage ≡ stage.Running → steps_left (insiders core.callers) 0 core.stage ≡ steps_left (insiders core.callers) (length core.journal.oplog) core.stage
+  none_left runs = ap (steps_left (insiders core.callers) 0) runs ∙ sym (ap (steps_left (insiders core.callers) (length core.journal.oplog)) runs)
+
+  pub seals : core.stage ≡ stage.Running → new ≡ with_room (sealing core new.cache.sealed) new → sight_of new ≡ sealed (sight_of core) (sight_of new)
+  seals runs event = ap sight_of event ∙ ap (λ n. with_left (sealed (sight_of core) (sight_of new)) n) (none_left runs)
+
+  -- ---- a page is written back
+
+  pub flushes : (told : D → Option Image) (faults : D → ℕ) (answer : Flushed) → Flushes told faults core.cache new.cache answer → new ≡ with_room (flushing core new.cache.disk new.cache.sealed) new
+      → FlushesWith (sight_of core) (sight_of new) answer
+  flushes told faults flushed.One by rest =
+      let pages = by.0 in
+      let was : length core.cache.sealed ≡ length (pages.before ++ (pages.page ∷ pages.behind)) = ap length pages.waits in
+      let now : length new.cache.sealed ≡ length (pages.before ++ pages.behind) = ap (λ (c : CacheState D). length c.sealed) by.1 in
+      let all = length-append pages.before (pages.page ∷ pages.behind) in
+      let left = length-append pages.before pages.behind in
+      (omega (arith, was, now, all, left), ap sight_of rest)
+  flushes told faults flushed.Clean by rest = (ap length by.0, ap sight_of rest ∙ ap (λ (c : CacheState D). with_sealed (length c.sealed)) by.1)
+  flushes told faults flushed.Device by rest = ap sight_of rest ∙ ap (λ (c : CacheState D). with_sealed (length c.sealed)) by.1
+
+  pub flush_rose : (told : D → Option Image) (faults : D → ℕ) (answer : Flushed) → Flushes told faults core.cache new.cache answer → answer ≡ flushed.Device → Rose (faults core.cache.disk) (faults new.cache.disk)
+  flush_rose told faults flushed.One by is = absurd (let wrong : flushed.One ≡ flushed.Device = is in cc)
+  flush_rose told faults flushed.Clean by is = absurd (let wrong : flushed.Clean ≡ flushed.Device = is in cc)
+  flush_rose told faults flushed.Device by is = by.2
+
+  pub flush_later : (told : D → Option Image) (faults : D → ℕ) (answer : Flushed) → Flushes told faults core.cache new.cache answer → faults core.cache.disk ≤ faults new.cache.disk
+  flush_later told faults flushed.One by = by.0.cause.later
+  flush_later told faults flushed.Clean by = let same : faults new.cache.disk ≡ faults core.cache.disk = ap (λ (c : CacheState D). faults c.disk) by.1 in omega (arith, same)
+  flush_later told faults flushed.Device by = by.0.cause.later
