@@ -35,8 +35,8 @@ may_call core caller call may = record {
   declared = may.within;
   same = λ mine flight here flies. subst (MayBegin core.config.most ((sight_of core).seats caller) call) (ap (λ (o : Option CallerState). (seat_of o).flight) here ∙ flies) may.may;
   few = λ mine here free.
-    (let few : ((sight_of core).seats caller).begun < core.config.most = subst (MayBegin core.config.most ((sight_of core).seats caller) call) (ap (λ (o : Option CallerState). (seat_of o).flight) here ∙ free) may.may in
-    subst (λ (n : ℕ). n < core.config.most) (ap (λ (o : Option CallerState). (seat_of o).begun) here) few);
+      (let few : ((sight_of core).seats caller).begun < core.config.most = subst (MayBegin core.config.most ((sight_of core).seats caller) call) (ap (λ (o : Option CallerState). (seat_of o).flight) here ∙ free) may.may in
+      subst (λ (n : ℕ). n < core.config.most) (ap (λ (o : Option CallerState). (seat_of o).begun) here) few);
 }
 
 shut_recovers : (now : Stage) → IsShut now → recovers now ≡ true
@@ -200,10 +200,10 @@ module _ {F D : Type 0} (told : D → Option Image) (faults : D → ℕ) (core :
       let begins : Begins caller with_ticket (sight_of core) (sight_of core) =
       begins_at core mine stored (Some flight) now.flies unanswered refl (stays_at core core caller mine stored refl refl refl refl) with_ticket has refl unanswered refl refl in
       let never : IsOld core.incarnation ((sight_of core).seats caller).flight → ⊥ = λ old.
-        (let earlier : IfSome flight.ticket (λ (t : Ticket). t.incarnation < core.incarnation) = subst (IsOld core.incarnation) (ap (λ (s : Seat). s.flight) seat_is ∙ now.flies) old in
-        let low : ticket.incarnation < core.incarnation = subst (λ (t : Option Ticket). IfSome t (λ (x : Ticket). x.incarnation < core.incarnation)) now.held earlier in
-        let present = now.present in
-        omega (arith, low, present)) in
+      (let earlier : IfSome flight.ticket (λ (t : Ticket). t.incarnation < core.incarnation) = subst (IsOld core.incarnation) (ap (λ (s : Seat). s.flight) seat_is ∙ now.flies) old in
+      let low : ticket.incarnation < core.incarnation = subst (λ (t : Option Ticket). IfSome t (λ (x : Ticket). x.incarnation < core.incarnation)) now.held earlier in
+      let present = now.present in
+      omega (arith, low, present)) in
       record {
         begins = subst (λ (f : Flight). Begins caller (record f { ticket = Some ticket }) (sight_of core) (sight_of core)) (sym same) begins;
         runs = running;
@@ -268,10 +268,10 @@ module _ {F D : Type 0} (told : D → Option Image) (faults : D → ℕ) (core :
   enters_by new (entered.Done answer) by = elim by [
     | inl out ↦ inl (handed_out new answer out mine.flight refl out.has)
     | inr up ↦ inr (
-        lacks_here up.0,
-        unplain core caller (the_flight mine.flight).ordinal answer up.1,
-        subst (λ (f : Flight). Answers caller f answer (sight_of core) (sight_of new)) (sym flight_same) (given_up_if new answer mine.flight refl up.0 up.2.event),
-      )
+      lacks_here up.0,
+      unplain core caller (the_flight mine.flight).ordinal answer up.1,
+      subst (λ (f : Flight). Answers caller f answer (sight_of core) (sight_of new)) (sym flight_same) (given_up_if new answer mine.flight refl up.0 up.2.event),
+    )
   ]
   enters_by new entered.Shut by = (
     shut_recovers core.stage by.1,

@@ -112,13 +112,15 @@ module _ {F D : Type 0} (told : D → Option Image) (faults : D → ℕ) (core :
       let its = by of.0.mine of.0.flight of.0.here of.0.flies in
       (skipped core new ticket was present its.0, ap sight_of its.0.same, its.1)
   gathers_are gathered.Device of by =
-      let its = by of.0.mine of.0.flight of.0.here of.0.flies in
-      (its.0, λ flight flown.
-        (let at = seated (slice_get core.callers ticket.caller) flight flown in
-        let mine_is : at.0 ≡ of.0.mine = same_Some at.0 of.0.mine (sym at.1 ∙ of.0.here) in
-        let flight_is : flight ≡ of.0.flight = same_Some flight of.0.flight (sym at.2 ∙ ap (λ (d : CallerState). d.flight) mine_is ∙ of.0.flies) in
-        subst (λ (f : Flight). Answers ticket.caller f reply.Device (sight_of core) (sight_of new)) (sym flight_is)
-        (answered (with_disk core new.cache.disk) new ticket.caller of.0.mine of.0.here of.0.flight of.0.flies of.1 (last_begun told faults core r ticket.caller of.0.mine of.0.flight of.0.here of.0.flies of.1) reply.Device new.cache.pins its.2)))
+      let its = by of.0.mine of.0.flight of.0.here of.0.flies in (
+        its.0,
+        λ flight flown.
+            (let at = seated (slice_get core.callers ticket.caller) flight flown in
+            let mine_is : at.0 ≡ of.0.mine = same_Some at.0 of.0.mine (sym at.1 ∙ of.0.here) in
+            let flight_is : flight ≡ of.0.flight = same_Some flight of.0.flight (sym at.2 ∙ ap (λ (d : CallerState). d.flight) mine_is ∙ of.0.flies) in
+            subst (λ (f : Flight). Answers ticket.caller f reply.Device (sight_of core) (sight_of new)) (sym flight_is)
+            (answered (with_disk core new.cache.disk) new ticket.caller of.0.mine of.0.here of.0.flight of.0.flies of.1 (last_begun told faults core r ticket.caller of.0.mine of.0.flight of.0.here of.0.flies of.1) reply.Device new.cache.pins its.2)),
+      )
   gathers_are gathered.NoMemory of by = let its = by of.0.mine of.0.flight of.0.here of.0.flies in (ap sight_of its.1, its.2)
   gathers_are gathered.Done of by = let its = by of.0.mine of.0.flight of.0.here of.0.flies in (its.0, gains of.0.mine of.0.here its.1 its.2)
 

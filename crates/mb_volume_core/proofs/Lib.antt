@@ -1,12 +1,12 @@
 pub mod Orderly
 pub mod Origins
 pub mod Staying
+pub mod Leaving
+pub mod Striking
+pub mod Entering
 pub mod Answering
 pub mod Freshness
 pub mod Gathering
 pub mod Finishing
 pub mod Recovering
 pub mod Sealing
-pub mod Leaving
-pub mod Striking
-pub mod Entering

@@ -164,20 +164,22 @@ module _ {F D : Type 0} (told : D → Option Image) (faults : D → ℕ) (core :
       let begun_is = begun_now core new ticket.caller now stored mine here in
       let opened = open_now core new ticket.caller now stored mine here in
       let one : one_if mine.inside ≡ 1 = ap one_if by.within.inside in
-      let less : insiders (slice_set core.callers ticket.caller now) + one_if mine.inside ≡ insiders core.callers + 0 = insiders_set core.callers ticket.caller mine now here in
-      (ap (λ (c : CoreState F D). recovers c.stage) event ∙ ap recovers struck, record {
-        waits = record {
-          config = ap (λ (c : CoreState F D). (sight_of c).config) event;
-          incarnation = ap (λ (c : CoreState F D). c.incarnation) event;
-          seats = seats_kept ticket.caller mine now here stored refl;
-          counts = record { history = ap (λ (c : CoreState F D). c.journal.history) event; begun = omega (arith, begun_is); open_calls = omega (arith, opened) };
-          floor = elim (floor_without ticket.caller core.floor) [ inl none ↦ inl (ap (λ (c : CoreState F D). c.floor) event ∙ none) | inr same ↦ inr (ap (λ (c : CoreState F D). c.floor) event ∙ same) ];
-        };
-        records = ap (λ (c : CoreState F D). c.journal.records) event;
-        recovered = ap recovers struck;
-        fewer = subst (λ (c : CoreState F D). (sight_of c).left < steps_left inside ops core.stage) (sym event)
-            (subst (λ (s : Stage). steps_left (insiders (slice_set core.callers ticket.caller now)) ops s < steps_left inside ops s) (sym struck) (omega (arith, one, less)));
-      })
+      let less : insiders (slice_set core.callers ticket.caller now) + one_if mine.inside ≡ insiders core.callers + 0 = insiders_set core.callers ticket.caller mine now here in (
+        ap (λ (c : CoreState F D). recovers c.stage) event ∙ ap recovers struck,
+        record {
+          waits = record {
+            config = ap (λ (c : CoreState F D). (sight_of c).config) event;
+            incarnation = ap (λ (c : CoreState F D). c.incarnation) event;
+            seats = seats_kept ticket.caller mine now here stored refl;
+            counts = record { history = ap (λ (c : CoreState F D). c.journal.history) event; begun = omega (arith, begun_is); open_calls = omega (arith, opened) };
+            floor = elim (floor_without ticket.caller core.floor) [ inl none ↦ inl (ap (λ (c : CoreState F D). c.floor) event ∙ none) | inr same ↦ inr (ap (λ (c : CoreState F D). c.floor) event ∙ same) ];
+          };
+          records = ap (λ (c : CoreState F D). c.journal.records) event;
+          recovered = ap recovers struck;
+          fewer = subst (λ (c : CoreState F D). (sight_of c).left < steps_left inside ops core.stage) (sym event)
+              (subst (λ (s : Stage). steps_left (insiders (slice_set core.callers ticket.caller now)) ops s < steps_left inside ops s) (sym struck) (omega (arith, one, less)));
+        },
+      )
     where
       -- the seat of each caller stays
       seats_kept : (caller : ℕ) (mine now : CallerState) → slice_get core.callers caller ≡ Some mine → new.callers ≡ slice_set core.callers caller now → seat_of (Some now) ≡ seat_of (Some mine) → (other : ℕ) → (sight_of new).seats other ≡ (sight_of core).seats other
@@ -205,9 +207,14 @@ module _ {F D : Type 0} (told : D → Option Image) (faults : D → ℕ) (core :
         ((ap (λ (c : CoreState F D). recovers c.stage) is.1, rolls (reopening core new.tables.opens) is.1 refl refl refl refl refl refl (recovers_at stage.Remounted now refl) (fewer_at stage.Remounted _ now (omega arith))), ap origin_of is.1)
     plain_comes recovered.Resumed is =
         let now = resumes_at core.stage _ _ is.0 in
-        let most : now.0 ≤ ops = subst (λ (s : Stage). replayed s ≤ ops) now.1 r.orderly.within in
-        ((ap (λ (c : CoreState F D). c.stage) is.1, ap (λ (c : CoreState F D). c.floor) is.1 ∙ floor_free now.0 now.1,
-          rolls (resuming core) is.1 refl refl refl refl refl refl (recovers_at (stage.Restored now.0) now.1 refl) (fewer_at (stage.Restored now.0) _ now.1 (omega (arith, most)))), ap origin_of is.1)
+        let most : now.0 ≤ ops = subst (λ (s : Stage). replayed s ≤ ops) now.1 r.orderly.within in (
+          (
+            ap (λ (c : CoreState F D). c.stage) is.1,
+            ap (λ (c : CoreState F D). c.floor) is.1 ∙ floor_free now.0 now.1,
+            rolls (resuming core) is.1 refl refl refl refl refl refl (recovers_at (stage.Restored now.0) now.1 refl) (fewer_at (stage.Restored now.0) _ now.1 (omega (arith, most))),
+          ),
+          ap origin_of is.1,
+        )
     plain_comes recovered.NoMemory is = (ap sight_of is, ap origin_of is)
     plain_comes (recovered.Failed count) is = absurd is
     plain_comes recovered.Dropped is = absurd is
@@ -245,14 +252,15 @@ module _ {F D : Type 0} (told : D → Option Image) (faults : D → ℕ) (core :
     device_comes (Some asks) runs fails =
         let call = runs.of.0 in
         let flown_open = open_is call.mine.flight call.flight call.flies runs.of.1 in
-        let ends = subst (EndsIf (with_disk core new.cache.disk) new asks.caller call.mine) flown_open (fails.1 call.mine call.here) in
-        (λ flight flown.
-          (let at = seated (slice_get core.callers asks.caller) flight flown in
-          let mine_is : at.0 ≡ call.mine = same_Some at.0 call.mine (sym at.1 ∙ call.here) in
-          let flight_is : flight ≡ call.flight = same_Some flight call.flight (sym at.2 ∙ ap (λ (d : CallerState). d.flight) mine_is ∙ call.flies) in
-          subst (λ (f : Flight). Answers asks.caller f reply.Device (sight_of core) (sight_of new)) (sym flight_is)
-          (answered (with_disk core new.cache.disk) new asks.caller call.mine call.here call.flight call.flies runs.of.1 (last_begun told faults core r asks.caller call.mine call.flight call.here call.flies runs.of.1) reply.Device new.cache.pins ends.0)),
-        ap origin_of ends.0)
+        let ends = subst (EndsIf (with_disk core new.cache.disk) new asks.caller call.mine) flown_open (fails.1 call.mine call.here) in (
+          λ flight flown.
+              (let at = seated (slice_get core.callers asks.caller) flight flown in
+              let mine_is : at.0 ≡ call.mine = same_Some at.0 call.mine (sym at.1 ∙ call.here) in
+              let flight_is : flight ≡ call.flight = same_Some flight call.flight (sym at.2 ∙ ap (λ (d : CallerState). d.flight) mine_is ∙ call.flies) in
+              subst (λ (f : Flight). Answers asks.caller f reply.Device (sight_of core) (sight_of new)) (sym flight_is)
+              (answered (with_disk core new.cache.disk) new asks.caller call.mine call.here call.flight call.flies runs.of.1 (last_begun told faults core r asks.caller call.mine call.flight call.here call.flies runs.of.1) reply.Device new.cache.pins ends.0)),
+          ap origin_of ends.0,
+        )
 
     module _ (runs : IfSome by (HasFor core)) where
       fails_comes : recovers core.stage ≡ true → FailsStep faults core new (caller_of by) read.Device → Comes recovered.Device
@@ -278,9 +286,13 @@ module _ {F D : Type 0} (told : D → Option Image) (faults : D → ℕ) (core :
           let now = replays_at core.stage _ _ number is.0 in
           let logged = some_at core.journal.oplog now.0 now.3 in
           let again = is.1 now.0 logged.0 now.1 logged.1 in
-          let low = now.3 in
-          ((ap (λ (c : CoreState F D). recovers c.stage) again.event,
-            rolls (redoing (with_disk core new.cache.disk) logged.0 again.changes now.0) again.event refl refl refl refl refl refl (recovers_at (stage.Restored now.0) now.1 refl) (fewer_at (stage.Restored now.0) _ now.1 (omega (arith, low)))), ap origin_of again.event)
+          let low = now.3 in (
+            (
+              ap (λ (c : CoreState F D). recovers c.stage) again.event,
+              rolls (redoing (with_disk core new.cache.disk) logged.0 again.changes now.0) again.event refl refl refl refl refl refl (recovers_at (stage.Restored now.0) now.1 refl) (fewer_at (stage.Restored now.0) _ now.1 (omega (arith, low))),
+            ),
+            ap origin_of again.event,
+          )
       replay_comes recovered.Device is = let now = replays_at core.stage _ _ is.0.0 is.0.1 in fails_comes (recovers_at (stage.Restored now.0) now.1 refl) is.1
       replay_comes recovered.NoMemory is = (ap sight_of is.0, ap origin_of is.0)
       replay_comes recovered.Idle is = absurd is
@@ -317,14 +329,22 @@ module _ {F D : Type 0} (told : D → Option Image) (faults : D → ℕ) (core :
         met_comes : (answer : Recovered) → IsMet core new by test strokes answer → Comes answer
         met_comes (recovered.Again count) met =
             let at = met.at in
-            let event = met.struck.2 in
-            ((ap (λ (c : CoreState F D). c.stage) event,
-              strikes (striking_at core at strokes) event (waits (striking_at core at strokes) event refl refl refl refl refl) at (ap (λ (c : CoreState F D). c.journal.records) event) met.point by are met.next met.tested counts), ap origin_of event)
+            let event = met.struck.2 in (
+              (
+                ap (λ (c : CoreState F D). c.stage) event,
+                strikes (striking_at core at strokes) event (waits (striking_at core at strokes) event refl refl refl refl refl) at (ap (λ (c : CoreState F D). c.journal.records) event) met.point by are met.next met.tested counts,
+              ),
+              ap origin_of event,
+            )
         met_comes (recovered.Failed count) met =
             let at = met.at in
-            let event = met.struck.2 in
-            ((ap (λ (c : CoreState F D). c.stage) event,
-              inr (strikes (failing (striking_at core at strokes)) event (waits (failing (striking_at core at strokes)) event refl refl refl refl refl) at (ap (λ (c : CoreState F D). c.journal.records) event) met.point by are met.next met.tested counts)), ap origin_of event)
+            let event = met.struck.2 in (
+              (
+                ap (λ (c : CoreState F D). c.stage) event,
+                inr (strikes (failing (striking_at core at strokes)) event (waits (failing (striking_at core at strokes)) event refl refl refl refl refl) at (ap (λ (c : CoreState F D). c.journal.records) event) met.point by are met.next met.tested counts),
+              ),
+              ap origin_of event,
+            )
         met_comes recovered.NoMemory met = (ap sight_of met.struck, ap origin_of met.struck)
         met_comes recovered.Idle met = absurd met.struck
         met_comes (recovered.Unwound ticket) met = absurd met.struck

@@ -29,6 +29,7 @@ module _ {F D : Type 0} (core new : CoreState F D) where
 
   pub seals : core.stage ≡ stage.Running → new ≡ with_room (sealing core new.cache.sealed) new → sight_of new ≡ sealed (sight_of core) (sight_of new)
   seals runs event = ap sight_of event ∙ ap (λ n. with_left (sealed (sight_of core) (sight_of new)) n) (none_left runs)
+
   -- ---- a page is written back
 
   pub flushes : (told : D → Option Image) (faults : D → ℕ) (answer : Flushed) → Flushes told faults core.cache new.cache answer → new ≡ with_room (flushing core new.cache.disk new.cache.sealed) new
@@ -42,6 +43,7 @@ module _ {F D : Type 0} (core new : CoreState F D) where
       (omega (arith, was, now, all, left), ap sight_of rest)
   flushes told faults flushed.Clean by rest = (ap length by.0, ap sight_of rest ∙ ap (λ (c : CacheState D). with_sealed (length c.sealed)) by.1)
   flushes told faults flushed.Device by rest = ap sight_of rest ∙ ap (λ (c : CacheState D). with_sealed (length c.sealed)) by.1
+
   pub flush_rose : (told : D → Option Image) (faults : D → ℕ) (answer : Flushed) → Flushes told faults core.cache new.cache answer → answer ≡ flushed.Device → Rose (faults core.cache.disk) (faults new.cache.disk)
   flush_rose told faults flushed.One by is = absurd (let wrong : flushed.One ≡ flushed.Device = is in cc)
   flush_rose told faults flushed.Clean by is = absurd (let wrong : flushed.Clean ≡ flushed.Device = is in cc)

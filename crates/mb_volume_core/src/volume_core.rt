@@ -6,8 +6,8 @@ ghost use Rattle.mb_run.specs.Served.{AreCounts};
 
 use crate::answers::{as_ready, entered_as, stepped_as};
 use mb_cache::Flushed;
-use mb_calls::{Performed, Ready};
 use mb_callers::{Pages, least_stale_block};
+use mb_calls::{Performed, Ready};
 use mb_core_events::Core;
 use mb_core_spec::{Config, Stage};
 use mb_core_state::{Fault, Finished, Gathered, Left};
@@ -27,13 +27,6 @@ pub struct Origin<D: Disk> {
 /// The event core of a volume, as the driver of a job calls it.
 pub struct VolumeCore<F: FileSys, D: Disk> {
     pub core: Core<F, D>,
-}
-
-/// A core is always in order. It does nothing, and shows this to whoever calls it.
-fn in_order<F: FileSys, D: Disk>(core: &Core<F, D>)
-    ensures { Right D.told D.faults core.now }
-{
-    core.history();
 }
 
 /// A call has six counts, each of 32 bits. It does nothing, and shows this to whoever calls it.

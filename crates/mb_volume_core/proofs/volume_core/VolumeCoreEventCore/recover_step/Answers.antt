@@ -1,0 +1,33 @@
+use Rattle.std.proofs.Common.{◌≡◌, ◌∙◌, sym, subst}
+use Rattle.mb_edge.specs.Causes.{Rose}
+use Rattle.mb_run.specs.CoreSight.{sight_of}
+use Rattle.mb_run.specs.Recovering.{Steps}
+use Rattle.mb_run.specs.declared.answers.Stepped.{Stepped}
+use Rattle.mb_run.specs.declared.answers.Stepped.TheVariants as stepped
+use Rattle.mb_volume_core.proofs.Orderly.{orderly}
+use Rattle.mb_volume_core.proofs.Recovering.{comes, goes_on, has_for, rose_at}
+use Rattle.mb_volume_core.proofs.volume_core.VolumeCoreEventCore.recover_step.Goals as goal
+
+pub recover_step-stepped-requires : goal.recover_step-stepped-requires
+recover_step-stepped-requires g c = has_for c.args.self.now.core c.args.by.now c.requires.by
+
+pub returns-clause-on : goal.returns-clause-on
+returns-clause-on g c = goes_on _ c.args.by.now c.recover_step-stepped.new.by c.counts_fit.ensures c.recover_step-stepped.ensures.counted
+
+pub returns-clause-steps : goal.returns-clause-steps
+returns-clause-steps g c =
+    subst (λ (answer : Stepped). Steps (g.H.Hook.test c.args.hook.now) c.args.by.now c.recover_step-stepped.new.by (sight_of c.args.self.now.core) (sight_of c.recover_step-stepped.new.core) answer) (sym c.stepped_as.ensures)
+    (comes g.D.Disk.told g.D.Disk.faults c.args.self.now.core c.in_order.ensures c.recover_step-stepped.new.core (g.H.Hook.test c.args.hook.now) c.args.by.now c.recover_step-stepped.new.by (has_for c.args.self.now.core c.args.by.now c.requires.by)
+    c.counts_fit.ensures c.recover_step-stepped.ensures.counted (g.H.Hook.strokes c.recover_step-stepped.new.hook) c.recover_step-stepped.result c.recover_step-stepped.ensures.recovers).0
+
+pub returns-clause-origin : goal.returns-clause-origin
+returns-clause-origin g c =
+    (comes g.D.Disk.told g.D.Disk.faults c.args.self.now.core c.in_order.ensures c.recover_step-stepped.new.core (g.H.Hook.test c.args.hook.now) c.args.by.now c.recover_step-stepped.new.by (has_for c.args.self.now.core c.args.by.now c.requires.by)
+    c.counts_fit.ensures c.recover_step-stepped.ensures.counted (g.H.Hook.strokes c.recover_step-stepped.new.hook) c.recover_step-stepped.result c.recover_step-stepped.ensures.recovers).1
+
+pub returns-clause-device : goal.returns-clause-device
+returns-clause-device g c = λ is. rose_at g.D.Disk.told g.D.Disk.faults c.args.self.now.core c.recover_step-stepped.new.core c.args.by.now (g.H.Hook.test c.args.hook.now) (g.H.Hook.strokes c.recover_step-stepped.new.hook) c.recover_step-stepped.result
+    c.recover_step-stepped.ensures.recovers (sym c.stepped_as.ensures ∙ is)
+
+pub returns-clause-right : goal.returns-clause-right
+returns-clause-right g c = orderly g.D.Disk.told g.D.Disk.faults c.recover_step-stepped.new.core c.in_order-2.ensures
