@@ -1,6 +1,6 @@
 use Rattle.mb_volume_core.proofs.Gathering.{gathers_are, gathers_begun, holds_ticket}
 use Rattle.mb_volume_core.proofs.Orderly.{orderly}
-use Rattle.mb_volume_core.proofs.volume_core.VolumeCore.gather.Goals as goal
+use Rattle.mb_volume_core.proofs.volume_core.VolumeCoreEventCore.gather.Goals as goal
 
 pub gather-requires-clause-ticket : goal.gather-requires-clause-ticket
 gather-requires-clause-ticket g c = holds_ticket c.args.self.now.core c.args.ticket.now _ c.requires.ticket

@@ -2,7 +2,7 @@ use Rattle.std.proofs.Common.{ap}
 use Rattle.mb_volume_core.proofs.Orderly.{orderly}
 use Rattle.mb_volume_core.proofs.Origins.{origin_of}
 use Rattle.mb_volume_core.proofs.Sealing.{flush_later, flush_rose, flushes}
-use Rattle.mb_volume_core.proofs.volume_core.VolumeCore.flush_one.Goals as goal
+use Rattle.mb_volume_core.proofs.volume_core.VolumeCoreEventCore.flush_one.Goals as goal
 
 pub returns-clause-flushes : goal.returns-clause-flushes
 returns-clause-flushes g c = flushes c.args.self.now.core c.flush_one.new.self g.D.Disk.told g.D.Disk.faults c.flush_one.result c.flush_one.ensures.flushes c.flush_one.ensures.rest

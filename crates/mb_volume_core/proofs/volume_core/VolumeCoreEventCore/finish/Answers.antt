@@ -4,7 +4,7 @@ use Rattle.mb_core_events.specs.Callings.{MayFinish}
 use Rattle.mb_volume_core.proofs.Finishing.{finishes_are, finishes_begun, may_finish, may_seal}
 use Rattle.mb_volume_core.proofs.Gathering.{holds_ticket}
 use Rattle.mb_volume_core.proofs.Orderly.{orderly}
-use Rattle.mb_volume_core.proofs.volume_core.VolumeCore.finish.Goals as goal
+use Rattle.mb_volume_core.proofs.volume_core.VolumeCoreEventCore.finish.Goals as goal
 
 pub finish-requires : goal.finish-requires
 finish-requires g c = subst (λ (ready : Ready). MayFinish c.args.self.now.core c.args.ticket.now c.args.pages.now ready) (sym c.as_ready.ensures)

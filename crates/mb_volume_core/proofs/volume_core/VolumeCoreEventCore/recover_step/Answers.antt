@@ -6,7 +6,7 @@ use Rattle.mb_run.specs.declared.answers.Stepped.{Stepped}
 use Rattle.mb_run.specs.declared.answers.Stepped.TheVariants as stepped
 use Rattle.mb_volume_core.proofs.Orderly.{orderly}
 use Rattle.mb_volume_core.proofs.Recovering.{comes, goes_on, has_for, rose_at}
-use Rattle.mb_volume_core.proofs.volume_core.VolumeCore.recover_step.Goals as goal
+use Rattle.mb_volume_core.proofs.volume_core.VolumeCoreEventCore.recover_step.Goals as goal
 
 pub recover_step-stepped-requires : goal.recover_step-stepped-requires
 recover_step-stepped-requires g c = has_for c.args.self.now.core c.args.by.now c.requires.by
