@@ -29,6 +29,13 @@ pub struct VolumeCore<F: FileSys, D: Disk> {
     pub core: Core<F, D>,
 }
 
+/// A core is always in order. It does nothing, and shows this to whoever calls it.
+fn in_order<F: FileSys, D: Disk>(core: &Core<F, D>)
+    ensures { Right D.told D.faults core.now }
+{
+    core.history();
+}
+
 /// A call has six counts, each of 32 bits. It does nothing, and shows this to whoever calls it.
 fn counts_fit(by: &Option<Crossings>)
     ensures { IfSome by.now AreCounts }
