@@ -1,5 +1,6 @@
 -- A checkpoint, and a page that is written back.
-use Rattle.std.proofs.Common.{◌≡◌, ◌∙◌, ◌≤◌, ◌+◌, ℕ, [], ◌∷◌, ◌++◌, Option, length, refl, ap, sym, subst, arith, length-append}
+use Rattle.std.proofs.Common.{◌≡◌, ◌∙◌, ◌≤◌, ◌+◌, ℕ, [], ◌∷◌, ◌++◌, Option, Result, Ok, Err, length, refl, ap, sym, subst, arith, length-append}
+use Rattle.std.specs.Result.{OnErr, OnOk}
 use Rattle.mb_kinds.specs.Image.{Image}
 use Rattle.mb_edge.specs.Causes.{Rose}
 use Rattle.mb_cache.specs.Pages.{PageList}
@@ -15,6 +16,15 @@ use Rattle.mb_core_spec.specs.declared.stages.Stage.TheVariants as stage
 use Rattle.mb_run.specs.CoreSight.{sight_of}
 use Rattle.mb_run.specs.Events.{FlushesWith, sealed}
 use Rattle.mb_run.specs.Sights.{Sight, steps_left}
+
+-- what an answer gives, carried over to what follows from it
+pub if_ok : {T E P Q : Type 0} (answer : Result T E) → (P → Q) → OnOk answer P → OnOk answer Q
+if_ok (Ok value) follows holds = follows holds
+if_ok (Err fault) follows holds = tt
+
+pub if_err : {T E P Q : Type 0} (answer : Result T E) → (P → Q) → OnErr answer P → OnErr answer Q
+if_err (Ok value) follows holds = tt
+if_err (Err fault) follows holds = follows holds
 
 abbrev with_left : Sight → ℕ → Sight
 with_left sight n = record sight { left = n }
