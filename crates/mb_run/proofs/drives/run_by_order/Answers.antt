@@ -18,5 +18,5 @@ pub returns-clause-firsts : goal.returns-clause-firsts
 returns-clause-firsts g c = λ so letters fresh.
     let one = c.if-not-run_order.ensures.whole refl in
     let two = rw c.run_order.ensures.test at c.run_out.ensures.whole so in
-    order_rises _ _ _ _ _ _ _ (c.if-not-run_order.ensures.firsts refl letters fresh) two.firsts one.underway.callers (c.requires.callers ∙ sym c.run_order.ensures.length)
+    order_rises _ _ _ _ _ _ _ _ (c.if-not-run_order.ensures.firsts refl letters fresh) two.firsts one.underway.callers (c.requires.callers ∙ sym c.run_order.ensures.length)
     (complete _ _ _ _ two.underway (two.balanced (one.balanced c.requires.balanced)) (c.run_out.ensures.out so)) c.run_out.ensures.length
