@@ -8,12 +8,19 @@ use Rattle.mb_jobs.specs.declared.jobs.Caller.{Caller}
 use Rattle.mb_jobs.specs.Callers.{callers_in, next_caller, the_caller}
 use Rattle.mb_jobs.specs.Folds.{read_all}
 use Rattle.mb_jobs.specs.Keys.{Fields, fields_in, given, known_beside, known_fields, needs, or_unknown, some_callers, some_faults, some_order, texts_in, unknown_key, whole_from}
+use Rattle.mb_run.specs.Letters.{AreLetters, letters_of}
+use Rattle.mb_headline.proofs.Letters.{letters_read, the_letter}
 use Rattle.mb_headline.proofs.Reading.{and_then_some, needs_then, no_ok, no_some, ok_some, read_length, same_ok, when_some}
 
--- one to eight callers, and each number in its range
+-- one to eight callers, with letters of their own
+pub record AreCallers (callers : List Caller) : Type 0 where
+  pub some : 1 ≤ length callers
+  pub few : length callers ≤ 8
+  pub letters : AreLetters (letters_of callers)
+
+-- such callers, and each number in its range
 pub record AreFit (fields : Fields) : Type 0 where
-  pub some : 1 ≤ length fields.callers
-  pub few : length fields.callers ≤ 8
+  pub callers : AreCallers fields.callers
   pub limit : fields.limit ≤ 255
   pub start : fields.start ≤ 1000000000
   pub due : 1 ≤ fields.threshold
@@ -34,19 +41,20 @@ whole_has least most (integer (pos number)) n is =
     subst (IsWithin least most) (same_Some number n test.1) (leb-true least number both.0, leb-true number most both.1)
 whole_has least most value n is = absurd (no_some n is)
 
-abbrev AreSome : List Caller → Type 0
-AreSome callers = IsWithin 1 8 (length callers)
-
-callers_have : (texts : List (List ℕ)) (callers : List Caller) → callers_in texts ≡ Some callers → AreSome callers
+callers_have : (texts : List (List ℕ)) (callers : List Caller) → callers_in texts ≡ Some callers → AreCallers callers
 callers_have texts callers is =
     let test = when_some (nat_le 1 (length texts) && nat_le (length texts) 8) _ callers is in
     let both = and_parts (nat_le 1 (length texts)) (nat_le (length texts) 8) test.0 in
     let some : 1 ≤ length texts = leb-true 1 (length texts) both.0 in
     let few : length texts ≤ 8 = leb-true (length texts) 8 both.1 in
-    let same = read_length next_caller [] texts callers (ok_some (read_all next_caller [] texts) callers test.1) in
-    (omega (arith, some, same), omega (arith, few, same))
+    let all = ok_some (read_all next_caller [] texts) callers test.1 in
+    let same = read_length next_caller [] texts callers all in
+    record { some = omega (arith, some, same); few = omega (arith, few, same); letters = letters_read texts callers all }
 
-some_have : (value : Data) (callers : List Caller) → some_callers value ≡ Some callers → AreSome callers
+the_caller_has : AreCallers (the_caller ∷ [])
+the_caller_has = record { some = omega arith; few = omega arith; letters = the_letter }
+
+some_have : (value : Data) (callers : List Caller) → some_callers value ≡ Some callers → AreCallers callers
 some_have value callers is = let parts = and_then_some callers_in (texts_in value) callers is in callers_have parts.0 callers parts.2
 
 found_fit : (callers : List Caller) (limit start threshold : ℕ) (members : Members)
@@ -54,9 +62,9 @@ found_fit : (callers : List Caller) (limit start threshold : ℕ) (members : Mem
     → given 255 (whole_from 0 255) (get_member (codes "limit") members) ≡ Some limit
     → given 0 (whole_from 0 1000000000) (get_member (codes "start") members) ≡ Some start
     → given 64 (whole_from 1 4096) (get_member (codes "threshold") members) ≡ Some threshold
-    → AreSome callers × IsWithin 0 255 limit × IsWithin 0 1000000000 start × IsWithin 1 4096 threshold
+    → AreCallers callers × IsWithin 0 255 limit × IsWithin 0 1000000000 start × IsWithin 1 4096 threshold
 found_fit callers limit start threshold members some low early often = (
-  given_has AreSome (the_caller ∷ []) some_callers (get_member (codes "callers") members) callers (omega arith, omega arith) some_have some,
+  given_has AreCallers (the_caller ∷ []) some_callers (get_member (codes "callers") members) callers the_caller_has some_have some,
   given_has (IsWithin 0 255) 255 (whole_from 0 255) (get_member (codes "limit") members) limit (omega arith, omega arith) (whole_has 0 255) low,
   given_has (IsWithin 0 1000000000) 0 (whole_from 0 1000000000) (get_member (codes "start") members) start (omega arith, omega arith) (whole_has 0 1000000000) early,
   given_has (IsWithin 1 4096) 64 (whole_from 1 4096) (get_member (codes "threshold") members) threshold (omega arith, omega arith) (whole_has 1 4096) often,
@@ -93,7 +101,7 @@ known_fit calls members fields is =
     needs_then _ _ _ fields (AreFit fields) due (λ threshold often made.
     (let found : Fields = record { callers = callers; calls = texts; faults = faults; limit = limit; order = order; start = start; threshold = threshold } in
     let fit = found_fit callers limit start threshold members some low early often in
-    subst AreFit (same_ok (Ok found) found fields refl made) (record { some = fit.0.0; few = fit.0.1; limit = fit.1.1; start = fit.2.1; due = fit.3.0; often = fit.3.1 })))))))))
+    subst AreFit (same_ok (Ok found) found fields refl made) (record { callers = fit.0; limit = fit.1.1; start = fit.2.1; due = fit.3.0; often = fit.3.1 })))))))))
 
 known_of : (unknown : Option (List ℕ)) (found : Result Fields (List ℕ)) (fields : Fields) → or_unknown unknown found ≡ Ok fields → found ≡ Ok fields
 known_of None found fields is = is

@@ -1,4 +1,4 @@
--- A job that a text writes can be run, and its rules fire early.
+-- A job that a text writes can be run, its rules fire early, and its callers have letters of their own.
 use Rattle.std.proofs.Common.{◌≡◌, List, ℕ, ◌<◌, ◌≤◌, Ok, length, ap, sym, subst, ◌∙◌, arith}
 use Rattle.std.specs.List.{AllByRecursion}
 use Rattle.std.proofs.lemmas.List.{length-map}
@@ -9,6 +9,7 @@ use Rattle.mb_jobs.specs.Job.{job_in}
 use Rattle.mb_jobs.specs.Lists.{with_exits}
 use Rattle.mb_jobs.specs.declared.jobs.Caller.{Caller}
 use Rattle.mb_jobs.specs.declared.jobs.Job.{Job}
+use Rattle.mb_run.specs.Letters.{AreLetters, letters_of}
 use Rattle.mb_headline.specs.Headline.{IsConfigOf}
 use Rattle.mb_headline.specs.Laws.{IsFitJob, JobsAreFit}
 use Rattle.mb_headline.proofs.Fields.{fields_fit}
@@ -24,10 +25,10 @@ module _ (job : Job) (read : IsRead job) where
   calls_are = ap (λ (j : Job). j.calls) read.made.is
 
   fit_few : length job.callers ≤ 8
-  fit_few = (let few = (fields_fit read.members read.fields read.keyed).few in let same = ap length callers_are in omega (arith, few, same))
+  fit_few = (let few = (fields_fit read.members read.fields read.keyed).callers.few in let same = ap length callers_are in omega (arith, few, same))
 
   fit_calls : length job.calls ≤ 100008
-  fit_calls = (let few = all_few read.fields.callers read.fields.calls read.made.calls read.made.called in let callers = (fields_fit read.members read.fields read.keyed).few in
+  fit_calls = (let few = all_few read.fields.callers read.fields.calls read.made.calls read.made.called in let callers = (fields_fit read.members read.fields read.keyed).callers.few in
       let same = ap length calls_are in omega (arith, few, callers, same))
 
   fit_config : (config : Config) → IsConfigOf job config → config.most ≡ length job.calls → IsConfig config
@@ -41,7 +42,7 @@ module _ (job : Job) (read : IsRead job) where
       let fits : config.most ≤ 100008 = omega (arith, most, fit_calls) in
       let few : length config.callers ≤ 8 = omega (arith, callers, fit_few) in
       record {
-        some = (let some = fit.some in omega (arith, some, same, callers));
+        some = (let some = fit.callers.some in omega (arith, some, same, callers));
         callers = few;
         moments = (let product = mul-le config.most (length config.callers) 100008 8 fits few in let early = fit.start in omega (arith, product, early, start));
         due = (let due = fit.due in omega (arith, due, threshold));
@@ -63,8 +64,14 @@ module _ (job : Job) (read : IsRead job) where
   pub plan_early : AllByRecursion IsEarly job.plan
   plan_early = subst (AllByRecursion IsEarly) (ap (λ (j : Job). j.plan) read.made.is) (rules_early (with_exits read.fields.callers read.made.calls) read.fields.faults read.made.rules read.made.planned)
 
+  pub fit_letters : AreLetters (letters_of job.callers)
+  fit_letters = subst (λ callers. AreLetters (letters_of callers)) callers_are (fields_fit read.members read.fields read.keyed).callers.letters
+
 pub jobs_fit : JobsAreFit
 jobs_fit bytes job is = fit_job job (read_job bytes job is)
 
 pub planned_early : (bytes : List ℕ) (job : Job) → job_in bytes ≡ Ok job → AllByRecursion IsEarly job.plan
 planned_early bytes job is = plan_early job (read_job bytes job is)
+
+pub job_letters : (bytes : List ℕ) (job : Job) → job_in bytes ≡ Ok job → AreLetters (letters_of job.callers)
+job_letters bytes job is = fit_letters job (read_job bytes job is)

@@ -1,4 +1,5 @@
 pub mod Reading
+pub mod Letters
 pub mod Fields
 pub mod Lines
 pub mod Planned

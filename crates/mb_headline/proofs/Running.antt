@@ -4,6 +4,7 @@ use Rattle.std.specs.List.{AllByRecursion}
 use Rattle.mb_core_spec.specs.Faults.{FewDevices, MayNumber, Says}
 use Rattle.mb_core_spec.specs.State.{CoreState}
 use Rattle.mb_core_spec.specs.declared.stages.Stage.{Stage}
+use Rattle.mb_jobs.specs.declared.jobs.Caller.{Caller}
 use Rattle.mb_jobs.specs.declared.jobs.Job.{Job}
 use Rattle.mb_kinds.specs.Image.{Image}
 use Rattle.mb_kinds.specs.declared.entries.Entry.{Entry}
@@ -13,13 +14,14 @@ use Rattle.mb_kinds.specs.declared.replies.Reply.TheVariants as reply
 use Rattle.mb_plan.specs.Fires.{fires}
 use Rattle.mb_plan.specs.declared.rules.Rule.{Rule}
 use Rattle.mb_run.specs.Drives.{HasEachMoment, IsLinedUp, RisesByOrder}
+use Rattle.mb_run.specs.Letters.{AreLetters, letters_of}
 use Rattle.mb_run.specs.Recovering.{crossing_of}
 use Rattle.mb_run.specs.Runs.{AreDistinct, HasFailed, HasRecords, NamesTwo}
 use Rattle.mb_run.specs.Served.{AreApart, AreSound, IsApart, calls_in}
 use Rattle.mb_tree.specs.History.{Legal}
 use Rattle.mb_tree.specs.Opening.{opening}
 use Rattle.mb_tree.specs.declared.trees.Tree.{Tree}
-use Rattle.mb_headline.specs.Headline.{HasHistory, HasOwnCalls, IsConfigOf, IsRun, opened}
+use Rattle.mb_headline.specs.Headline.{HasHistory, HasOwnCalls, IsConfigOf, IsRun, RiseAsOrdered, opened}
 use Rattle.mb_headline.specs.Laws.{IsPath}
 use Rattle.mb_headline.proofs.Planned.{IsEarly, fires_early}
 
@@ -79,6 +81,13 @@ all_failed : (records : List FaultRecord) (limit : ℕ) (now : Stage) (history :
 all_failed records limit now [] few says = tt
 all_failed records limit now (entry ∷ history) few says = (says_failed records limit now entry.caller entry.ordinal entry.reply few says.0, all_failed records limit now history few says.1)
 
+-- ---- the order
+
+-- the letters of a job are as an order wants them
+rise_as_ordered : (order : Option (List ℕ)) (callers : List Caller) (history : List Entry) → AreLetters (letters_of callers) → RisesByOrder order callers history → RiseAsOrdered order callers history
+rise_as_ordered None callers history letters rises = tt
+rise_as_ordered (Some order) callers history letters rises = rises letters
+
 -- ---- the path
 
 module _ {F D : Type 0} (fs : F) (told : D → Option Image) (faults : D → ℕ) (job : Job) (disk : D) (begun driven ended : CoreState F D) (path : IsPath fs told faults job disk begun driven ended) where
@@ -131,8 +140,11 @@ module _ {F D : Type 0} (fs : F) (told : D → Option Image) (faults : D → ℕ
       let count = path.right.devices low in
       omega (arith, count, path_scanned)
 
-  pub path_run : AllByRecursion IsEarly job.plan → IsRun told faults job disk ended
-  path_run early = record {
+  path_firsts : AreLetters (letters_of job.callers) → RiseAsOrdered job.order job.callers ended.journal.history
+  path_firsts letters = subst (RiseAsOrdered job.order job.callers) (sym path_history) (rise_as_ordered job.order job.callers driven.journal.history letters path.drives.firsts)
+
+  pub path_run : AllByRecursion IsEarly job.plan → AreLetters (letters_of job.callers) → IsRun told faults job disk ended
+  path_run early letters = record {
     right = path.right;
     first = path_first;
     config = path_config;
@@ -140,7 +152,7 @@ module _ {F D : Type 0} (fs : F) (told : D → Option Image) (faults : D → ℕ
     own_calls = path_calls;
     moments = subst (HasEachMoment job.start) (sym path_history) path.drives.moments;
     lined = subst (IsLinedUp job.order job.calls job.start) (sym path_history) path.drives.lined;
-    firsts = subst (RisesByOrder job.order job.callers) (sym path_history) path.drives.firsts;
+    firsts = path_firsts letters;
     records = path_recorded early;
     failures = all_failed ended.journal.records job.limit ended.stage ended.journal.history path_few path_says;
     devices = path_devices;

@@ -11,8 +11,9 @@ use Rattle.mb_jobs.specs.declared.jobs.Caller.{Caller}
 use Rattle.mb_jobs.specs.declared.jobs.Job.{Job}
 use Rattle.mb_kinds.specs.Image.{Image}
 use Rattle.mb_kinds.specs.declared.entries.Entry.{Entry}
-use Rattle.mb_run.specs.Drives.{HasEachMoment, IsLinedUp, RisesByOrder}
-use Rattle.mb_run.specs.Runs.{HasFailed, HasRecords}
+use Rattle.mb_run.specs.Drives.{HasEachMoment, IsLinedUp}
+use Rattle.mb_run.specs.Letters.{letters_of}
+use Rattle.mb_run.specs.Runs.{FirstsRise, HasFailed, HasRecords}
 use Rattle.mb_run.specs.Served.{calls_in, calls_of}
 use Rattle.mb_tree.specs.History.{Legal, after_first}
 use Rattle.mb_tree.specs.Opening.{opening}
@@ -49,6 +50,11 @@ HasHistory told job disk history = OverVolume told disk (λ image tree. Legal (o
 abbrev pub HasOwnCalls : Job → List Entry → Type 0
 HasOwnCalls job history = (caller : ℕ) → caller < length job.callers → calls_in history caller ≡ calls_of job.calls caller
 
+-- by an order the moments of the callers' first calls rise as the callers' letters first stand in it
+abbrev pub RiseAsOrdered : Option (List ℕ) → List Caller → List Entry → Type 0
+RiseAsOrdered None callers history = Unit {0}
+RiseAsOrdered (Some order) callers history = FirstsRise order (letters_of callers) history
+
 -- a job that was run over a disk: the core began over it for the job; its history is a legal one, in which each caller's calls
 -- stand once, in its order, each at one of the moments after the start; by an order the first calls begin as the callers'
 -- letters first stand in it; its fault records are of faults of the plan; and the disk ended at most as many calls as it had
@@ -61,7 +67,7 @@ pub record IsRun {F D : Type 0} (told : D → Option Image) (faults : D → ℕ)
   pub own_calls : HasOwnCalls job core.journal.history
   pub moments : HasEachMoment job.start core.journal.history
   pub lined : IsLinedUp job.order job.calls job.start core.journal.history
-  pub firsts : RisesByOrder job.order job.callers core.journal.history
+  pub firsts : RiseAsOrdered job.order job.callers core.journal.history
   pub records : HasRecords job.plan core.journal.history core.journal.records
   pub failures : AllByRecursion (λ (entry : Entry). HasFailed job.limit core.journal.records entry.reply) core.journal.history
   pub devices : FewDevices (faults disk) (faults core.cache.disk) core.journal.history
