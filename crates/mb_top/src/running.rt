@@ -53,7 +53,8 @@ pub fn run_over<D: Disk>(alloc: Global, disk: D, job: &Job) -> Decided<D>
 
 // What a core is begun with for a job.
 fn config_of(alloc: Global, job: &Job) -> Result<Config, NoMemory>
-    requires { length job.now.calls ≤ 4294967295 }
+    requires few { length job.now.callers ≤ 8 }
+    requires calls { length job.now.calls ≤ 4294967295 }
     ensures config { IfOk result (IsConfigOf job.now) }
     ensures most { IfOk result (λ config. config.most ≡ length job.now.calls) }
 {
