@@ -1,19 +1,12 @@
 -- What comes of a `run`, from what comes of its job.
 use Rattle.std.proofs.Common.{List, ℕ, ◌≡◌, Option, refl}
-use Rattle.mb_core_spec.specs.State.{CoreState}
-use Rattle.mb_fsops.specs.declared.v7.V7.{V7}
 use Rattle.mb_kinds.specs.Image.{Image}
-use Rattle.mb_top.specs.Held.{HoldsCore}
+use Rattle.mb_top.proofs.Runs.{nobody}
 use Rattle.mb_top.specs.Outcomes.{ComesOfRunWords, IsJobRefused, IsJobRun, OfBytes}
 use Rattle.mb_top.specs.declared.finish.Held.{Held}
 use Rattle.mb_top.specs.declared.finish.Held.TheVariants as held
 use Rattle.mb_top.specs.declared.outcomes.Outcome.{Outcome}
 use Rattle.mb_top.specs.declared.outcomes.Outcome.TheVariants.{WordsRefused, CommandNotBuilt, InputFault, JobRefused, DiskFault, OutOfMemory, Made, Checked, Unsound, Unsettled, GivenUp, Ran}
-
--- no core is held of which nothing holds
-nobody : {D : Type 0} (given : Held D) → HoldsCore given (λ (core : CoreState V7 D). ⊥) → ⊥
-nobody (held.Disk disk) is = is
-nobody (held.Core core) is = is
 
 pub of_job : {D : Type 0} (told : D → Option Image) (faults : D → ℕ) (left : Option (List ℕ)) (disk : D) (given : Held D) (outcome : Outcome)
     → OfBytes left (λ bytes. IsJobRun told faults bytes disk given outcome) → ComesOfRunWords told faults left disk given outcome

@@ -1,7 +1,6 @@
 ghost use Rattle.std.specs.Prelude.{◌≡◌, ◌≢◌, ◌≤◌, ◌++◌, ℕ, List, length, Ok, IfOk};
 ghost use Rattle.mb_core_events.specs.Beginning.{TellsVolume};
 ghost use Rattle.mb_core_spec.specs.Right.{Right};
-ghost use Rattle.mb_edge.specs.Causes.{Rose};
 ghost use Rattle.mb_headline.specs.Headline.{IsConfigOf};
 ghost use Rattle.mb_jobs.specs.Job.{job_in};
 ghost use Rattle.mb_print.specs.Transcript.{end_text, failed_text, transcript_text};
@@ -9,7 +8,7 @@ ghost use Rattle.mb_core_spec.specs.declared.stages.Stage.TheVariants as Stage;
 ghost use Rattle.mb_run.specs.CoreSight.{sight_of};
 ghost use Rattle.mb_run.specs.Drives.{IsBegun, IsRunnable};
 ghost use Rattle.mb_top.specs.Held.{HoldsCore, held_disk};
-ghost use Rattle.mb_top.specs.Outcomes.{ComesOfCore, ComesOfJob, IsBegunFor, IsDiskFault, Says, ended_text, unsettled_text};
+ghost use Rattle.mb_top.specs.Outcomes.{ComesOfCore, ComesOfJob, IsBegunFor, Says, ended_text, unsettled_text};
 
 use crate::deciding::{Decided, refused_as};
 use crate::finish::Held;
@@ -31,7 +30,6 @@ use std::alloc::{AllocError, Global};
 pub fn run_over<D: Disk>(alloc: Global, disk: D, job: &Job) -> Decided<D>
     requires { (bytes : List ℕ) × (job_in bytes ≡ Ok job.now) }
     ensures over { ComesOfJob D.told D.faults job.now disk result.held result.outcome }
-    ensures device { IsDiskFault result.outcome → Rose (D.faults disk) (D.faults (held_disk result.held)) }
     ensures later { D.faults disk ≤ D.faults (held_disk result.held) }
 {
     jobs_are_fit();
@@ -77,7 +75,6 @@ fn run_begun<D: Disk>(alloc: Global, core: Core<V7, D>, job: &Job) -> Decided<D>
     requires runnable { IsRunnable job.now }
     requires begun { IsBegun job.now (sight_of core) }
     ensures core { (disk : D) (fs : V7) → IsBegunFor D.told D.faults fs job.now disk core → HoldsCore result.held (λ held. ComesOfCore D.told D.faults job.now disk held result.outcome) }
-    ensures device { (disk : D) (fs : V7) → IsBegunFor D.told D.faults fs job.now disk core → IsDiskFault result.outcome → Rose (D.faults disk) (D.faults (held_disk result.held)) }
     ensures later { D.faults core.first ≤ D.faults (held_disk result.held) }
 {
     paths_are_runs::<V7, D>();
@@ -91,12 +88,17 @@ fn run_begun<D: Disk>(alloc: Global, core: Core<V7, D>, job: &Job) -> Decided<D>
     }
     let Settled { core, end } = settle(alloc, core);
     in_order(&core.core);
-    let outcome = match end {
-        SettleEnd::Clean => ended(alloc, job, &core.core),
-        SettleEnd::Device => unsettled(alloc, job, &core.core),
-        SettleEnd::NoMemory => Outcome::OutOfMemory,
-    };
-    held(core, outcome)
+    match end {
+        SettleEnd::Clean => {
+            let outcome = ended(alloc, job, &core.core);
+            return held(core, outcome);
+        }
+        SettleEnd::Device => {
+            let outcome = unsettled(alloc, job, &core.core);
+            return held(core, outcome);
+        }
+        SettleEnd::NoMemory => return held(core, Outcome::OutOfMemory),
+    }
 }
 
 // A core is always in order. It does nothing, and shows this to whoever calls it.
