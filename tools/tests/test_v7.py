@@ -304,11 +304,22 @@ class RoundTrip(Case):
         names = [f"directory.{number:04}" for number in range(30)]
         deep = os.path.join(self.at("tree"), *names)
         os.makedirs(deep)
+        os.mkdir(os.path.join(self.at("tree"), *names[:16], "seventeen.name"))
         self.file(os.path.join(deep, "file"), b"far down" * 100)
         self.file(os.path.join(deep, "other"), b"z")
         os.link(os.path.join(deep, "file"), os.path.join(deep, "link"))
+        # 17 names and their slashes are 255 bytes; then the last word of this path alone would say the empty path
+        self.file(os.path.join(self.at("tree"), *names[:16], "seventeen.name", '""'), b"quotes")
         os.link(os.path.join(deep, "file"), self.at("tree", "near"))
         self.new()
+        # of the name that is left of a path that is not there yet, once its first 255 bytes are gone through
+        self.file("tree/directory.0017", b"in the root")
+        self.v7("put", "volume.v7", "tree/directory.0017", "/")
+        self.v7("put", "-r", "volume.v7", "tree/.", "/")
+        self.assert_tree(self.volume(), self.at("tree"))
+        self.v7("put", "-r", "volume.v7", "tree/.", "/")
+        self.assert_tree(self.volume(), self.at("tree"))
+        self.v7("rm", "-r", "volume.v7", "/near", "/directory.0017", f"/{names[0]}")
         self.v7("put", "-r", "volume.v7", "tree", "/t")
         self.assert_tree(self.volume(), self.at("tree"), b"/t")
         path = "/t/" + "/".join(names)
@@ -447,6 +458,24 @@ class Refusals(Case):
         # one part at the end, and two index blocks that lead to it
         self.v7("put", "-r", "volume.v7", "tree", "/")
         self.assertEqual(len(self.volume().free), 95 - 1 - 89 - 3)
+
+    def test_the_blocks_that_a_file_holds(self):
+        blocks_for = self.module().blocks_for
+        for parts, index_blocks in (
+            (range(0), 0),
+            (range(10), 0),
+            (range(11), 1),
+            (range(138), 1),
+            (range(139), 1 + 2),
+            (range(138 + 128), 1 + 2),
+            (range(138 + 129), 1 + 3),
+            (range(16_522), 1 + 129),
+            (range(16_523), 1 + 129 + 3),
+            (range(16_522 + 16_385), 1 + 129 + 1 + 2 + 129),
+            ({0, 2047}, 2),
+            ({9, 10, 2_113_673}, 1 + 3),
+        ):
+            self.assertEqual(blocks_for(parts), len(parts) + index_blocks)
 
     def test_a_run_that_fails_in_the_middle_changes_nothing(self):
         os.mkdir(self.at("tree"))
@@ -746,6 +775,15 @@ class Outside(Case):
         with self.unchanged():
             said = self.v7("mkdir", "volume.v7", "/a", status=1, program=program)[1]
         self.assertIn("/a: the disk failed during the call (EIO)", said)
+
+    def test_a_write_that_is_refused(self):
+        self.new()
+        self.file("f", bytes(range(256)) * 300)
+        for reply, status, said in (("ENOSPC", 1, "ENOSPC"), ("11776", 0, ""), ("11775", 71, "/f: a write of 11776")):
+            program = self.program(f"#!/bin/sh\n'{PROGRAM}' \"$@\" | sed '/^3 a hex/s/= .*/= {reply}/'\n")
+            before = self.bytes()
+            self.assertIn(said, self.v7("put", "volume.v7", "f", "/", status=status, program=program)[1])
+            self.assertEqual(self.bytes() == before, status != 0)
 
     def test_a_get_that_fails_leaves_no_half_file(self):
         self.new()
