@@ -22,6 +22,7 @@ import time
 import unittest
 from unittest import mock
 
+sys.dont_write_bytecode = True
 from volume_reader import BLOCK, DIRECTORY, Volume
 
 TOP = os.path.dirname(os.path.dirname(os.path.dirname(os.path.abspath(__file__))))
@@ -88,7 +89,6 @@ class Case(unittest.TestCase):
         """The command as a module."""
         loader = importlib.machinery.SourceFileLoader("v7", TOOL)
         module = importlib.util.module_from_spec(importlib.util.spec_from_loader("v7", loader))
-        sys.dont_write_bytecode = True
         loader.exec_module(module)
         os.environ["MEMBRANE"] = PROGRAM
         # a change leaves them blocked up to the end of the command
@@ -406,6 +406,7 @@ class Refusals(Case):
         os.makedirs(self.at("tree", "fifteen.letters"))
         os.mkdir(self.at("tree", "fourteen.chars"))
         self.file("tree/fifteen.letters/in", b"")
+        self.file("tree/fifteen.letters/x y", b"")
         self.file("tree/a b", b"")
         self.file("tree/\u00e9", b"")
         os.symlink("a", self.at("tree", "link"))
@@ -416,12 +417,13 @@ class Refusals(Case):
         for words in (
             "fifteen.letters: its name has 15 bytes; V7 has room for 14",
             "a b: its name has the byte 0x20, which no job can say",
+            "x y: its name has the byte 0x20",
             "\u00e9: its name has the byte 0xc3",
             "link: a symbolic link",
             "pipe: no plain file",
         ):
             self.assertIn(words, said)
-        self.assertEqual(len(said.splitlines()), 5)
+        self.assertEqual(len(said.splitlines()), 6)
         for command, *paths in (("mkdir", "/fifteen.letters"), ("ls", "/a b"), ("ln", "a", "\u00e9")):
             with self.unchanged():
                 self.v7(command, "volume.v7", *paths, status=1)
