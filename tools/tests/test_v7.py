@@ -8,6 +8,7 @@ They need the built program, or one that the variable MEMBRANE names.
 import contextlib
 import importlib.machinery
 import importlib.util
+import io
 import os
 import random
 import re
@@ -19,7 +20,9 @@ import sys
 import tempfile
 import time
 import unittest
+from unittest import mock
 
+sys.dont_write_bytecode = True
 from volume_reader import BLOCK, DIRECTORY, Volume
 
 TOP = os.path.dirname(os.path.dirname(os.path.dirname(os.path.abspath(__file__))))
@@ -86,9 +89,10 @@ class Case(unittest.TestCase):
         """The command as a module."""
         loader = importlib.machinery.SourceFileLoader("v7", TOOL)
         module = importlib.util.module_from_spec(importlib.util.spec_from_loader("v7", loader))
-        sys.dont_write_bytecode = True
         loader.exec_module(module)
         os.environ["MEMBRANE"] = PROGRAM
+        # a change leaves them blocked up to the end of the command
+        self.addCleanup(signal.pthread_sigmask, signal.SIG_UNBLOCK, module.STOPS)
         return module
 
     @contextlib.contextmanager
@@ -300,11 +304,22 @@ class RoundTrip(Case):
         names = [f"directory.{number:04}" for number in range(30)]
         deep = os.path.join(self.at("tree"), *names)
         os.makedirs(deep)
+        os.mkdir(os.path.join(self.at("tree"), *names[:16], "seventeen.name"))
         self.file(os.path.join(deep, "file"), b"far down" * 100)
         self.file(os.path.join(deep, "other"), b"z")
         os.link(os.path.join(deep, "file"), os.path.join(deep, "link"))
+        # 17 names and their slashes are 255 bytes; then the last word of this path alone would say the empty path
+        self.file(os.path.join(self.at("tree"), *names[:16], "seventeen.name", '""'), b"quotes")
         os.link(os.path.join(deep, "file"), self.at("tree", "near"))
         self.new()
+        # of the name that is left of a path that is not there yet, once its first 255 bytes are gone through
+        self.file("tree/directory.0017", b"in the root")
+        self.v7("put", "volume.v7", "tree/directory.0017", "/")
+        self.v7("put", "-r", "volume.v7", "tree/.", "/")
+        self.assert_tree(self.volume(), self.at("tree"))
+        self.v7("put", "-r", "volume.v7", "tree/.", "/")
+        self.assert_tree(self.volume(), self.at("tree"))
+        self.v7("rm", "-r", "volume.v7", "/near", "/directory.0017", f"/{names[0]}")
         self.v7("put", "-r", "volume.v7", "tree", "/t")
         self.assert_tree(self.volume(), self.at("tree"), b"/t")
         path = "/t/" + "/".join(names)
@@ -358,7 +373,7 @@ class Limits(Case):
         draw = random.Random(3)
         tree = self.at("tree")
         os.makedirs(os.path.join(tree, "a" * 14, "b" * 14))
-        for number in range(30):
+        for number in range(18):
             content = draw.randbytes(draw.randrange(9000)) if number % 2 else bytes(600) * 4 + b"x" * 5000 + bytes(700)
             self.file(os.path.join(tree, "a" * 14, *["b" * 14] * (number % 3 == 0), f"file{number}"), content)
         for limits in ((6_000, 100_000, 1 << 24), (1 << 22, 40, 1 << 24), (1 << 22, 100_000, 1_500)):
@@ -391,6 +406,7 @@ class Refusals(Case):
         os.makedirs(self.at("tree", "fifteen.letters"))
         os.mkdir(self.at("tree", "fourteen.chars"))
         self.file("tree/fifteen.letters/in", b"")
+        self.file("tree/fifteen.letters/x y", b"")
         self.file("tree/a b", b"")
         self.file("tree/\u00e9", b"")
         os.symlink("a", self.at("tree", "link"))
@@ -401,12 +417,13 @@ class Refusals(Case):
         for words in (
             "fifteen.letters: its name has 15 bytes; V7 has room for 14",
             "a b: its name has the byte 0x20, which no job can say",
+            "x y: its name has the byte 0x20",
             "\u00e9: its name has the byte 0xc3",
             "link: a symbolic link",
             "pipe: no plain file",
         ):
             self.assertIn(words, said)
-        self.assertEqual(len(said.splitlines()), 5)
+        self.assertEqual(len(said.splitlines()), 6)
         for command, *paths in (("mkdir", "/fifteen.letters"), ("ls", "/a b"), ("ln", "a", "\u00e9")):
             with self.unchanged():
                 self.v7(command, "volume.v7", *paths, status=1)
@@ -443,6 +460,24 @@ class Refusals(Case):
         # one part at the end, and two index blocks that lead to it
         self.v7("put", "-r", "volume.v7", "tree", "/")
         self.assertEqual(len(self.volume().free), 95 - 1 - 89 - 3)
+
+    def test_the_blocks_that_a_file_holds(self):
+        blocks_for = self.module().blocks_for
+        for parts, index_blocks in (
+            (range(0), 0),
+            (range(10), 0),
+            (range(11), 1),
+            (range(138), 1),
+            (range(139), 1 + 2),
+            (range(138 + 128), 1 + 2),
+            (range(138 + 129), 1 + 3),
+            (range(16_522), 1 + 129),
+            (range(16_523), 1 + 129 + 3),
+            (range(16_522 + 16_385), 1 + 129 + 1 + 2 + 129),
+            ({0, 2047}, 2),
+            ({9, 10, 2_113_673}, 1 + 3),
+        ):
+            self.assertEqual(blocks_for(parts), len(parts) + index_blocks)
 
     def test_a_run_that_fails_in_the_middle_changes_nothing(self):
         os.mkdir(self.at("tree"))
@@ -484,7 +519,8 @@ class Refusals(Case):
                 self.assertIn(f"v7: {said}", self.v7(words[0], "volume.v7", *words[1:], status=1)[1])
         for path in ("/x/y", "/x/"):
             with self.unchanged():
-                self.assertIn("v7: /x: no such file or directory", self.v7("put", "volume.v7", "one", path, status=1)[1])
+                said = self.v7("put", "volume.v7", "one", path, status=1)[1]
+            self.assertIn("v7: /x: no such file or directory", said)
         os.mkdir(self.at("f"))
         with self.unchanged():
             said = self.v7("put", "-r", "volume.v7", "f", "/d", status=1)[1]
@@ -610,6 +646,24 @@ class Listings(Case):
         after = os.stat(self.image)
         self.assertEqual((before.st_ino, before.st_mtime_ns), (after.st_ino, after.st_mtime_ns))
 
+    def test_an_image_that_cannot_be_written_is_read_from_a_copy(self):
+        v7 = self.module()
+        seen, start = [], v7.start_program
+
+        def noted(command, image, words=(), job=None):
+            seen.append(image)
+            return start(command, image, words, job)
+
+        v7.start_program = noted
+        with mock.patch.object(v7.os, "access", lambda path, how: how != os.W_OK):
+            v7.copy_out(self.image, b"/d", self.at("out"), True, False)
+            with contextlib.redirect_stdout(io.StringIO()) as printed:
+                v7.check(self.image)
+        self.assertEqual(self.bytes(self.at("out", "h")), b"hello\n")
+        self.assertIn("sound: 4 inodes", printed.getvalue())
+        self.assertNotIn(self.image, seen)
+        self.assertFalse(any(map(os.path.exists, seen)))
+
     def test_names_that_no_job_can_say_are_listed_and_left_out(self):
         image = self.bytes()
         # the name 'link' in the root, 14 bytes padded with 0
@@ -700,13 +754,21 @@ class Outside(Case):
         ):
             program = self.program(f"#!/bin/sh\ncat >/dev/null\necho '{last}'\nexit {status}\n")
             with self.unchanged():
-                for words in (("put", "f", "/"), ("ls", "/"), ("mkdir", "/a")):
+                for words in (("put", "f", "/"), ("ls", "/")):
                     self.assertIn(said, self.v7(words[0], "volume.v7", *words[1:], status=wanted, program=program)[1])
         with self.unchanged():
             self.v7("mkdir", "volume.v7", "/a", status=71, program=self.program("#!/bin/sh\nkill -9 $$\n"))
             self.v7("ls", "volume.v7", status=70, program=self.at("nothing"))
             self.v7("new", "x", "100", "8", status=5, program=self.program("#!/bin/sh\necho disk fault\nexit 5\n"))
             self.assertFalse(os.path.exists(self.at("x")))
+
+    def test_a_transcript_that_is_cut_is_not_taken_for_done(self):
+        self.new()
+        call, last = "1 a mkdir /a 755 = 0", "end 2 faults 0 seal 2"
+        for lines in ("", call, last, f"{call}\n{last}"):
+            program = self.program(f"#!/bin/sh\ncat >/dev/null\necho '{lines}'\n")
+            with self.unchanged():
+                self.assertIn("transcript", self.v7("mkdir", "volume.v7", "/a", status=71, program=program)[1])
 
     def test_a_call_that_the_disk_fails(self):
         self.new()
@@ -715,6 +777,15 @@ class Outside(Case):
         with self.unchanged():
             said = self.v7("mkdir", "volume.v7", "/a", status=1, program=program)[1]
         self.assertIn("/a: the disk failed during the call (EIO)", said)
+
+    def test_a_write_that_is_refused(self):
+        self.new()
+        self.file("f", bytes(range(256)) * 300)
+        for reply, status, said in (("ENOSPC", 1, "ENOSPC"), ("11776", 0, ""), ("11775", 71, "/f: a write of 11776")):
+            program = self.program(f"#!/bin/sh\n'{PROGRAM}' \"$@\" | sed '/^3 a hex/s/= .*/= {reply}/'\n")
+            before = self.bytes()
+            self.assertIn(said, self.v7("put", "volume.v7", "f", "/", status=status, program=program)[1])
+            self.assertEqual(self.bytes() == before, status != 0)
 
     def test_a_get_that_fails_leaves_no_half_file(self):
         self.new()
@@ -732,7 +803,7 @@ class Outside(Case):
     def test_a_command_that_is_stopped_leaves_the_image_as_it_was(self):
         self.new()
         began = self.at("began")
-        program = self.program(f"#!/bin/sh\n'{PROGRAM}' \"$@\" >/dev/null\n: >'{began}'\nexec sleep 60\n")
+        program = self.program(f"#!/bin/sh\n'{PROGRAM}' \"$@\" >/dev/null\n: >'{began}'\nexec sleep 20\n")
         for number, status in ((signal.SIGTERM, 143), (signal.SIGINT, 130), (signal.SIGKILL, -9)):
             before = self.bytes()
             running = subprocess.Popen(
@@ -819,6 +890,19 @@ class PromptAndPages(Case):
             (self.at("ho"), ["get", "a"], [self.at("host")]),
         ):
             self.assertEqual(prompt.begin_with(text, before), found)
+
+    def test_the_session_of_the_read_me_is_as_it_says(self):
+        with open(os.path.join(TOP, "tools", "README.md"), encoding="utf-8") as file:
+            session = re.findall(r"(?m)^    \$ (.*)\n((?:(?:    (?!\$).*)?\n(?!\|))*)", file.read())
+        self.assertEqual(len(session), 8)
+        path = os.path.dirname(TOOL) + os.pathsep + os.environ["PATH"]
+        environment = {**os.environ, "PATH": path, "MEMBRANE": PROGRAM}
+        for words, printed in session:
+            done = subprocess.run(
+                ["bash", "-euc", f"umask 22; {words}"], cwd=self.folder, env=environment, capture_output=True
+            )
+            self.assertEqual((done.returncode, done.stderr), (0, b""), words)
+            self.assertEqual(done.stdout.decode().rstrip(), re.sub("(?m)^    ", "", printed).rstrip(), words)
 
     def test_help_and_man_page_have_every_command_and_status(self):
         said = self.v7("--help")[0].decode()
