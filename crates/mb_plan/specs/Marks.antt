@@ -4,7 +4,7 @@ use Rattle.mb_plan.specs.declared.rules.Rule.{Rule}
 
 -- the slot of a call; several calls may share one
 abbrev pub slot_of : ℕ → ℕ → ℕ
-slot_of caller ordinal = (caller * 2048 + ordinal) % 16384
+slot_of caller ordinal = (caller * 8192 + ordinal) % 65536
 
 -- the slot of a call has a mark
 abbrev pub is_marked : List Bool → ℕ → ℕ → Bool

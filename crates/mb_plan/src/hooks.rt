@@ -15,7 +15,7 @@ struct Blow<'a> {
     damage: &'a Damage,
 }
 
-/// A fault injector that goes by a plan, which it borrows. It needs no memory, and has a table of 16 KiB in
+/// A fault injector that goes by a plan, which it borrows. It needs no memory, and has a table of 64 KiB in
 /// itself: pass it by reference.
 #[derive(Drop)]
 pub struct PlanHook<'a> {

@@ -7,8 +7,8 @@ use crate::rules::Rule;
 use mb_edge::Crossing;
 use std::marker::Model;
 
-/// The slots that calls share, about seven of the 100,000 calls of the longest job each.
-const SLOTS: usize = 16384;
+/// The slots that calls share: hardly more than two of the 100,000 calls of the longest job have one in common.
+const SLOTS: usize = 65536;
 
 /// The rules of a plan, with a mark in the slot of each call that one of them means. Most calls of a long job
 /// have no rule: their slots have no mark, which one look tells, however many rules there are. A contract sees
@@ -35,7 +35,7 @@ impl<'a> Model for MarkedRules<'a> {
 /// even distances, so that few calls share one.
 fn slot_of(caller: u8, ordinal: u32) -> usize
     ensures slot { result ≡ slot_of caller ordinal }
-    ensures bound { result < 16384 }
+    ensures bound { result < 65536 }
 {
     (usize::from(caller) * (SLOTS / 8) + ordinal as usize) % SLOTS
 }

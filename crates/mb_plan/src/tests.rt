@@ -52,7 +52,7 @@ fn a_rule_fires_at_its_call_its_kind_and_its_numbers(rt: HostRuntime) -> Result<
         (at(5, Kind::Gather, 5), Word::Go),
         (at(5, Kind::Finish, 3), Word::Go),
         (at(6, Kind::Gather, 3), Word::Go),
-        (at(5 + 16_384, Kind::Gather, 3), Word::Go),
+        (at(5 + 65_536, Kind::Gather, 3), Word::Go),
     ] {
         assert_eq!(rt; hook.cross(&crossing), word);
     }
