@@ -1,2 +1,3 @@
 pub mod FirstRules
+pub mod Marking
 pub mod SingleRules

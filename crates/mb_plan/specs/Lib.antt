@@ -1,2 +1,3 @@
 pub mod Fires
 pub mod Hooked
+pub mod Marks

@@ -1,9 +1,9 @@
-ghost use Rattle.std.specs.Prelude.{◌≡◌, Some, None, [], find, option_map};
+ghost use Rattle.std.specs.Prelude.{◌≡◌, Some, None, [], option_map};
 ghost use Rattle.mb_edge.specs.Hooks.{AnswersTest, HasFaultCause, strokes_at, struck_by};
 ghost use Rattle.mb_edge.specs.declared.hooks.Word.TheVariants.{Fault};
-ghost use Rattle.mb_plan.specs.Fires.{damage_at, fires, rule_fires};
-ghost use Rattle.mb_plan.specs.declared.rules.Rule.{Rule};
+ghost use Rattle.mb_plan.specs.Fires.{damage_at, fires};
 
+use crate::marked::MarkedRules;
 use crate::rules::Rule;
 use mb_edge::{Crossing, Damage, Hook, Word};
 use std::marker::Model;
@@ -15,10 +15,11 @@ struct Blow<'a> {
     damage: &'a Damage,
 }
 
-/// A fault injector that goes by a plan, which it borrows. It needs no memory.
+/// A fault injector that goes by a plan, which it borrows. It needs no memory, and has a table of 64 KiB in
+/// itself: pass it by reference.
 #[derive(Drop)]
 pub struct PlanHook<'a> {
-    rules: &'a [Rule],
+    rules: MarkedRules<'a>,
     blow: Option<Blow<'a>>,
     faults: u64,
 }
@@ -30,14 +31,7 @@ impl<'a> Model for PlanHook<'a> {
 
     ghost Value = { Hooked };
 
-    ghost view = { λ a. record { rules = a.rules.now; struck = option_map (λ blow. blow.at) a.blow; strokes = option_map_or (λ blow. blow.damage.now) a.blow []; faults = a.faults } };
-}
-
-/// The first rule that fires at a crossing.
-fn first_that_fires<'a>(rules: &'a [Rule], at: &Crossing) -> Option<&'a Rule>
-    ensures { option_map (λ rule. rule.now) result ≡ find (λ (rule : Rule). rule_fires rule at.now) rules.now }
-{
-    rules.iter().find(|rule| rule.fires_at(at))
+    ghost view = { λ a. record { rules = a.rules; struck = option_map (λ blow. blow.at) a.blow; strokes = option_map_or (λ blow. blow.damage.now) a.blow []; faults = a.faults } };
 }
 
 impl<'a> PlanHook<'a> {
@@ -46,7 +40,7 @@ impl<'a> PlanHook<'a> {
         ensures { result ≡ record { rules = rules.now; struck = None; strokes = []; faults = 0 } }
     {
         PlanHook {
-            rules,
+            rules: MarkedRules::over(rules),
             blow: None,
             faults: 0,
         }
@@ -70,7 +64,7 @@ impl<'a> Hook for PlanHook<'a> {
         ensures strokes { self.new.strokes ≡ damage_at self.old.rules at.now }
         ensures rules { self.new.rules ≡ self.old.rules }
     {
-        match first_that_fires(self.rules, at) {
+        match self.rules.first_that_fires(at) {
             Some(rule) => {
                 self.blow = Some(Blow {
                     at: *at,

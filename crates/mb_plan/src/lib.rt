@@ -8,6 +8,7 @@
 
 mod hooks;
 mod laws;
+mod marked;
 mod plans;
 mod rules;
 #[cfg(test)]

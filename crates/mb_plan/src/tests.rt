@@ -52,14 +52,17 @@ fn a_rule_fires_at_its_call_its_kind_and_its_numbers(rt: HostRuntime) -> Result<
         (at(5, Kind::Gather, 5), Word::Go),
         (at(5, Kind::Finish, 3), Word::Go),
         (at(6, Kind::Gather, 3), Word::Go),
+        (at(5 + 65_536, Kind::Gather, 3), Word::Go),
     ] {
         assert_eq!(rt; hook.cross(&crossing), word);
     }
-    let other = Crossing {
-        caller: 2,
-        ..at(5, Kind::Gather, 3)
-    };
-    assert_eq!(rt; hook.cross(&other), Word::Go);
+    for caller in [2, 9] {
+        let other = Crossing {
+            caller,
+            ..at(5, Kind::Gather, 3)
+        };
+        assert_eq!(rt; hook.cross(&other), Word::Go);
+    }
     Ok(())
 }
 
