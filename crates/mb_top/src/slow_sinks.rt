@@ -1,3 +1,5 @@
+ghost use Rattle.std.specs.Prelude.{None};
+
 use mb_edge::{Failed, Sink};
 use std::alloc::{AllocError, Global};
 
