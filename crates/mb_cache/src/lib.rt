@@ -8,8 +8,6 @@
 //! (`specs/Stamps.antt`), and the laws by which a caller reasons stand in `specs/CacheLaws.antt`.
 //!
 //! `reserve` and `reserve_pins` take the memory of what follows; no other call but `pin` may want any.
-//!
-//! `ReadFault` and `Flushed` stand in `mb_core` too, under the same names, until the core for one caller goes.
 #![tactic(auto)]
 
 mod answers;

@@ -13,9 +13,6 @@
 //! disciplined, `specs/Traced.antt` how it fits the core), the calls in flight and the right to commit alone
 //! (`specs/Flights.antt`), their copies (`specs/Copies.antt`), and room and bounds (`specs/Bounds.antt`).
 //! docs/CORE.md leads from each sentence to its definition.
-//!
-//! Until the core for one caller goes, `mb_core` has types and definitions of the same names for that core: `Step`,
-//! `Config`, `Ready`, `CoreState`, `Right`, `Holds`, `Place` and others. Those of this crate are for many callers.
 #![tactic(auto)]
 
 mod config;

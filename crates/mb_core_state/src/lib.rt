@@ -5,8 +5,6 @@
 //! answer means, and when it comes, is `Enters` (`specs/Entering.antt`), `Leaving`, `Strikes` and `Gathering`
 //! (`specs/Answers.antt`), `Finishes` (`specs/Finishing.antt`), and of the steps of a recovery that read `FailsStep` and
 //! `IsReplayed` (`specs/Redoing.antt`). The type says nothing of its order: what a core in order knows, an event requires.
-//!
-//! The answers stand in `mb_core` too, under the same names, until the core for one caller goes.
 #![tactic(auto)]
 
 mod acting;

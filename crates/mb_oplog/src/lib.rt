@@ -3,8 +3,6 @@
 //!
 //! A contract sees an `Oplog` as the list of its operations and its room, the number of operations that it takes
 //! without memory. `reserve` alone may want memory.
-//!
-//! `Logged` stands in `mb_core` too, under the same name, until the core for one caller goes.
 #![tactic(auto)]
 
 mod oplogs;
