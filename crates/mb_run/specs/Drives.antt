@@ -10,7 +10,7 @@ use Rattle.mb_jobs.specs.declared.jobs.JobCall.{JobCall}
 use Rattle.mb_kinds.specs.declared.entries.Entry.{Entry}
 use Rattle.mb_run.specs.Letters.{AreLetters, letters_of}
 use Rattle.mb_run.specs.Runs.{FirstsRise}
-use Rattle.mb_run.specs.Served.{AreSound, IsListed, calls_in, calls_of, moments_in}
+use Rattle.mb_run.specs.Served.{AreSound, AreSoundBy, IsListed, calls_in, calls_of, moments_in}
 use Rattle.mb_run.specs.Sights.{AreApart, IsOrderly, Sight}
 use Rattle.mb_core_spec.specs.Copies.{no_pages}
 use Rattle.mb_run.specs.declared.runner.At.TheVariants as at
@@ -90,3 +90,12 @@ new_runner caller = record {
 pub record AreNew (runners : List Runner) (callers : ℕ) : Type 0 where
   pub size : length runners ≡ callers
   pub each : (caller : ℕ) (runner : Runner) → slice_get runners caller ≡ Some runner → runner ≡ new_runner caller
+
+-- what a job leaves of a core that was begun for it, whichever of its callers went first; of each caller's faults its own
+-- injector's test holds
+pub record IsDrivenApart (job : Job) (tests : ℕ → Option (Crossing → Bool)) (old new : Sight) : Type 0 where
+  pub config : new.config ≡ old.config
+  pub free : (caller : ℕ) → caller < new.config.callers → (new.seats caller).flight ≡ None
+  pub own_calls : (caller : ℕ) → caller < length job.callers → calls_in new.history caller ≡ calls_of job.calls caller
+  pub moments : HasEachMoment job.start new.history
+  pub sound : AreSoundBy tests new.records

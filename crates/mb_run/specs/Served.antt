@@ -91,6 +91,11 @@ pub record AreSound (test : Option (Crossing → Bool)) (records : List FaultRec
   pub holds : AllByRecursion (λ (fault : FaultRecord). IfSome test (λ fires. fires (crossing_of fault) ≡ true)) records
   pub apart : AreApart records
 
+-- the same where each caller has a fault injector of its own
+pub record AreSoundBy (tests : ℕ → Option (Crossing → Bool)) (records : List FaultRecord) : Type 0 where
+  pub holds : AllByRecursion (λ (fault : FaultRecord). IfSome (tests fault.caller) (λ fires. fires (crossing_of fault) ≡ true)) records
+  pub apart : AreApart records
+
 -- ---- where one caller acts alone: the entries stand in the order of their moments, without a gap
 
 abbrev pub moments_in : List Entry → List ℕ
