@@ -51,6 +51,7 @@ pub record IsAnsweredWith (call : Call) (test : Option (Crossing → Bool)) (cal
   pub caller_is : entry.caller ≡ caller
   pub ordinal : entry.ordinal ≡ old.seat.begun + 1
   pub call_is : entry.call ≡ call
+  pub reply_is : entry.reply ≡ answer
   pub suffers : Suffers test caller old now
   pub faults : SaysOfFaults old.seat.begun old.struck suffers.more answer
   pub limit : SaysOfLimit old.config.limit answer

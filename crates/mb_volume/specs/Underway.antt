@@ -1,6 +1,6 @@
 -- A call under way: how it stands, by what its caller knows from one hold of the turn to the next.
-use Rattle.std.specs.Prelude.{ℕ, ◌+◌, ◌<◌, ◌≤◌, ◌≡◌, ◌≢◌, ◌++◌, ◌∷◌, List, [], length, Bool, true, false, Option, Some, None, IfSome}
-use Rattle.std.specs.List.{AllByRecursion}
+use Rattle.std.specs.Prelude.{ℕ, ◌+◌, ◌<◌, ◌≤◌, ◌≡◌, ◌≢◌, ◌++◌, ◌∷◌, List, [], length, filter, nat_eq, Bool, true, false, Option, Some, None, IfSome}
+use Rattle.std.specs.List.{AllByRecursion, Contains}
 use Rattle.mb_edge.specs.Crossings.{next_nth}
 use Rattle.mb_edge.specs.declared.crossings.Crossing.{Crossing}
 use Rattle.mb_edge.specs.declared.crossings.Crossings.{Crossings}
@@ -10,15 +10,17 @@ use Rattle.mb_kinds.specs.declared.entries.Flight.{Flight}
 use Rattle.mb_kinds.specs.declared.faults.FaultRecord.{FaultRecord}
 use Rattle.mb_kinds.specs.declared.faults.Ticket.{Ticket}
 use Rattle.mb_kinds.specs.declared.replies.Reply.{Reply}
+use Rattle.mb_kinds.specs.declared.replies.Reply.TheVariants as reply
 use Rattle.mb_calls.specs.declared.performing.Performed.TheVariants as performed
 use Rattle.mb_core_spec.specs.Copies.{no_pages}
 use Rattle.mb_core_spec.specs.declared.stages.Stage.TheVariants as stage
+use Rattle.mb_run.specs.Events.{IsReplyOf}
 use Rattle.mb_run.specs.Pages.{HasTablesFor, Performs, has}
 use Rattle.mb_run.specs.Served.{AreCounts, AreSound, IsCounted, counted}
 use Rattle.mb_run.specs.Sights.{HasTicket, IsTicketOf, IsWaiting, Seat, Sight}
 use Rattle.mb_run.specs.declared.runner.At.{At}
 use Rattle.mb_run.specs.declared.runner.At.TheVariants as at
-use Rattle.mb_volume.specs.Called.{Suffers}
+use Rattle.mb_volume.specs.Called.{IsAnsweredWith, SaysOfLimit, Suffers, own_faults}
 use Rattle.mb_volume.specs.Parts.{Part}
 use Rattle.mb_volume.specs.declared.attempt.Attempt.{Attempt}
 use Rattle.mb_volume.specs.declared.events.Came.{Came}
@@ -79,11 +81,17 @@ pub record IsUnderway (call : Call) (test : Option (Crossing → Bool)) (from no
 abbrev pub IsOn : Call → Part → Attempt → Type 0
 IsOn call now attempt = (test : Option (Crossing → Bool)) × (from : Part) × IsUnderway call test from now attempt
 
--- the call was answered
+-- a call that is given up met two faults of its own
+abbrev pub SaysOfTwice : ℕ → List FaultRecord → Reply → Type 0
+SaysOfTwice ordinal struck (reply.Restart first second) = 2 ≤ length (own_faults (filter (λ (fault : FaultRecord). nat_eq fault.ordinal ordinal) struck))
+SaysOfTwice ordinal struck _ = Unit {0}
+
+-- the call was answered, as the core has it
 pub record IsAnswered (call : Call) (test : Option (Crossing → Bool)) (caller : ℕ) (from now : Part) (reply : Reply) : Type 0 where
   pub config : now.config ≡ from.config
   pub seat : now.seat ≡ record { begun = from.seat.begun + 1; flight = None }
   pub entry : AddsEntry caller (from.seat.begun + 1) call from.entries now.entries
+  pub reply : IsReplyOf now.entries caller (from.seat.begun + 1) reply
   pub suffers : Suffers test caller from now
 
 -- it has no entry
@@ -113,6 +121,24 @@ Comes call test caller from now attempt came.NoMemory = IsUnderway call test fro
 abbrev pub Goes : Call → Option (Crossing → Bool) → Part → Part → Attempt → Attempt → Came → Type 0
 Goes call test old new before now came = (from : Part) → IsUnderway call test from old before → Comes call test before.crossings.caller from new now came
 
+-- a hold of the turn makes of the core's answer what the caller is told
+abbrev pub Brings : Call → Option (Crossing → Bool) → ℕ → Part → Part → Attempt → Came → Type 0
+Brings call test caller from now attempt (came.Answered reply) = IsAnsweredWith call test caller from now reply
+Brings call test caller from now attempt (came.Inside ticket) = IsUnderway call test from now attempt × (attempt.at ≡ at.Inside ticket)
+Brings call test caller from now attempt came.On = IsUnderway call test from now attempt
+Brings call test caller from now attempt came.Shut = IsUnderway call test from now attempt × IsWaiting now.seat
+Brings call test caller from now attempt came.Busy = IsUnderway call test from now attempt
+Brings call test caller from now attempt came.NoMemory = IsUnderway call test from now attempt × LacksEntry now.seat.flight
+
+abbrev pub Leads : Call → Option (Crossing → Bool) → Part → Part → Attempt → Attempt → Came → Type 0
+Leads call test old new before now came = (from : Part) → IsUnderway call test from old before → Brings call test before.crossings.caller from new now came
+
+-- what an orderly core says of a caller's entries: each call has one, and its reply fits the fault records and the limit
+pub record IsTold (now : Part) : Type 0 where
+  pub single : (one other : Entry) → Contains now.entries one → Contains now.entries other → one.ordinal ≡ other.ordinal → one ≡ other
+  pub limit : (entry : Entry) → Contains now.entries entry → SaysOfLimit now.config.limit entry.reply
+  pub twice : (entry : Entry) → Contains now.entries entry → SaysOfTwice entry.ordinal now.struck entry.reply
+
 -- and whatever the hook's test is, which was not asked
 abbrev pub GoesUnasked : Call → Part → Part → Attempt → Attempt → Came → Type 0
 GoesUnasked call old new before now came = (test : Option (Crossing → Bool)) → Goes call test old new before now came
@@ -132,7 +158,7 @@ pub record IsMet (test : Option (Crossing → Bool)) (struck : Option Crossing) 
 
 -- when an event may come
 abbrev pub MayCome : Call → Option (Crossing → Bool) → Option Crossing → Seat → Attempt → Event → Type 0
-MayCome call test struck seat attempt event.Enter = Unit {0}
+MayCome call test struck seat attempt event.Enter = attempt.at ≡ at.Outside
 MayCome call test struck seat attempt (event.Gather ticket need) = (attempt.at ≡ at.Inside ticket) × (need.first < 262144) × (1 ≤ need.count) × (need.count ≤ 32)
 MayCome call test struck seat attempt (event.Finish ticket ready) =
     (attempt.at ≡ at.Inside ticket) × (has attempt.pages 0 ≡ true) × Performs attempt.pages ticket.caller call ticket.moment (performed.Ready ready)

@@ -54,6 +54,7 @@ pub(crate) enum Came {
 /// The call enters.
 fn enter<C: EventCore>(alloc: Global, core: &mut C, attempt: &mut Attempt, call: &Call) -> Came
     requires on { IsOn call.now (part_of (C.sight core.old) attempt.old.crossings.caller) attempt.old }
+    requires outside { attempt.old.at ≡ at.Outside }
     requires right { IsOrderly (C.sight core.old) }
     ensures goes { GoesUnasked call.now (part_of (C.sight core.old) attempt.old.crossings.caller) (part_of (C.sight core.new) attempt.old.crossings.caller) attempt.old attempt.new result }
     ensures same { attempt.new.crossings.caller ≡ attempt.old.crossings.caller }

@@ -6,7 +6,7 @@ ghost use Rattle.mb_run.specs.Sights.{IsWaiting};
 ghost use Rattle.mb_run.specs.declared.runner.At.TheVariants as at;
 ghost use Rattle.mb_turn.specs.Passes.{IsIdle};
 ghost use Rattle.mb_volume.specs.Passing.{IsLater, IsMaking, part_in};
-ghost use Rattle.mb_volume.specs.Underway.{Goes, HoldsTicket, IsLeftOff, MayCome};
+ghost use Rattle.mb_volume.specs.Underway.{HoldsTicket, IsLeftOff, Leads, MayCome};
 ghost use Rattle.mb_volume.specs.declared.events.Came.TheVariants as came;
 ghost use Rattle.mb_core_spec.specs.Right.{Right};
 
@@ -48,7 +48,7 @@ impl<F: FileSys, D: Disk> Volume<F, D> {
         requires making { IsMaking call.now pass.old attempt.old false }
         requires may { MayCome call.now (H.test hook.old) (H.struck hook.old) (part_in pass.old).seat attempt.old event }
         ensures later { IsLater self.now.table pass.old pass.new }
-        ensures goes { Goes call.now (H.test hook.old) (part_in pass.old) (part_in pass.new) attempt.old attempt.new result.0 }
+        ensures leads { Leads call.now (H.test hook.old) (part_in pass.old) (part_in pass.new) attempt.old attempt.new result.0 }
         ensures same { attempt.new.crossings.caller ≡ attempt.old.crossings.caller }
         ensures test { H.test hook.new ≡ H.test hook.old }
     {
@@ -78,7 +78,7 @@ impl<F: FileSys, D: Disk> Volume<F, D> {
         requires holds { HoldsTicket attempt.old.at ticket.now }
         ensures unasked { result ≡ false → (pass.new ≡ pass.old) × (attempt.new ≡ record attempt.old { crossings = counted attempt.old.crossings kind }) }
         ensures later { IsLater self.now.table pass.old pass.new }
-        ensures goes { Goes call.now (H.test hook.old) (part_in pass.old) (part_in pass.new) attempt.old attempt.new came.On }
+        ensures leads { Leads call.now (H.test hook.old) (part_in pass.old) (part_in pass.new) attempt.old attempt.new came.On }
         ensures same { attempt.new.crossings.caller ≡ attempt.old.crossings.caller }
         ensures test { H.test hook.new ≡ H.test hook.old }
     {
@@ -110,7 +110,7 @@ impl<F: FileSys, D: Disk> Volume<F, D> {
         requires idle { IsIdle self.now.table pass.old }
         requires making { IsMaking call.now pass.old attempt.old false }
         ensures later { IsLater self.now.table pass.old pass.new }
-        ensures goes { Goes call.now (H.test hook.old) (part_in pass.old) (part_in pass.new) attempt.old attempt.new result }
+        ensures leads { Leads call.now (H.test hook.old) (part_in pass.old) (part_in pass.new) attempt.old attempt.new result }
         ensures same { attempt.new.crossings.caller ≡ attempt.old.crossings.caller }
         ensures test { H.test hook.new ≡ H.test hook.old }
     {
@@ -142,7 +142,7 @@ impl<F: FileSys, D: Disk> Volume<F, D> {
         requires inside { attempt.old.at ≡ at.Inside ticket.now }
         requires need { (need.first < 262144) × (1 ≤ need.count) × (need.count ≤ 32) }
         ensures later { IsLater self.now.table pass.old pass.new }
-        ensures goes { Goes call.now (H.test hook.old) (part_in pass.old) (part_in pass.new) attempt.old attempt.new result.0 }
+        ensures leads { Leads call.now (H.test hook.old) (part_in pass.old) (part_in pass.new) attempt.old attempt.new result.0 }
         ensures same { attempt.new.crossings.caller ≡ attempt.old.crossings.caller }
         ensures test { H.test hook.new ≡ H.test hook.old }
     {
@@ -172,7 +172,7 @@ impl<F: FileSys, D: Disk> Volume<F, D> {
         requires there { has attempt.old.pages 0 ≡ true }
         requires ready { Performs attempt.old.pages ticket.now.caller call.now ticket.now.moment (performed.Ready ready) }
         ensures later { IsLater self.now.table pass.old pass.new }
-        ensures goes { Goes call.now (H.test hook.old) (part_in pass.old) (part_in pass.new) attempt.old attempt.new result }
+        ensures leads { Leads call.now (H.test hook.old) (part_in pass.old) (part_in pass.new) attempt.old attempt.new result }
         ensures same { attempt.new.crossings.caller ≡ attempt.old.crossings.caller }
         ensures test { H.test hook.new ≡ H.test hook.old }
     {
@@ -202,7 +202,7 @@ impl<F: FileSys, D: Disk> Volume<F, D> {
         requires making { IsMaking call.now pass.old attempt.old false }
         requires logged { attempt.old.at ≡ at.Logged ticket.now }
         ensures later { IsLater self.now.table pass.old pass.new }
-        ensures goes { Goes call.now (H.test hook.old) (part_in pass.old) (part_in pass.new) attempt.old attempt.new result }
+        ensures leads { Leads call.now (H.test hook.old) (part_in pass.old) (part_in pass.new) attempt.old attempt.new result }
         ensures same { attempt.new.crossings.caller ≡ attempt.old.crossings.caller }
         ensures test { H.test hook.new ≡ H.test hook.old }
     {
@@ -230,7 +230,7 @@ impl<F: FileSys, D: Disk> Volume<F, D> {
         requires making { IsMaking call.now pass.old attempt.old false }
         requires inside { attempt.old.at ≡ at.Inside ticket.now }
         ensures later { IsLater self.now.table pass.old pass.new }
-        ensures goes { Goes call.now (H.test hook.old) (part_in pass.old) (part_in pass.new) attempt.old attempt.new result }
+        ensures leads { Leads call.now (H.test hook.old) (part_in pass.old) (part_in pass.new) attempt.old attempt.new result }
         ensures same { attempt.new.crossings.caller ≡ attempt.old.crossings.caller }
         ensures test { H.test hook.new ≡ H.test hook.old }
     {
@@ -268,7 +268,7 @@ impl<F: FileSys, D: Disk> Volume<F, D> {
         requires idle { IsIdle self.now.table pass.old }
         requires making { IsMaking call.now pass.old attempt.old shut }
         ensures later { IsLater self.now.table pass.old pass.new }
-        ensures goes { Goes call.now (H.test hook.old) (part_in pass.old) (part_in pass.new) attempt.old attempt.new result }
+        ensures leads { Leads call.now (H.test hook.old) (part_in pass.old) (part_in pass.new) attempt.old attempt.new result }
         ensures same { attempt.new.crossings.caller ≡ attempt.old.crossings.caller }
         ensures test { H.test hook.new ≡ H.test hook.old }
     {
