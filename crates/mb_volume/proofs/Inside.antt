@@ -45,7 +45,7 @@ pub sealed_part : (b : Bool) (caller : ℕ) (old new : Sight) → SealsIf b old 
 sealed_part true caller old new seals = ap (λ (s : Sight). part_of s caller) seals
 sealed_part false caller old new seals = ap (λ (s : Sight). part_of s caller) seals
 
-sealed_moves : (b : Bool) (caller : ℕ) (old mid new : Sight) → SealsIf b mid new → Moves caller old mid → Moves caller old new
+pub sealed_moves : (b : Bool) (caller : ℕ) (old mid new : Sight) → SealsIf b mid new → Moves caller old mid → Moves caller old new
 sealed_moves true caller old mid new seals moves = subst (Moves caller old) (sym seals) (record { config = moves.config; seats = moves.seats; entries = moves.entries; more = moves.more; records = moves.records; theirs = moves.theirs })
 sealed_moves false caller old mid new seals moves = subst (Moves caller old) (sym seals) moves
 
@@ -145,6 +145,10 @@ module _ (call : Call) (test : Option (Crossing → Bool)) (from : Part) (old : 
           tables = subst (λ (l : Limits). HasTablesFor l.callers attempt.pages) (sym logs.stays.config) u.tables;
           struck = subst (IsStruck test attempt.crossings from.struck) (sym (struck_still attempt.crossings.caller old new logs.stays.records)) u.struck;
         }
+
+    pub comes_sealed : (due : Bool) (mid new : Sight) → Finishes old mid ticket attempt.pages finished.Logged → SealsIf due mid new → Comes call test attempt.crossings.caller from (part_of new attempt.crossings.caller) (record attempt { at = at.Logged ticket }) came.On
+    comes_sealed due mid new finishes seals =
+        subst (λ (p : Part). IsUnderway call test from p (record attempt { at = at.Logged ticket })) (sym (sealed_part due attempt.crossings.caller mid new seals)) (comes_logged mid finishes)
 
     -- what was performed is what the flight is finished with
     pub ready_at : (ready : Ready) → Performs attempt.pages ticket.caller call ticket.moment (performed.Ready ready) → IsReadyAt old ticket attempt.pages ready

@@ -5,3 +5,6 @@ pub mod Entered
 pub mod Inside
 pub mod Faulted
 pub mod Rolled
+pub mod Replies
+pub mod Pairs
+pub mod Telling

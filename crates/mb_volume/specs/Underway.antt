@@ -14,7 +14,6 @@ use Rattle.mb_kinds.specs.declared.replies.Reply.TheVariants as reply
 use Rattle.mb_calls.specs.declared.performing.Performed.TheVariants as performed
 use Rattle.mb_core_spec.specs.Copies.{no_pages}
 use Rattle.mb_core_spec.specs.declared.stages.Stage.TheVariants as stage
-use Rattle.mb_run.specs.Events.{IsReplyOf}
 use Rattle.mb_run.specs.Pages.{HasTablesFor, Performs, has}
 use Rattle.mb_run.specs.Served.{AreCounts, AreSound, IsCounted, counted}
 use Rattle.mb_run.specs.Sights.{HasTicket, IsTicketOf, IsWaiting, Seat, Sight}
@@ -86,12 +85,24 @@ abbrev pub SaysOfTwice : ℕ → List FaultRecord → Reply → Type 0
 SaysOfTwice ordinal struck (reply.Restart first second) = 2 ≤ length (own_faults (filter (λ (fault : FaultRecord). nat_eq fault.ordinal ordinal) struck))
 SaysOfTwice ordinal struck _ = Unit {0}
 
+-- each entry has a greater ordinal than those before it
+abbrev pub AreRising : List Entry → Type 0
+AreRising [] = Unit {0}
+AreRising (entry ∷ later) = AllByRecursion (λ (next : Entry). entry.ordinal < next.ordinal) later × AreRising later
+
+-- an entry of that call has this reply
+pub record IsReplyIn (entries : List Entry) (ordinal : ℕ) (answer : Reply) : Type 0 where
+  pub entry : Entry
+  pub there : Contains entries entry
+  pub ordinal_is : entry.ordinal ≡ ordinal
+  pub reply_is : entry.reply ≡ answer
+
 -- the call was answered, as the core has it
 pub record IsAnswered (call : Call) (test : Option (Crossing → Bool)) (caller : ℕ) (from now : Part) (reply : Reply) : Type 0 where
   pub config : now.config ≡ from.config
   pub seat : now.seat ≡ record { begun = from.seat.begun + 1; flight = None }
   pub entry : AddsEntry caller (from.seat.begun + 1) call from.entries now.entries
-  pub reply : IsReplyOf now.entries caller (from.seat.begun + 1) reply
+  pub reply : IsReplyIn now.entries (from.seat.begun + 1) reply
   pub suffers : Suffers test caller from now
 
 -- it has no entry
@@ -133,11 +144,11 @@ Brings call test caller from now attempt came.NoMemory = IsUnderway call test fr
 abbrev pub Leads : Call → Option (Crossing → Bool) → Part → Part → Attempt → Attempt → Came → Type 0
 Leads call test old new before now came = (from : Part) → IsUnderway call test from old before → Brings call test before.crossings.caller from new now came
 
--- what an orderly core says of a caller's entries: each call has one, and its reply fits the fault records and the limit
+-- what a core in order says of a caller's entries: their ordinals rise, and the replies fit the limit and the fault records
 pub record IsTold (now : Part) : Type 0 where
-  pub single : (one other : Entry) → Contains now.entries one → Contains now.entries other → one.ordinal ≡ other.ordinal → one ≡ other
-  pub limit : (entry : Entry) → Contains now.entries entry → SaysOfLimit now.config.limit entry.reply
-  pub twice : (entry : Entry) → Contains now.entries entry → SaysOfTwice entry.ordinal now.struck entry.reply
+  pub rises : AreRising now.entries
+  pub limit : AllByRecursion (λ (entry : Entry). SaysOfLimit now.config.limit entry.reply) now.entries
+  pub twice : AllByRecursion (λ (entry : Entry). SaysOfTwice entry.ordinal now.struck entry.reply) now.entries
 
 -- and whatever the hook's test is, which was not asked
 abbrev pub GoesUnasked : Call → Part → Part → Attempt → Attempt → Came → Type 0
