@@ -49,11 +49,11 @@ pub stands_declared : (sight : Sight) (caller : ℕ) → caller < sight.config.c
 stands_declared sight caller low = ap (λ b. stand_if b (sight.seats caller) (records_of sight.records caller)) (lt-ltb caller sight.config.callers low)
 
 pub has_stand : (sight : Sight) (caller : ℕ) → caller < sight.config.callers → IsSome (stand_in sight caller)
-has_stand sight caller low = subst IsSome (sym (stands_declared sight caller low)) tt
+has_stand sight caller low = subst IsSome (sym (stands_declared sight caller low)) refl
 
 declared_if : (b : Bool) (seat : Seat) (struck : List FaultRecord) → IsSome (stand_if b seat struck) → b ≡ true
 declared_if true seat struck some = refl
-declared_if false seat struck some = absurd some
+declared_if false seat struck some = some
 
 pub is_declared : (sight : Sight) (caller : ℕ) → IsSome (stand_in sight caller) → caller < sight.config.callers
 is_declared sight caller some = ltb-true caller sight.config.callers (declared_if (nat_lt caller sight.config.callers) (sight.seats caller) (records_of sight.records caller) some)

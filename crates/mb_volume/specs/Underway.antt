@@ -98,11 +98,11 @@ pub record IsReplyIn (entries : List Entry) (ordinal : ℕ) (answer : Reply) : T
   pub reply_is : entry.reply ≡ answer
 
 -- the call was answered, as the core has it
-pub record IsAnswered (call : Call) (test : Option (Crossing → Bool)) (caller : ℕ) (from now : Part) (reply : Reply) : Type 0 where
+pub record IsAnswered (call : Call) (test : Option (Crossing → Bool)) (caller : ℕ) (from now : Part) (answer : Reply) : Type 0 where
   pub config : now.config ≡ from.config
   pub seat : now.seat ≡ record { begun = from.seat.begun + 1; flight = None }
   pub entry : AddsEntry caller (from.seat.begun + 1) call from.entries now.entries
-  pub reply : IsReplyIn now.entries (from.seat.begun + 1) reply
+  pub reply : IsReplyIn now.entries (from.seat.begun + 1) answer
   pub suffers : Suffers test caller from now
 
 -- it has no entry
