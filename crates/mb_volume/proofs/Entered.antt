@@ -1,6 +1,8 @@
 -- A call enters, or is answered as it enters.
 use Rattle.std.proofs.Common.{◌≡◌, List, [], ◌∷◌, ◌++◌, ℕ, ◌+◌, ◌<◌, Bool, true, false, inl, inr, refl, ap, sym, subst, ◌∙◌, Option, None, Some}
 use Rattle.mb_edge.specs.declared.crossings.Crossing.{Crossing}
+use Rattle.std.proofs.lemmas.List.Elements.{Contains-push}
+use Rattle.std.specs.List.{Contains}
 use Rattle.mb_kinds.specs.Own.{own}
 use Rattle.mb_kinds.specs.declared.calls.Call.{Call}
 use Rattle.mb_kinds.specs.declared.entries.Flight.{Flight}
@@ -18,10 +20,11 @@ use Rattle.mb_run.specs.declared.runner.At.TheVariants as at
 use Rattle.mb_volume.specs.Attempts.{going_in}
 use Rattle.mb_volume.specs.Called.{Suffers}
 use Rattle.mb_volume.specs.Parts.{Moves, Part, part_of}
-use Rattle.mb_volume.specs.Underway.{AddsEntry, AddsEntryIf, Comes, GoesUnasked, IsAnswered, IsBegunIf, IsFlying, IsStruck, IsUnderway, LacksEntry, StandsAt}
+use Rattle.mb_volume.specs.Underway.{AddsEntry, AddsEntryIf, Comes, GoesUnasked, IsAnswered, IsBegunIf, IsFlying, IsReplyIn, IsStruck, IsUnderway, LacksEntry, StandsAt}
 use Rattle.mb_volume.specs.declared.attempt.Attempt.{Attempt}
 use Rattle.mb_volume.specs.declared.events.Came.TheVariants as came
 use Rattle.mb_volume.proofs.Changing.{moves_entry, moves_same, moves_stays, part_is}
+use Rattle.mb_volume.proofs.Replies.{own_reply}
 use Rattle.mb_volume.proofs.Standing.{IsFlight, flight_now, flying, lacks_if}
 use Rattle.mb_volume.proofs.Struck.{suffers_of}
 
@@ -36,8 +39,8 @@ module _ (call : Call) (test : Option (Crossing → Bool)) (from : Part) (old : 
       suffers_of test attempt.crossings from (part_of new attempt.crossings.caller) u.ordinal struck
 
   -- the flight, which has its entry, ends
-  pub answered_leaves : (new : Sight) (flight : Flight) (answer : Reply) → Leaves attempt.crossings.caller flight old new → IsAnswered call test attempt.crossings.caller from (part_of new attempt.crossings.caller) answer
-  answered_leaves new flight answer leaves =
+  pub answered_leaves : (new : Sight) (flight : Flight) (answer : Reply) → Leaves attempt.crossings.caller flight old new → IsReplyIn (own old.history attempt.crossings.caller) flight.ordinal answer → IsAnswered call test attempt.crossings.caller from (part_of new attempt.crossings.caller) answer
+  answered_leaves new flight answer leaves handed =
       let flies = flying call test from old attempt u flight leaves.was in
       let entries : own new.history attempt.crossings.caller ≡ own old.history attempt.crossings.caller = ap (λ h. own h attempt.crossings.caller) leaves.counts.history in
       let added : AddsEntry attempt.crossings.caller (from.seat.begun + 1) call from.entries (own old.history attempt.crossings.caller) =
@@ -46,6 +49,7 @@ module _ (call : Call) (test : Option (Crossing → Bool)) (from : Part) (old : 
         config = leaves.stays.config ∙ u.config;
         seat = leaves.mine ∙ ap (λ n. record { begun = n; flight = None }) flies.begun;
         entry = subst (AddsEntry attempt.crossings.caller (from.seat.begun + 1) call from.entries) (sym entries) added;
+        reply = subst (λ es. IsReplyIn es (from.seat.begun + 1) answer) (sym entries) (subst (λ n. IsReplyIn (own old.history attempt.crossings.caller) n answer) flies.ordinal handed);
         suffers = suffers_now new leaves.stays.records;
       }
 
@@ -62,6 +66,13 @@ module _ (call : Call) (test : Option (Crossing → Bool)) (from : Part) (old : 
       caller_is = refl;
       ordinal_is = is.ordinal;
       call_is = is.call_is;
+    };
+    reply = record {
+      entry = entry_of attempt.crossings.caller flight None answer;
+      there = subst (λ es. Contains es (entry_of attempt.crossings.caller flight None answer)) (sym (ap (λ h. own h attempt.crossings.caller) answers.history ∙ own_mine old.history (entry_of attempt.crossings.caller flight None answer) attempt.crossings.caller refl))
+          (Contains-push (own old.history attempt.crossings.caller) (entry_of attempt.crossings.caller flight None answer));
+      ordinal_is = is.ordinal;
+      reply_is = refl;
     };
     suffers = suffers_now new answers.stays.records;
   }
@@ -95,7 +106,7 @@ module _ (call : Call) (test : Option (Crossing → Bool)) (from : Part) (old : 
 
   pub comes_done : (new : Sight) (now : Attempt) (answer : Reply) → Enters old new attempt.crossings.caller call (enter.Done answer) → Comes call test attempt.crossings.caller from (part_of new attempt.crossings.caller) now (came.Answered answer)
   comes_done new now answer enters = elim enters [
-    | inl left ↦ answered_leaves new left.0 answer left.1
+    | inl left ↦ answered_leaves new left.0 answer left.1 (own_reply old.history attempt.crossings.caller left.0.ordinal answer left.2)
     | inr made ↦ answered_by new (flight_of old attempt.crossings.caller call (old.seats attempt.crossings.caller).flight) answer (flight_now call test from old attempt u) made.0 made.2
   ]
 

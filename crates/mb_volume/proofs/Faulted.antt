@@ -1,5 +1,5 @@
 -- The fault injector is asked, and the call is struck where it says so.
-use Rattle.std.proofs.Common.{◌≡◌, ◌≢◌, List, [], ◌∷◌, ◌++◌, ℕ, ◌+◌, Bool, true, refl, ap, sym, subst, ◌∙◌, Option, Some, IfSome}
+use Rattle.std.proofs.Common.{◌≡◌, ◌≢◌, List, [], ◌∷◌, ◌++◌, ℕ, ◌+◌, Bool, true, false, refl, ap, sym, subst, ◌∙◌, Option, Some, IfSome}
 use Rattle.mb_core_state.specs.declared.answers.Fault.{Fault}
 use Rattle.mb_core_state.specs.declared.answers.Fault.TheVariants as fault
 use Rattle.mb_core_spec.specs.State.{records_of}

@@ -27,11 +27,12 @@ use Rattle.mb_run.specs.declared.runner.At.{At}
 use Rattle.mb_run.specs.declared.runner.At.TheVariants as at
 use Rattle.mb_volume.specs.Attempts.{back_out, going_in}
 use Rattle.mb_volume.specs.Parts.{Moves, Part, part_of}
-use Rattle.mb_volume.specs.Underway.{AddsEntry, AddsEntryIf, Comes, IsBegunIf, IsFlying, IsStruck, IsUnderway, LacksEntry, RunsInside, StandsAt}
+use Rattle.mb_volume.specs.Underway.{AddsEntry, AddsEntryIf, Comes, IsBegunIf, IsFlying, IsReplyIn, IsStruck, IsUnderway, LacksEntry, RunsInside, StandsAt}
 use Rattle.mb_volume.specs.declared.attempt.Attempt.{Attempt}
 use Rattle.mb_volume.specs.declared.events.Came.TheVariants as came
 use Rattle.mb_volume.proofs.Changing.{moves_entry, moves_same, moves_stays, part_is}
 use Rattle.mb_volume.proofs.Entered.{answered_by, answered_leaves, comes_nothing, moves_nothing, struck_still}
+use Rattle.mb_volume.proofs.Replies.{own_reply}
 use Rattle.mb_volume.proofs.Standing.{IsFlight, flying}
 
 -- ---- what stays of a part
@@ -66,7 +67,7 @@ module _ (call : Call) (test : Option (Crossing → Bool)) (from : Part) (old : 
   -- ---- inside
 
   module _ (ticket : Ticket) (inside : attempt.at ≡ at.Inside ticket) where
-    stood : HasTicket false (old.seats attempt.crossings.caller) ticket × (ticket.caller ≡ attempt.crossings.caller)
+    pub stood : HasTicket false (old.seats attempt.crossings.caller) ticket × (ticket.caller ≡ attempt.crossings.caller)
     stood = subst (StandsAt attempt.crossings.caller (old.seats attempt.crossings.caller)) inside u.stands
 
     pub has_ticket : HasTicket false (old.seats ticket.caller) ticket
@@ -100,7 +101,7 @@ module _ (call : Call) (test : Option (Crossing → Bool)) (from : Part) (old : 
 
     pub comes_device : (new : Sight) (need : Need) (before pages : PagesState) (now : Attempt) → Gathers old new ticket need before pages gathered.Device → Comes call test attempt.crossings.caller from (part_of new attempt.crossings.caller) now (came.Answered reply.Device)
     comes_device new need before pages now gathers =
-        let made : Answers attempt.crossings.caller stood.0.flight reply.Device old new = subst (λ n. Answers n stood.0.flight reply.Device old new) own_ticket (gathers.1 stood.0.flight (has_ticket.here)) in
+        let made : Answers attempt.crossings.caller stood.0.flight reply.Device old new = subst (λ n. Answers n stood.0.flight reply.Device old new) own_ticket (gathers.1 stood.0.flight (ap (λ n. (old.seats n).flight) own_ticket ∙ stood.0.here)) in
         answered_by call test from old attempt u new stood.0.flight reply.Device is_flight stood.0.answered made
 
     pub comes_stale : (new : Sight) (block : ℕ) → Finishes old new ticket attempt.pages (finished.Stale block) → Comes call test attempt.crossings.caller from (part_of new attempt.crossings.caller) (going_in attempt ticket) came.On
@@ -166,7 +167,7 @@ module _ (call : Call) (test : Option (Crossing → Bool)) (from : Part) (old : 
   -- ---- with its entry
 
   module _ (ticket : Ticket) (logged : attempt.at ≡ at.Logged ticket) where
-    stood_logged : HasTicket true (old.seats attempt.crossings.caller) ticket × (ticket.caller ≡ attempt.crossings.caller)
+    pub stood_logged : HasTicket true (old.seats attempt.crossings.caller) ticket × (ticket.caller ≡ attempt.crossings.caller)
     stood_logged = subst (StandsAt attempt.crossings.caller (old.seats attempt.crossings.caller)) logged u.stands
 
     pub has_logged : HasTicket true (old.seats ticket.caller) ticket
@@ -177,6 +178,7 @@ module _ (call : Call) (test : Option (Crossing → Bool)) (from : Part) (old : 
 
     pub comes_left : (new : Sight) (now : Attempt) (answer : Reply) → LeavesWith old new ticket (left.Left answer) → Comes call test attempt.crossings.caller from (part_of new attempt.crossings.caller) now (came.Answered answer)
     comes_left new now answer leaves = answered_leaves call test from old attempt u new leaves.1.0 answer (subst (λ n. Leaves n leaves.1.0 old new) own_logged leaves.1.1)
+        (subst (λ n. IsReplyIn (own old.history n) leaves.1.0.ordinal answer) own_logged (own_reply old.history ticket.caller leaves.1.0.ordinal answer leaves.1.2))
 
 -- ---- what it leaves to the others
 

@@ -10,6 +10,7 @@ use Rattle.mb_kinds.specs.declared.entries.Entry.{Entry}
 use Rattle.mb_kinds.specs.declared.replies.Reply.{Reply}
 use Rattle.mb_core_spec.specs.Numbers.{AreInOrder, CanFollow}
 use Rattle.mb_run.proofs.Lists.{all_both, all_map}
+use Rattle.mb_run.specs.Events.{IsReplyOf}
 use Rattle.mb_volume.specs.Underway.{AddsEntry, AreRising, IsReplyIn}
 
 all_at : {X : Type 0} (P : X → Type 0) (xs : List X) (x : X) (k : ℕ) → AllByRecursion P xs → k < length xs → slice_index_or xs k x ≡ x → P x
@@ -76,3 +77,11 @@ own_contains (entry ∷ later) caller =
       )
       | false ↦ λ other. ((λ mine. absurd (let wrong : true ≡ false = sym (eq-eqb entry.caller caller mine) ∙ other in cc)), own_contains later caller)
     ] refl
+
+pub own_reply : (history : List Entry) (caller ordinal : ℕ) (answer : Reply) → IsReplyOf history caller ordinal answer → IsReplyIn (own history caller) ordinal answer
+own_reply history caller ordinal answer is = record {
+  entry = is.entry;
+  there = all_contains (λ (e : Entry). e.caller ≡ caller → Contains (own history caller) e) history is.entry (own_contains history caller) is.there is.caller_is;
+  ordinal_is = is.ordinal_is;
+  reply_is = is.reply_is;
+}

@@ -14,9 +14,8 @@ use Rattle.mb_run.specs.declared.answers.Stepped.{Stepped}
 use Rattle.mb_run.specs.declared.answers.Stepped.TheVariants as stepped
 use Rattle.mb_volume.specs.Attempts.{KeepsCrossings}
 use Rattle.mb_volume.specs.Parts.{Moves, Part, part_of}
-use Rattle.mb_volume.specs.Underway.{AddsEntryIf, Comes, IsUnderway, LacksEntry}
+use Rattle.mb_volume.specs.Underway.{AddsEntryIf, Comes, IsFlying, IsUnderway, LacksEntry, rolled}
 use Rattle.mb_volume.specs.declared.attempt.Attempt.{Attempt}
-use Rattle.mb_volume.specs.declared.events.Came.{Came}
 use Rattle.mb_volume.specs.declared.events.Came.TheVariants as came
 use Rattle.mb_volume.proofs.Changing.{moves_entry, moves_records}
 use Rattle.mb_volume.proofs.Entered.{answered_by, moves_nothing}
@@ -24,16 +23,8 @@ use Rattle.mb_volume.proofs.Faulted.{underway_on, underway_struck}
 use Rattle.mb_volume.proofs.Inside.{part_still}
 use Rattle.mb_volume.proofs.Standing.{IsFlight, flying}
 
--- what a step of a recovery comes to for the call that ran it
-abbrev pub rolled : Stepped → Came
-rolled stepped.Idle = came.On
-rolled (stepped.Failed faults) = came.On
-rolled stepped.Resumed = came.On
-rolled stepped.Device = came.Answered reply.Device
-rolled stepped.NoMemory = came.NoMemory
-rolled _ = came.Shut
-
 module _ (call : Call) (test : Option (Crossing → Bool)) (from : Part) (old : Sight) (attempt : Attempt) (u : IsUnderway call test from (part_of old attempt.crossings.caller) attempt) (waiting : IsWaiting (old.seats attempt.crossings.caller)) where
+  flies : IsFlying attempt.crossings.caller call from (part_of old attempt.crossings.caller) waiting.0
   flies = flying call test from old attempt u waiting.0 waiting.1
 
   pub runs_for : RunsFor old attempt.crossings

@@ -17,6 +17,8 @@ use Rattle.mb_core_spec.specs.declared.stages.Stage.TheVariants as stage
 use Rattle.mb_run.specs.Pages.{HasTablesFor, Performs, has}
 use Rattle.mb_run.specs.Served.{AreCounts, AreSound, IsCounted, counted}
 use Rattle.mb_run.specs.Sights.{HasTicket, IsTicketOf, IsWaiting, Seat, Sight}
+use Rattle.mb_run.specs.declared.answers.Stepped.{Stepped}
+use Rattle.mb_run.specs.declared.answers.Stepped.TheVariants as stepped
 use Rattle.mb_run.specs.declared.runner.At.{At}
 use Rattle.mb_run.specs.declared.runner.At.TheVariants as at
 use Rattle.mb_volume.specs.Called.{IsAnsweredWith, SaysOfLimit, Suffers, own_faults}
@@ -118,6 +120,15 @@ pub record IsLeftOff (ordinal : ℕ) (old now : Part) : Type 0 where
   pub begun : now.seat.begun ≡ old.seat.begun
   pub free : old.seat.begun ≡ ordinal → now.seat.flight ≡ None
   pub still : old.seat.begun ≢ ordinal → now.seat.flight ≡ old.seat.flight
+
+-- what a step of a recovery comes to for the call that ran it
+abbrev pub rolled : Stepped → Came
+rolled stepped.Idle = came.On
+rolled (stepped.Failed faults) = came.On
+rolled stepped.Resumed = came.On
+rolled stepped.Device = came.Answered reply.Device
+rolled stepped.NoMemory = came.NoMemory
+rolled _ = came.Shut
 
 -- what a hold of the turn came to
 abbrev pub Comes : Call → Option (Crossing → Bool) → ℕ → Part → Part → Attempt → Came → Type 0

@@ -6,7 +6,7 @@ ghost use Rattle.mb_run.specs.Served.{SealsIf, is_due};
 ghost use Rattle.mb_run.specs.Sights.{IsOrderly, IsWaiting};
 ghost use Rattle.mb_run.specs.declared.runner.At.TheVariants as at;
 ghost use Rattle.mb_volume.specs.Parts.{Moves, part_of};
-ghost use Rattle.mb_volume.specs.Underway.{Goes, GoesUnasked, HoldsTicket, IsMet, IsOn, MayCome, RunsInside};
+ghost use Rattle.mb_volume.specs.Underway.{Goes, GoesUnasked, HoldsTicket, IsMet, IsOn, MayCome, RunsInside, rolled};
 
 use crate::attempt::Attempt;
 use mb_calls::Ready;
@@ -216,6 +216,18 @@ fn fault<C: EventCore, H: Hook>(
     Came::On
 }
 
+/// What a step of a recovery comes to for the call that ran it.
+fn rolled(stepped: Stepped) -> Came
+    ensures { result ≡ rolled stepped }
+{
+    match stepped {
+        Stepped::Device => Came::Answered(Reply::Device),
+        Stepped::NoMemory => Came::NoMemory,
+        Stepped::Idle | Stepped::Failed { .. } | Stepped::Resumed => Came::On,
+        _ => Came::Shut,
+    }
+}
+
 /// One step of a recovery, run by the call, which waits for it.
 fn recover<C: EventCore, H: Hook>(
     alloc: Global,
@@ -238,12 +250,7 @@ fn recover<C: EventCore, H: Hook>(
     let mut by = Some(attempt.crossings);
     let stepped = core.recover_step(alloc, &mut by, hook);
     attempt.keep(&by);
-    match stepped {
-        Stepped::Device => Came::Answered(Reply::Device),
-        Stepped::NoMemory => Came::NoMemory,
-        Stepped::Idle | Stepped::Failed { .. } | Stepped::Resumed => Came::On,
-        _ => Came::Shut,
-    }
+    rolled(stepped)
 }
 
 /// One event of a caller's call.

@@ -3,7 +3,7 @@ use Rattle.mb_volume.proofs.Standing.{may_enter}
 use Rattle.mb_volume.proofs.events.enter.Goals as goal
 
 pub enter-requires-clause-may : goal.enter-requires-clause-may
-enter-requires-clause-may g c = may_enter _ _ _ _ _ c.requires.on.2
+enter-requires-clause-may g c = may_enter _ _ _ (g.C.EventCore.sight c.args.core.now) _ c.requires.on.2
 
 pub returns-in-Done-clause-goes : goal.returns-in-Done-clause-goes
 returns-in-Done-clause-goes g c = λ test from u. comes_done _ _ _ _ _ u _ c.args.attempt.now _ c.in-Done.ensures.enters

@@ -2,10 +2,10 @@ use Rattle.mb_volume.proofs.Faulted.{comes_faulted, moves_faults, struck_here, t
 use Rattle.mb_volume.proofs.events.fault.Goals as goal
 
 pub fault-requires-clause-ticket : goal.fault-requires-clause-ticket
-fault-requires-clause-ticket g c = ticket_of _ _ _ _ _ c.requires.on.2 _ c.requires.holds
+fault-requires-clause-ticket g c = ticket_of _ _ _ (g.C.EventCore.sight c.args.core.now) _ c.requires.on.2 _ c.requires.holds
 
 pub fault-requires-clause-struck : goal.fault-requires-clause-struck
-fault-requires-clause-struck g c = struck_here _ _ _ _ _ c.requires.on.2 _ c.requires.holds _ _ _ _ c.requires.met
+fault-requires-clause-struck g c = struck_here _ _ _ (g.C.EventCore.sight c.args.core.now) _ c.requires.on.2 _ c.requires.holds _ _ _ _ c.requires.met
 
 pub returns-clause-goes : goal.returns-clause-goes
 returns-clause-goes g c = λ from u. rw c.back.ensures (comes_faulted _ _ _ _ _ u _ c.requires.holds _ _ _ c.requires.met _ _ c.fault.ensures.faults)
