@@ -40,30 +40,31 @@ stood_at caller seat at.Outside ticket holds stands = absurd holds
 stood_at caller seat (at.Inside mine) ticket holds stands = subst (Stood caller seat) holds (record { done = false; has = stands.0; mine = stands.1 })
 stood_at caller seat (at.Logged mine) ticket holds stands = subst (Stood caller seat) holds (record { done = true; has = stands.0; mine = stands.1 })
 
-module _ (call : Call) (test : Option (Crossing → Bool)) (from : Part) (old : Sight) (attempt : Attempt) (u : IsUnderway call test from (part_of old attempt.crossings.caller) attempt) where
+module _ (call : Call) (test : Option (Crossing → Bool)) (from now : Part) (attempt : Attempt) (u : IsUnderway call test from now attempt) where
   -- the call passed some crossings
-  pub underway_on : (crossings : Crossings) → GoesOn attempt.crossings crossings → IsUnderway call test from (part_of old attempt.crossings.caller) (record attempt { crossings = crossings })
+  pub underway_on : (crossings : Crossings) → GoesOn attempt.crossings crossings → IsUnderway call test from now (record attempt { crossings = crossings })
   underway_on crossings on = record {
     config = u.config;
     within = rw on.caller u.within;
     most = u.most;
     ordinal = on.ordinal ∙ u.ordinal;
     counts = record { six = on.six ∙ u.counts.six; fits = on.fits };
-    begun = subst (λ n. IsBegunIf n call from (part_of old attempt.crossings.caller) (old.seats attempt.crossings.caller).flight) (sym on.caller) u.begun;
-    stands = subst (λ n. StandsAt n (old.seats attempt.crossings.caller) attempt.at) (sym on.caller) u.stands;
+    begun = subst (λ n. IsBegunIf n call from now now.seat.flight) (sym on.caller) u.begun;
+    stands = subst (λ n. StandsAt n now.seat attempt.at) (sym on.caller) u.stands;
     tables = u.tables;
-    struck = struck_on test attempt.crossings crossings from.struck (part_of old attempt.crossings.caller).struck on u.struck;
+    struck = struck_on test attempt.crossings crossings from.struck now.struck on u.struck;
   }
 
-  pub underway_counted : (kind : Kind) → IsUnderway call test from (part_of old attempt.crossings.caller) (record attempt { crossings = counted attempt.crossings kind })
+  pub underway_counted : (kind : Kind) → IsUnderway call test from now (record attempt { crossings = counted attempt.crossings kind })
   underway_counted kind = underway_on (counted attempt.crossings kind) (counted_goes attempt.crossings kind u.counts)
 
+module _ (call : Call) (test : Option (Crossing → Bool)) (from : Part) (old : Sight) (attempt : Attempt) (u : IsUnderway call test from (part_of old attempt.crossings.caller) attempt) where
   -- the call in flight passed some crossings, and was struck at one of them
   pub underway_struck : (new : Sight) (crossings : Crossings) (taken : FaultRecord) (flight : Flight) → (old.seats attempt.crossings.caller).flight ≡ Some flight → GoesOn attempt.crossings crossings
       → IsTaken test attempt.crossings crossings taken → new.config ≡ old.config → new.history ≡ old.history → new.seats attempt.crossings.caller ≡ old.seats attempt.crossings.caller → new.records ≡ old.records ++ taken ∷ []
       → IsUnderway call test from (part_of new attempt.crossings.caller) (record attempt { crossings = crossings })
   underway_struck new crossings taken flight here on is config history seat records =
-      let was = underway_on crossings on in
+      let was = underway_on call test from (part_of old attempt.crossings.caller) attempt u crossings on in
       let flies = flying call test from old attempt u flight here in
       let struck : records_of new.records attempt.crossings.caller ≡ records_of old.records attempt.crossings.caller ++ taken ∷ [] =
       ap (λ rs. records_of rs attempt.crossings.caller) records ∙ records_push old.records taken attempt.crossings.caller is.caller in
@@ -137,7 +138,7 @@ module _ (call : Call) (test : Option (Crossing → Bool)) (from : Part) (old : 
     pub comes_faulted : (new : Sight) (answer : Fault) → FaultsWith old new ticket crossing.kind crossing.nth answer
         → Comes call test attempt.crossings.caller from (part_of new attempt.crossings.caller) (back_out (record attempt { crossings = passed })) came.On
     comes_faulted new (fault.Skip mine was) faults =
-        subst (λ (s : Sight). IsUnderway call test from (part_of s attempt.crossings.caller) (back_out (record attempt { crossings = passed }))) (sym faults.1) (back (part_of old attempt.crossings.caller) (underway_on passed passes))
+        subst (λ (s : Sight). IsUnderway call test from (part_of s attempt.crossings.caller) (back_out (record attempt { crossings = passed }))) (sym faults.1) (back (part_of old attempt.crossings.caller) (underway_on call test from (part_of old attempt.crossings.caller) attempt u passed passes))
     comes_faulted new (fault.Struck number) faults =
         let is = stood ticket holds in
         back (part_of new attempt.crossings.caller) (underway_struck new passed (taken ticket holds test struck crossing passed met) is.has.flight is.has.here passes was_taken faults.1.config faults.1.counts.history (faults.1.seats attempt.crossings.caller) faults.1.records)

@@ -8,3 +8,5 @@ pub mod Rolled
 pub mod Replies
 pub mod Pairs
 pub mod Telling
+pub mod Holding
+pub mod Calling

@@ -45,7 +45,7 @@ module _ (call : Call) (test : Option (Crossing → Bool)) (from : Part) (old : 
     underway_waits : (new : Sight) → Waits old new → new.records ≡ old.records → IsUnderway call test from (part_of new attempt.crossings.caller) (record attempt { crossings = crossings })
     underway_waits new waits records =
         subst (λ (p : Part). IsUnderway call test from p (record attempt { crossings = crossings })) (sym (part_still attempt.crossings.caller old new waits.config waits.counts.history (waits.seats attempt.crossings.caller) records))
-        (underway_on call test from old attempt u crossings on)
+        (underway_on call test from (part_of old attempt.crossings.caller) attempt u crossings on)
 
     underway_strikes : (new : Sight) → Strikes test attempt.crossings crossings old new → IsUnderway call test from (part_of new attempt.crossings.caller) (record attempt { crossings = crossings })
     underway_strikes new strikes =
@@ -53,7 +53,7 @@ module _ (call : Call) (test : Option (Crossing → Bool)) (from : Part) (old : 
 
     comes_rolled : (new : Sight) (answer : Stepped) → Steps test (Some attempt.crossings) (Some crossings) old new answer
         → Comes call test attempt.crossings.caller from (part_of new attempt.crossings.caller) (record attempt { crossings = crossings }) (rolled answer)
-    comes_rolled new stepped.Idle steps = subst (λ (s : Sight). IsUnderway call test from (part_of s attempt.crossings.caller) (record attempt { crossings = crossings })) (sym steps.1) (underway_on call test from old attempt u crossings on)
+    comes_rolled new stepped.Idle steps = subst (λ (s : Sight). IsUnderway call test from (part_of s attempt.crossings.caller) (record attempt { crossings = crossings })) (sym steps.1) (underway_on call test from (part_of old attempt.crossings.caller) attempt u crossings on)
     comes_rolled new (stepped.Unwound ticket) steps = (underway_waits new steps.1.waits steps.1.records, waits_still new steps.1.waits)
     comes_rolled new (stepped.Failed faults) steps = elim steps.1 [ inl plain ↦ underway_waits new plain.1 plain.0 | inr strikes ↦ underway_strikes new strikes ]
     comes_rolled new stepped.Dropped steps = (underway_waits new steps.1.waits steps.1.records, waits_still new steps.1.waits)
@@ -65,7 +65,7 @@ module _ (call : Call) (test : Option (Crossing → Bool)) (from : Part) (old : 
     comes_rolled new stepped.Device steps = answered_by call test from old attempt u new waiting.0 reply.Device is_flight waiting.2 (steps.1 waiting.0 waiting.1)
     comes_rolled new stepped.NoMemory steps =
         subst (λ (s : Sight). Comes call test attempt.crossings.caller from (part_of s attempt.crossings.caller) (record attempt { crossings = crossings }) came.NoMemory) (sym steps)
-        (underway_on call test from old attempt u crossings on, subst LacksEntry (sym waiting.1) waiting.2)
+        (underway_on call test from (part_of old attempt.crossings.caller) attempt u crossings on, subst LacksEntry (sym waiting.1) waiting.2)
 
   -- ---- with the crossings that are kept
 

@@ -1,13 +1,14 @@
 -- What a pass knows of a shared core before and after a hold of the turn.
-use Rattle.std.specs.Prelude.{ℕ, ◌≡◌, ◌≢◌, Bool, true, List, None}
+use Rattle.std.specs.Prelude.{◌≡◌, Bool, true, Option}
 use mathlib.Core.List.{IsPrefix}
 use Rattle.atomic_table.specs.Seated.{TableId}
+use Rattle.mb_edge.specs.declared.crossings.Crossing.{Crossing}
 use Rattle.mb_kinds.specs.declared.calls.Call.{Call}
 use Rattle.mb_run.specs.CoreSight.{sight_of}
 use Rattle.mb_run.specs.Sights.{IsWaiting, Sight}
 use Rattle.mb_turn.specs.Passes.{IsIdle, Known}
 use Rattle.mb_volume.specs.Parts.{Part, part_of}
-use Rattle.mb_volume.specs.Underway.{IsOn}
+use Rattle.mb_volume.specs.Underway.{IsUnderway}
 use Rattle.mb_volume.specs.declared.attempt.Attempt.{Attempt}
 use Rattle.mb_volume.specs.declared.shared.SharedCore.{SharedCore}
 
@@ -28,7 +29,8 @@ module _ {F D : Type 0} where
     pub seen : IsPrefix (seen_by old).history (seen_by new).history
 
   -- a call of the pass's caller is under way, and waits for a recovery where that is said
-  pub record IsMaking (call : Call) (pass : Known (SharedCore F D)) (attempt : Attempt) (shut : Bool) : Type 0 where
+  pub record IsMaking (call : Call) (test : Option (Crossing → Bool)) (pass : Known (SharedCore F D)) (attempt : Attempt) (shut : Bool) : Type 0 where
     pub caller : attempt.crossings.caller ≡ pass.caller
-    pub on : IsOn call (part_in pass) attempt
+    pub from : Part
+    pub underway : IsUnderway call test from (part_in pass) attempt
     pub waits : shut ≡ true → IsWaiting (part_in pass).seat

@@ -1,13 +1,13 @@
-ghost use Rattle.std.specs.Prelude.{◌≡◌, ◌<◌, ◌≤◌, true, false};
+ghost use Rattle.std.specs.Prelude.{◌≡◌, ◌<◌, ◌≤◌, true, false, IfNone, IfSome};
 ghost use Rattle.mb_calls.specs.declared.performing.Performed.TheVariants as performed;
 ghost use Rattle.mb_run.specs.Pages.{Performs, has};
 ghost use Rattle.mb_run.specs.Served.{counted};
 ghost use Rattle.mb_run.specs.Sights.{IsWaiting};
 ghost use Rattle.mb_run.specs.declared.runner.At.TheVariants as at;
 ghost use Rattle.mb_turn.specs.Passes.{IsIdle};
+ghost use Rattle.mb_volume.specs.Attempts.{new_attempt};
 ghost use Rattle.mb_volume.specs.Passing.{IsLater, IsMaking, part_in};
 ghost use Rattle.mb_volume.specs.Underway.{HoldsTicket, IsLeftOff, Leads, MayCome};
-ghost use Rattle.mb_volume.specs.declared.events.Came.TheVariants as came;
 ghost use Rattle.mb_core_spec.specs.Right.{Right};
 
 use crate::attempt::Attempt;
@@ -32,7 +32,37 @@ pub(crate) fn in_order<F: FileSys, D: Disk>(core: &Core<F, D>)
     core.history();
 }
 
+/// The file system's code in a core, which is in order.
+fn code_of<F: FileSys, D: Disk>(core: &Core<F, D>) -> F
+    ensures { Right D.told D.faults core.now }
+{
+    in_order(core);
+    core.fs()
+}
+
 impl<F: FileSys, D: Disk> Volume<F, D> {
+    /// What the caller keeps of its next call, whose number it reads in a hold of its own: a core bounds how many there are.
+    pub(crate) fn begin<R: Wait>(
+        &self,
+        rt: &R,
+        alloc: Global,
+        pass: &mut Pass<SharedCore<F, D>>,
+    ) -> Attempt
+        requires idle { IsIdle self.now.table pass.old }
+        requires most { (part_in pass.old).seat.begun < (part_in pass.old).config.most }
+        ensures later { IsLater self.now.table pass.old pass.new }
+        ensures part { part_in pass.new ≡ part_in pass.old }
+        ensures declared { pass.old.caller < (part_in pass.old).config.callers }
+        ensures attempt { result ≡ new_attempt pass.old.caller (part_in pass.old).seat.begun }
+    {
+        let begun = pass.begun();
+        let shared = self.turn.take(rt, pass);
+        in_order(&shared.core.core);
+        let attempt = Attempt::new(alloc, pass.caller(), begun);
+        self.turn.give(pass, shared);
+        attempt
+    }
+
     /// One event of the caller's call, in one hold of the turn. It also gives the file system's code as it is then.
     fn hold<H: Hook, R: Wait>(
         &self,
@@ -45,7 +75,7 @@ impl<F: FileSys, D: Disk> Volume<F, D> {
         event: Event,
     ) -> (Came, F)
         requires idle { IsIdle self.now.table pass.old }
-        requires making { IsMaking call.now pass.old attempt.old false }
+        requires making { IsMaking call.now (H.test hook.old) pass.old attempt.old false }
         requires may { MayCome call.now (H.test hook.old) (H.struck hook.old) (part_in pass.old).seat attempt.old event }
         ensures later { IsLater self.now.table pass.old pass.new }
         ensures leads { Leads call.now (H.test hook.old) (part_in pass.old) (part_in pass.new) attempt.old attempt.new result.0 }
@@ -55,13 +85,13 @@ impl<F: FileSys, D: Disk> Volume<F, D> {
         let mut shared = self.turn.take(rt, pass);
         in_order(&shared.core.core);
         let came = act(alloc, &mut shared.core, hook, attempt, call, event);
-        in_order(&shared.core.core);
-        let code = shared.core.core.fs();
+        let code = code_of(&shared.core.core);
         self.turn.give(pass, shared);
         (came, code)
     }
 
-    /// Asks the fault injector at the next crossing of a kind, outside the turn, and strikes the call where it says so.
+    /// Asks the fault injector at the next crossing of a kind, outside the turn, and strikes the call where it says so;
+    /// `None` exactly where the call goes on.
     fn ask<H: Hook, R: Wait>(
         &self,
         rt: &R,
@@ -72,13 +102,13 @@ impl<F: FileSys, D: Disk> Volume<F, D> {
         call: &Call,
         ticket: &Ticket,
         kind: Kind,
-    ) -> bool
+    ) -> Option<Came>
         requires idle { IsIdle self.now.table pass.old }
-        requires making { IsMaking call.now pass.old attempt.old false }
+        requires making { IsMaking call.now (H.test hook.old) pass.old attempt.old false }
         requires holds { HoldsTicket attempt.old.at ticket.now }
-        ensures unasked { result ≡ false → (pass.new ≡ pass.old) × (attempt.new ≡ record attempt.old { crossings = counted attempt.old.crossings kind }) }
+        ensures unasked { IfNone result ((pass.new ≡ pass.old) × (attempt.new ≡ record attempt.old { crossings = counted attempt.old.crossings kind })) }
         ensures later { IsLater self.now.table pass.old pass.new }
-        ensures leads { Leads call.now (H.test hook.old) (part_in pass.old) (part_in pass.new) attempt.old attempt.new came.On }
+        ensures leads { IfSome result (Leads call.now (H.test hook.old) (part_in pass.old) (part_in pass.new) attempt.old attempt.new) }
         ensures same { attempt.new.crossings.caller ≡ attempt.old.crossings.caller }
         ensures test { H.test hook.new ≡ H.test hook.old }
     {
@@ -87,12 +117,12 @@ impl<F: FileSys, D: Disk> Volume<F, D> {
         match hook.cross(&crossing) {
             Word::Go => {
                 attempt.crossings = passed;
-                false
+                None
             }
             Word::Fault => {
                 let event = Event::Fault(*ticket, crossing, passed);
-                let (_, _) = self.hold(rt, alloc, pass, hook, attempt, call, event);
-                true
+                let (came, _) = self.hold(rt, alloc, pass, hook, attempt, call, event);
+                Some(came)
             }
         }
     }
@@ -108,7 +138,8 @@ impl<F: FileSys, D: Disk> Volume<F, D> {
         call: &Call,
     ) -> Came
         requires idle { IsIdle self.now.table pass.old }
-        requires making { IsMaking call.now pass.old attempt.old false }
+        requires making { IsMaking call.now (H.test hook.old) pass.old attempt.old false }
+        requires outside { attempt.old.at ≡ at.Outside }
         ensures later { IsLater self.now.table pass.old pass.new }
         ensures leads { Leads call.now (H.test hook.old) (part_in pass.old) (part_in pass.new) attempt.old attempt.new result }
         ensures same { attempt.new.crossings.caller ≡ attempt.old.crossings.caller }
@@ -117,8 +148,10 @@ impl<F: FileSys, D: Disk> Volume<F, D> {
         let (came, _) = self.hold(rt, alloc, pass, hook, attempt, call, Event::Enter);
         match came {
             Came::Inside(ticket) => {
-                let _ = self.ask(rt, alloc, pass, hook, attempt, call, &ticket, Kind::Enter);
-                Came::On
+                match self.ask(rt, alloc, pass, hook, attempt, call, &ticket, Kind::Enter) {
+                    Some(came) => came,
+                    None => Came::On,
+                }
             }
             other => other,
         }
@@ -138,7 +171,7 @@ impl<F: FileSys, D: Disk> Volume<F, D> {
         need: Need,
     ) -> (Came, Option<F>)
         requires idle { IsIdle self.now.table pass.old }
-        requires making { IsMaking call.now pass.old attempt.old false }
+        requires making { IsMaking call.now (H.test hook.old) pass.old attempt.old false }
         requires inside { attempt.old.at ≡ at.Inside ticket.now }
         requires need { (need.first < 262144) × (1 ≤ need.count) × (need.count ≤ 32) }
         ensures later { IsLater self.now.table pass.old pass.new }
@@ -146,8 +179,8 @@ impl<F: FileSys, D: Disk> Volume<F, D> {
         ensures same { attempt.new.crossings.caller ≡ attempt.old.crossings.caller }
         ensures test { H.test hook.new ≡ H.test hook.old }
     {
-        if self.ask(rt, alloc, pass, hook, attempt, call, ticket, Kind::Gather) {
-            return (Came::On, None);
+        if let Some(came) = self.ask(rt, alloc, pass, hook, attempt, call, ticket, Kind::Gather) {
+            return (came, None);
         }
         let event = Event::Gather(*ticket, need);
         let (came, code) = self.hold(rt, alloc, pass, hook, attempt, call, event);
@@ -167,7 +200,7 @@ impl<F: FileSys, D: Disk> Volume<F, D> {
         ready: Ready,
     ) -> Came
         requires idle { IsIdle self.now.table pass.old }
-        requires making { IsMaking call.now pass.old attempt.old false }
+        requires making { IsMaking call.now (H.test hook.old) pass.old attempt.old false }
         requires inside { attempt.old.at ≡ at.Inside ticket.now }
         requires there { has attempt.old.pages 0 ≡ true }
         requires ready { Performs attempt.old.pages ticket.now.caller call.now ticket.now.moment (performed.Ready ready) }
@@ -177,8 +210,9 @@ impl<F: FileSys, D: Disk> Volume<F, D> {
         ensures test { H.test hook.new ≡ H.test hook.old }
     {
         if !attempt.asked {
-            if self.ask(rt, alloc, pass, hook, attempt, call, ticket, Kind::Finish) {
-                return Came::On;
+            if let Some(came) = self.ask(rt, alloc, pass, hook, attempt, call, ticket, Kind::Finish)
+            {
+                return came;
             }
             let event = Event::Finish(*ticket, ready);
             return self.hold(rt, alloc, pass, hook, attempt, call, event).0;
@@ -199,15 +233,15 @@ impl<F: FileSys, D: Disk> Volume<F, D> {
         ticket: &Ticket,
     ) -> Came
         requires idle { IsIdle self.now.table pass.old }
-        requires making { IsMaking call.now pass.old attempt.old false }
+        requires making { IsMaking call.now (H.test hook.old) pass.old attempt.old false }
         requires logged { attempt.old.at ≡ at.Logged ticket.now }
         ensures later { IsLater self.now.table pass.old pass.new }
         ensures leads { Leads call.now (H.test hook.old) (part_in pass.old) (part_in pass.new) attempt.old attempt.new result }
         ensures same { attempt.new.crossings.caller ≡ attempt.old.crossings.caller }
         ensures test { H.test hook.new ≡ H.test hook.old }
     {
-        if self.ask(rt, alloc, pass, hook, attempt, call, ticket, Kind::Leave) {
-            return Came::On;
+        if let Some(came) = self.ask(rt, alloc, pass, hook, attempt, call, ticket, Kind::Leave) {
+            return came;
         }
         let event = Event::Leave(*ticket);
         self.hold(rt, alloc, pass, hook, attempt, call, event).0
@@ -227,7 +261,7 @@ impl<F: FileSys, D: Disk> Volume<F, D> {
         ticket: &Ticket,
     ) -> Came
         requires idle { IsIdle self.now.table pass.old }
-        requires making { IsMaking call.now pass.old attempt.old false }
+        requires making { IsMaking call.now (H.test hook.old) pass.old attempt.old false }
         requires inside { attempt.old.at ≡ at.Inside ticket.now }
         ensures later { IsLater self.now.table pass.old pass.new }
         ensures leads { Leads call.now (H.test hook.old) (part_in pass.old) (part_in pass.new) attempt.old attempt.new result }
@@ -266,7 +300,7 @@ impl<F: FileSys, D: Disk> Volume<F, D> {
         call: &Call,
     ) -> Came
         requires idle { IsIdle self.now.table pass.old }
-        requires making { IsMaking call.now pass.old attempt.old shut }
+        requires making { IsMaking call.now (H.test hook.old) pass.old attempt.old shut }
         ensures later { IsLater self.now.table pass.old pass.new }
         ensures leads { Leads call.now (H.test hook.old) (part_in pass.old) (part_in pass.new) attempt.old attempt.new result }
         ensures same { attempt.new.crossings.caller ≡ attempt.old.crossings.caller }
@@ -298,9 +332,7 @@ impl<F: FileSys, D: Disk> Volume<F, D> {
     {
         if pass.begun() == attempt.crossings.ordinal {
             let mut shared = self.turn.take(rt, pass);
-            in_order(&shared.core.core);
             shared.core.core.quit(pass.caller());
-            in_order(&shared.core.core);
             self.turn.give(pass, shared);
         }
     }

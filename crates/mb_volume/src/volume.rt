@@ -9,7 +9,6 @@ ghost use Rattle.mb_volume.specs.Called.{IsAnsweredWith, IsGivenUp};
 ghost use Rattle.mb_volume.specs.Parts.{stand_in};
 ghost use Rattle.mb_volume.specs.Passing.{IsLater, IsMaking, part_in, seen_by};
 
-use crate::attempt::Attempt;
 use crate::events::Came;
 use crate::holds::in_order;
 use crate::shared::SharedCore;
@@ -72,7 +71,7 @@ impl<F: FileSys, D: Disk> Volume<F, D> {
         ensures err { OnErr result (IsGivenUp (H.test hook.old) pass.old.caller (part_in pass.old) (part_in pass.new)) }
         ensures test { H.test hook.new ≡ H.test hook.old }
     {
-        let mut attempt = Attempt::new(alloc, pass.caller(), pass.begun());
+        let mut attempt = self.begin(rt, alloc, pass);
         let mut code = None;
         let mut shut = false;
         for _ in rt.forever() {
