@@ -72,21 +72,36 @@ making_on call test old new before after caller same making leads = record {
   waits = λ wrong. absurd (let both : false ≡ true = wrong in cc);
 }
 
-pub making_inside : {F D : Type 0} (call : Call) (test : Option (Crossing → Bool)) (old new : Known (SharedCore F D)) (before after : Attempt) (ticket : Ticket) → new.caller ≡ old.caller → after.crossings.caller ≡ before.crossings.caller
-    → (making : IsMaking call test old before false) → Leads call test (part_in old) (part_in new) before after (came.Inside ticket) → IsMaking call test new after false
-making_inside call test old new before after ticket caller same making leads = record {
+inside_leads : (call : Call) (test : Option (Crossing → Bool)) (first then : Part) (before after : Attempt) (answer : Came) (ticket : Ticket) → answer ≡ came.Inside ticket → Leads call test first then before after answer
+    → Leads call test first then before after (came.Inside ticket)
+inside_leads call test first then before after answer ticket is leads = subst (λ (a : Came). Leads call test first then before after a) is leads
+
+pub making_inside : {F D : Type 0} (call : Call) (test : Option (Crossing → Bool)) (old new : Known (SharedCore F D)) (before after : Attempt) (answer : Came) (ticket : Ticket) → new.caller ≡ old.caller → after.crossings.caller ≡ before.crossings.caller
+    → (making : IsMaking call test old before false) → answer ≡ came.Inside ticket → Leads call test (part_in old) (part_in new) before after answer → IsMaking call test new after false
+making_inside call test old new before after answer ticket caller same making is leads = record {
   caller = same ∙ making.caller ∙ sym caller;
   from = making.from;
-  underway = (leads making.from making.underway).0;
+  underway = (inside_leads call test (part_in old) (part_in new) before after answer ticket is leads making.from making.underway).0;
   waits = λ wrong. absurd (let both : false ≡ true = wrong in cc);
 }
 
-pub holds_inside : {F D : Type 0} (call : Call) (test : Option (Crossing → Bool)) (old new : Known (SharedCore F D)) (before after : Attempt) (ticket : Ticket) → (making : IsMaking call test old before false)
-    → Leads call test (part_in old) (part_in new) before after (came.Inside ticket) → HoldsTicket after.at ticket
-holds_inside call test old new before after ticket making leads = subst (λ (a : At). HoldsTicket a ticket) (sym (leads making.from making.underway).1) refl
+pub holds_inside : {F D : Type 0} (call : Call) (test : Option (Crossing → Bool)) (old new : Known (SharedCore F D)) (before after : Attempt) (answer : Came) (ticket : Ticket) → (making : IsMaking call test old before false) → answer ≡ came.Inside ticket
+    → Leads call test (part_in old) (part_in new) before after answer → HoldsTicket after.at ticket
+holds_inside call test old new before after answer ticket making is leads =
+    subst (λ (a : At). HoldsTicket a ticket) (sym (inside_leads call test (part_in old) (part_in new) before after answer ticket is leads making.from making.underway).1) refl
 
-pub inside_on : (call : Call) (test : Option (Crossing → Bool)) (first then : Part) (before after : Attempt) (ticket : Ticket) → Leads call test first then before after (came.Inside ticket) → Leads call test first then before after came.On
-inside_on call test first then before after ticket leads = λ from u. (leads from u).0
+inside_on : (call : Call) (test : Option (Crossing → Bool)) (first then : Part) (before after : Attempt) (answer : Came) (ticket : Ticket) → answer ≡ came.Inside ticket → Leads call test first then before after answer → Leads call test first then before after came.On
+inside_on call test first then before after answer ticket is leads = λ from u. (inside_leads call test first then before after answer ticket is leads from u).0
+
+-- the call went in, and was asked there
+pub inside_then : {F D : Type 0} (call : Call) (test : Option (Crossing → Bool)) (old mid new : Known (SharedCore F D)) (before between after : Attempt) (answer last : Came) (ticket : Ticket) → between.crossings.caller ≡ before.crossings.caller
+    → answer ≡ came.Inside ticket → Leads call test (part_in old) (part_in mid) before between answer → Leads call test (part_in mid) (part_in new) between after last → Leads call test (part_in old) (part_in new) before after last
+inside_then call test old mid new before between after answer last ticket same is one other =
+    leads_then call test (part_in old) (part_in mid) (part_in new) before between after last same (inside_on call test (part_in old) (part_in mid) before between answer ticket is one) other
+
+pub counted_on : {F D : Type 0} (call : Call) (test : Option (Crossing → Bool)) (old mid : Known (SharedCore F D)) (before between : Attempt) (kind : Kind) → mid ≡ old → between ≡ record before { crossings = counted before.crossings kind }
+    → Leads call test (part_in old) (part_in mid) before between came.On
+counted_on {F} {D} call test old mid before between kind pass same = subst (λ (p : Known (SharedCore F D)). Leads call test (part_in old) (part_in p) before between came.On) (sym pass) (leads_counted call test (part_in old) before between kind same)
 
 -- the hook let the call go on
 pub making_counted : {F D : Type 0} (call : Call) (test : Option (Crossing → Bool)) (old new : Known (SharedCore F D)) (before after : Attempt) (kind : Kind) → new ≡ old → after ≡ record before { crossings = counted before.crossings kind }
@@ -142,3 +157,6 @@ later_held {F} {D} table old now new idle one other saw mine more = record {
   config = ap (λ (o : Origin D). o.config) (other ∙ one);
   seen = goes_on mine (seen_by old).history (sight_of now.core.core).history (sight_of new.core.core).history saw more;
 }
+
+pub continues_same : (caller : ℕ) (list : List Entry) → Continues caller list list
+continues_same caller list = record { new = []; whole = sym (append-nil list); all_own = tt }

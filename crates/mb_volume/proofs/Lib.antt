@@ -9,4 +9,5 @@ pub mod Replies
 pub mod Pairs
 pub mod Telling
 pub mod Holding
+pub mod Quitting
 pub mod Calling

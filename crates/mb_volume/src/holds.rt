@@ -179,8 +179,9 @@ impl<F: FileSys, D: Disk> Volume<F, D> {
         ensures same { attempt.new.crossings.caller ≡ attempt.old.crossings.caller }
         ensures test { H.test hook.new ≡ H.test hook.old }
     {
-        if let Some(came) = self.ask(rt, alloc, pass, hook, attempt, call, ticket, Kind::Gather) {
-            return (came, None);
+        match self.ask(rt, alloc, pass, hook, attempt, call, ticket, Kind::Gather) {
+            Some(came) => return (came, None),
+            None => {}
         }
         let event = Event::Gather(*ticket, need);
         let (came, code) = self.hold(rt, alloc, pass, hook, attempt, call, event);
@@ -210,9 +211,9 @@ impl<F: FileSys, D: Disk> Volume<F, D> {
         ensures test { H.test hook.new ≡ H.test hook.old }
     {
         if !attempt.asked {
-            if let Some(came) = self.ask(rt, alloc, pass, hook, attempt, call, ticket, Kind::Finish)
-            {
-                return came;
+            match self.ask(rt, alloc, pass, hook, attempt, call, ticket, Kind::Finish) {
+                Some(came) => return came,
+                None => {}
             }
             let event = Event::Finish(*ticket, ready);
             return self.hold(rt, alloc, pass, hook, attempt, call, event).0;
@@ -240,8 +241,9 @@ impl<F: FileSys, D: Disk> Volume<F, D> {
         ensures same { attempt.new.crossings.caller ≡ attempt.old.crossings.caller }
         ensures test { H.test hook.new ≡ H.test hook.old }
     {
-        if let Some(came) = self.ask(rt, alloc, pass, hook, attempt, call, ticket, Kind::Leave) {
-            return came;
+        match self.ask(rt, alloc, pass, hook, attempt, call, ticket, Kind::Leave) {
+            Some(came) => return came,
+            None => {}
         }
         let event = Event::Leave(*ticket);
         self.hold(rt, alloc, pass, hook, attempt, call, event).0
