@@ -86,7 +86,8 @@ impl<F: FileSys, D: Disk> Volume<F, D> {
                     shut = false;
                     thread::yield_now();
                 }
-                _ => shut = false,
+                Came::Inside(_) => shut = false,
+                Came::On => shut = false,
             }
         }
         unreachable!()

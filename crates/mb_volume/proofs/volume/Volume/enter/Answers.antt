@@ -1,4 +1,5 @@
 use Rattle.mb_kinds.specs.declared.faults.Kind.TheVariants as kind
+use Rattle.mb_volume.specs.declared.events.Came.TheVariants as came
 use Rattle.mb_volume.proofs.Holding.{counted_on, holds_inside, inside_then, making_inside}
 use Rattle.mb_volume.proofs.volume.Volume.enter.Goals as goal
 
@@ -18,5 +19,5 @@ returns-in-Some-clause-leads g c =
 
 pub returns-in-None-clause-leads : goal.returns-in-None-clause-leads
 returns-in-None-clause-leads g c =
-    inside_then _ _ c.args.pass.now c.hold-came.new.pass c.ask.new.pass _ _ _ _ _ _ c.hold-came.ensures.same c.in-Inside.is c.hold-came.ensures.leads
-    (counted_on _ _ c.hold-came.new.pass c.ask.new.pass _ _ kind.Enter c.in-None.ensures.unasked.0 c.in-None.ensures.unasked.1)
+    inside_then _ _ c.args.pass.now c.hold-came.new.pass c.ask.new.pass c.args.attempt.now c.hold-came.new.attempt c.ask.new.attempt _ came.On _ c.hold-came.ensures.same c.in-Inside.is c.hold-came.ensures.leads
+    (counted_on _ _ c.hold-came.new.pass c.ask.new.pass c.hold-came.new.attempt c.ask.new.attempt kind.Enter c.in-None.ensures.unasked.0 c.in-None.ensures.unasked.1)
