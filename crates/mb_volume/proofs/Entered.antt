@@ -112,8 +112,7 @@ module _ (call : Call) (test : Option (Crossing → Bool)) (from : Part) (old : 
 
   pub comes_shut : (new : Sight) → attempt.at ≡ at.Outside → Enters old new attempt.crossings.caller call enter.Shut → Comes call test attempt.crossings.caller from (part_of new attempt.crossings.caller) attempt came.Shut
   comes_shut new outside enters =
-      let flight = flight_of old attempt.crossings.caller call (old.seats attempt.crossings.caller).flight in
-      (
+      let flight = flight_of old attempt.crossings.caller call (old.seats attempt.crossings.caller).flight in (
         underway_begins new flight attempt refl (flight_now call test from old attempt u) enters.1 enters.2 (subst (StandsAt attempt.crossings.caller (new.seats attempt.crossings.caller)) (sym outside) tt)
             (subst (λ (l : Limits). HasTablesFor l.callers attempt.pages) (sym enters.2.stays.config) u.tables),
         (flight, ap (λ (s : Seat). s.flight) enters.2.mine, enters.1),
@@ -125,8 +124,7 @@ module _ (call : Call) (test : Option (Crossing → Bool)) (from : Part) (old : 
       let was = flight_of old attempt.crossings.caller call (old.seats attempt.crossings.caller).flight in
       let flight : Flight = record was { ticket = Some ticket } in
       let is = flight_now call test from old attempt u in
-      let made : IsFlight call from (part_of old attempt.crossings.caller) flight = record { call_is = is.call_is; ordinal = is.ordinal; lacks = is.lacks } in
-      (
+      let made : IsFlight call from (part_of old attempt.crossings.caller) flight = record { call_is = is.call_is; ordinal = is.ordinal; lacks = is.lacks } in (
         underway_begins new flight (going_in attempt ticket) refl made enters.lacks enters.begins
             (record { flight = flight; here = ap (λ (s : Seat). s.flight) enters.begins.mine; mine = refl; ordinal = enters.ordinal; moment = enters.moment; answered = enters.lacks }, enters.own) tt,
         refl,

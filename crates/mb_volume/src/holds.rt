@@ -274,7 +274,9 @@ impl<F: FileSys, D: Disk> Volume<F, D> {
             if let Some(fs) = *code {
                 match perform(alloc, &fs, &attempt.pages, ticket, call) {
                     Performed::Need(need) => {
-                        return self.gather(rt, alloc, pass, hook, attempt, call, ticket, need).0;
+                        return self
+                            .gather(rt, alloc, pass, hook, attempt, call, ticket, need)
+                            .0;
                     }
                     Performed::NoMemory => return Came::NoMemory,
                     Performed::Ready(ready) => {
@@ -309,7 +311,9 @@ impl<F: FileSys, D: Disk> Volume<F, D> {
         ensures test { H.test hook.new ≡ H.test hook.old }
     {
         if shut {
-            return self.hold(rt, alloc, pass, hook, attempt, call, Event::Recover).0;
+            return self
+                .hold(rt, alloc, pass, hook, attempt, call, Event::Recover)
+                .0;
         }
         match attempt.at {
             At::Outside => self.enter(rt, alloc, pass, hook, attempt, call),

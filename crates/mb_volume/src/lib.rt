@@ -15,8 +15,6 @@ mod events;
 mod holds;
 mod performing;
 mod shared;
-#[cfg(test)]
-mod tests;
 mod volume;
 
 pub use shared::SharedCore;

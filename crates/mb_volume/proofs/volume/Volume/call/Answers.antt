@@ -66,8 +66,8 @@ loop-preserved-in-Inside g c = record {
   test = c.step.ensures.test ∙ c.loop.invariant.test;
 }
 
-pub loop-preserved-in-On : goal.loop-preserved-in-On
-loop-preserved-in-On g c = record {
+pub loop-preserved : goal.loop-preserved
+loop-preserved g c = record {
   can_next = tt;
   is_finite = tt;
   later = later_then _ _ _ _ c.loop.invariant.later c.step.ensures.later;
