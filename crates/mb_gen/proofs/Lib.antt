@@ -1,0 +1,4 @@
+pub mod Fitness
+pub mod Names
+pub mod OneMore
+pub mod Places
