@@ -1,5 +1,5 @@
 -- What a generated job keeps.
-use Rattle.std.proofs.Common.{List, [], ◌∷◌, ◌++◌, ℕ, zero, suc, ◌+◌, ◌<◌, ◌≤◌, ◌≡◌, ◌%◌, Bool, true, false, cond, eqb, length, length-append, refl, arith}
+use Rattle.std.proofs.Common.{List, [], ◌∷◌, ◌++◌, ℕ, zero, suc, ◌+◌, ◌<◌, ◌≤◌, ◌≡◌, Bool, true, false, cond, eqb, length, length-append, refl, arith}
 use Rattle.std.specs.List.{AllByRecursion}
 use Rattle.std.proofs.Math.Nat.{mod-lt}
 use Rattle.std.proofs.lemmas.Bool.{cond_both}
@@ -10,7 +10,7 @@ use Rattle.mb_jobs.specs.Lists.{added_exit, exit_at, exits_from, lacks_exit, wit
 use Rattle.mb_gen.specs.Calls.{call_drawn, calls_drawn, close_call, creat_call, fill_call, lseek_call, open_call, read_call, row_drawn, stat_call, unlink_call}
 use Rattle.mb_gen.specs.Draws.{drawn, of_one, of_three, of_two}
 use Rattle.mb_gen.specs.Faults.{rules_drawn}
-use Rattle.mb_gen.specs.Generator.{draws_of, generated, job_drawn, the_callers}
+use Rattle.mb_gen.specs.Generator.{draws_of, job_drawn, the_callers}
 use Rattle.mb_gen.specs.Laws.{GeneratedAreFit, IsFit}
 
 all_with : {A : Type 0} (P : A → Type 0) (xs ys : List A) → AllByRecursion P xs → AllByRecursion P ys → AllByRecursion P (xs ++ ys)

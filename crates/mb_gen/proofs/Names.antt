@@ -1,6 +1,6 @@
 -- A name of a generated job is a path.
-use Rattle.std.proofs.Common.{List, [], ◌∷◌, ◌++◌, ℕ, ◌+◌, ◌<◌, ◌≤◌, ◌≡◌, ◌≢◌, length, arith}
-use Rattle.std.specs.Prelude.{All, decimal}
+use Rattle.std.proofs.Common.{List, [], ◌∷◌, ℕ, ◌<◌, ◌≢◌, arith}
+use Rattle.std.specs.Prelude.{decimal}
 use Rattle.std.specs.List.{AllByRecursion}
 use Rattle.std.specs.Char.{digit_value}
 use Rattle.std.specs.Str.Parse.{AllDigits}

@@ -1,6 +1,5 @@
 -- The calls of a generated job, by what is drawn for their words: each is a row of a table (this project's choice).
 use Rattle.std.specs.Prelude.{List, [], ◌∷◌, ◌++◌, ℕ, zero, suc, ◌+◌, ◌==◌, pos, codes, decimal, replicate, if◌then◌else◌}
-use Rattle.mb_kinds.specs.declared.calls.Call.{Call}
 use Rattle.mb_kinds.specs.declared.calls.Call.TheVariants.{Open, Creat, Close, Read, Write, Lseek, Unlink, Stat}
 use Rattle.mb_kinds.specs.declared.calls.How.TheVariants.{Both}
 use Rattle.mb_kinds.specs.declared.calls.Whence.TheVariants.{Start}

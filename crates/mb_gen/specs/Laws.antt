@@ -1,5 +1,5 @@
 -- What a generated job keeps, as each job that a text writes does.
-use Rattle.std.specs.Prelude.{List, [], ◌∷◌, ℕ, ◌+◌, ◌<◌, ◌≤◌, ◌≡◌, length, map}
+use Rattle.std.specs.Prelude.{[], ◌∷◌, ℕ, ◌+◌, ◌<◌, ◌≤◌, ◌≡◌, length, map}
 use Rattle.std.specs.List.{AllByRecursion}
 use Rattle.mb_plan.specs.declared.rules.Rule.{Rule}
 use Rattle.mb_jobs.specs.declared.jobs.Caller.{Caller}
