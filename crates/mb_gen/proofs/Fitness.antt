@@ -11,7 +11,8 @@ use Rattle.mb_gen.specs.Calls.{call_drawn, calls_drawn, close_call, creat_call, 
 use Rattle.mb_gen.specs.Draws.{drawn, of_one, of_three, of_two}
 use Rattle.mb_gen.specs.Faults.{rules_drawn}
 use Rattle.mb_gen.specs.Generator.{draws_of, job_drawn, the_callers}
-use Rattle.mb_gen.specs.Laws.{GeneratedAreFit, IsFit}
+use Rattle.mb_gen.specs.Laws.{GeneratedAreFit, IsFit, IsRead}
+use Rattle.mb_gen.proofs.Reading.{close_read, creat_read, fill_read, lseek_read, open_read, read_read, stat_read, unlink_read}
 
 all_with : {A : Type 0} (P : A → Type 0) (xs ys : List A) → AllByRecursion P xs → AllByRecursion P ys → AllByRecursion P (xs ++ ys)
 all_with P [] ys some more = more
@@ -23,30 +24,55 @@ IsNamed made = made.caller < 2
 abbrev IsEarly : Rule → Type 0
 IsEarly rule = rule.skip + rule.times ≤ 1
 
+either : {G : Type 0} (P : JobCall → Type 0) (b : Bool) (one other : JobCall × G) → P one.0 → P other.0 → P (cond b one other).0
+either P true one other first second = first
+either P false one other first second = second
+
 module _ {G : Type 0} (step : G → ℕ × G) where
-  either : (b : Bool) (one other : JobCall × G) → IsNamed one.0 → IsNamed other.0 → IsNamed (cond b one other).0
-  either true one other first second = first
-  either false one other first second = second
+  below : (bound : ℕ) (draws : G) → 0 < bound → (drawn step bound draws).0 < bound
+  below bound draws some = mod-lt (step draws).0 some
+
+  -- what holds of each row's calls holds of the call that is drawn
+  row_holds : (P : JobCall → Type 0) (caller : ℕ)
+      → ((name : ℕ) → name < 16 → P (creat_call caller name)) → ((name : ℕ) → name < 16 → P (open_call caller name))
+      → ((fd count byte : ℕ) → fd < 4 → count < 512 → byte < 256 → P (fill_call caller fd count byte)) → ((fd count : ℕ) → fd < 4 → count < 512 → P (read_call caller fd count))
+      → ((fd : ℕ) → fd < 4 → P (close_call caller fd)) → ((name : ℕ) → name < 16 → P (unlink_call caller name)) → ((name : ℕ) → name < 16 → P (stat_call caller name))
+      → ((fd offset : ℕ) → fd < 4 → offset < 8192 → P (lseek_call caller fd offset)) → (row : ℕ) (draws : G) → P (row_drawn step caller row draws).0
+  row_holds P caller creat opens fill reads close unlink stat lseek row draws =
+      let name = below 16 draws (omega arith) in
+      let fd = below 4 draws (omega arith) in
+      let next = (step draws).1 in
+      let count = below 512 next (omega arith) in
+      either P (eqb row 0) (of_one step 16 (creat_call caller) draws) _ (creat _ name) (
+      either P (eqb row 1) (of_one step 16 (open_call caller) draws) _ (opens _ name) (
+      either P (eqb row 2) (of_three step 4 512 256 (fill_call caller) draws) _ (fill _ _ _ fd count (below 256 (step next).1 (omega arith))) (
+      either P (eqb row 3) (of_two step 4 512 (read_call caller) draws) _ (reads _ _ fd count) (
+      either P (eqb row 4) (of_one step 4 (close_call caller) draws) _ (close _ fd) (
+      either P (eqb row 5) (of_one step 16 (unlink_call caller) draws) _ (unlink _ name) (
+      either P (eqb row 6) (of_one step 16 (stat_call caller) draws) (of_two step 4 8192 (lseek_call caller) draws) (stat _ name) (lseek _ _ fd (below 8192 next (omega arith)))))))))
 
   row_named : (caller row : ℕ) (draws : G) → caller < 2 → IsNamed (row_drawn step caller row draws).0
   row_named caller row draws low =
-      either (eqb row 0) (of_one step 16 (creat_call caller) draws) _ low (
-      either (eqb row 1) (of_one step 16 (open_call caller) draws) _ low (
-      either (eqb row 2) (of_three step 4 512 256 (fill_call caller) draws) _ low (
-      either (eqb row 3) (of_two step 4 512 (read_call caller) draws) _ low (
-      either (eqb row 4) (of_one step 4 (close_call caller) draws) _ low (
-      either (eqb row 5) (of_one step 16 (unlink_call caller) draws) _ low (
-      either (eqb row 6) (of_one step 16 (stat_call caller) draws) (of_two step 4 8192 (lseek_call caller) draws) low low))))))
+      row_holds IsNamed caller (λ name small. low) (λ name small. low) (λ fd count byte a b c. low) (λ fd count a b. low) (λ fd a. low) (λ name small. low) (λ name small. low) (λ fd offset a b. low) row draws
+
+  row_read : (caller row : ℕ) (draws : G) → IsRead (row_drawn step caller row draws).0
+  row_read caller row draws =
+      row_holds IsRead caller (creat_read caller) (open_read caller) (fill_read caller) (read_read caller) (close_read caller) (unlink_read caller) (stat_read caller) (lseek_read caller) row draws
 
   call_named : (draws : G) → IsNamed (call_drawn step draws).0
   call_named draws =
       let caller = drawn step 2 draws in
-      row_named caller.0 (drawn step 8 caller.1).0 (drawn step 8 caller.1).1 (mod-lt (step draws).0 (omega arith))
+      row_named caller.0 (drawn step 8 caller.1).0 (drawn step 8 caller.1).1 (below 2 draws (omega arith))
 
-  calls_named : (count : ℕ) (draws : G) → AllByRecursion IsNamed (calls_drawn step count draws).0
+  call_read : (draws : G) → IsRead (call_drawn step draws).0
+  call_read draws =
+      let caller = drawn step 2 draws in
+      row_read caller.0 (drawn step 8 caller.1).0 (drawn step 8 caller.1).1
+
+  calls_hold : (P : JobCall → Type 0) → ((draws : G) → P (call_drawn step draws).0) → (count : ℕ) (draws : G) → AllByRecursion P (calls_drawn step count draws).0
   unfolding calls_drawn
-  calls_named zero draws = tt
-  calls_named (suc count) draws = all_with IsNamed (calls_drawn step count draws).0 _ (calls_named count draws) (call_named (calls_drawn step count draws).1, tt)
+  calls_hold P each zero draws = tt
+  calls_hold P each (suc count) draws = all_with P (calls_drawn step count draws).0 _ (calls_hold P each count draws) (each (calls_drawn step count draws).1, tt)
 
   calls_size : (count : ℕ) (draws : G) → length (calls_drawn step count draws).0 ≡ count
   unfolding calls_drawn
@@ -61,16 +87,17 @@ module _ {G : Type 0} (step : G → ℕ × G) where
   rules_early calls bound zero draws = tt
   rules_early calls bound (suc count) draws = all_with IsEarly (rules_drawn step calls bound count draws).0 _ (rules_early calls bound count draws) (omega arith, tt)
 
-exit_named : (calls : List JobCall) (place : ℕ) → place < 2 → AllByRecursion IsNamed (exit_at calls place)
-exit_named calls place low = cond_both (lacks_exit calls place) (added_exit place ∷ []) [] (AllByRecursion IsNamed) (λ _. (low, tt)) (λ _. tt)
+-- what holds of an `exit` of either caller holds of those that are added
+exits_hold : (P : JobCall → Type 0) (calls : List JobCall) (place : ℕ) → P (added_exit place) → AllByRecursion P (exit_at calls place)
+exits_hold P calls place is = cond_both (lacks_exit calls place) (added_exit place ∷ []) [] (AllByRecursion P) (λ _. (is, tt)) (λ _. tt)
+
+all_hold : (P : JobCall → Type 0) (calls : List JobCall) → P (added_exit 0) → P (added_exit 1) → AllByRecursion P calls → AllByRecursion P (with_exits the_callers calls)
+all_hold P calls first second each =
+    all_with P calls (exits_from calls 0 the_callers) each
+    (all_with P (exit_at calls 0) _ (exits_hold P calls 0 first) (all_with P (exit_at calls 1) [] (exits_hold P calls 1 second) tt))
 
 exit_few : (calls : List JobCall) (place : ℕ) → length (exit_at calls place) ≤ 1
 exit_few calls place = cond_both (lacks_exit calls place) (added_exit place ∷ []) [] (λ (exits : List JobCall). length exits ≤ 1) (λ _. omega arith) (λ _. omega arith)
-
-all_named : (calls : List JobCall) → AllByRecursion IsNamed calls → AllByRecursion IsNamed (with_exits the_callers calls)
-all_named calls named =
-    all_with IsNamed calls (exits_from calls 0 the_callers) named
-    (all_with IsNamed (exit_at calls 0) _ (exit_named calls 0 (omega arith)) (all_with IsNamed (exit_at calls 1) [] (exit_named calls 1 (omega arith)) tt))
 
 all_few : (calls : List JobCall) → length (with_exits the_callers calls) ≤ length calls + 2
 all_few calls =
@@ -84,7 +111,8 @@ all_few calls =
 drawn_fit : {G : Type 0} (step : G → ℕ × G) (calls faults : ℕ) (draws : G) → calls ≤ 32768 → IsFit (job_drawn step calls faults draws)
 drawn_fit step calls faults draws few = record {
   letters = refl;
-  named = all_named (calls_drawn step calls draws).0 (calls_named step calls draws);
+  named = all_hold IsNamed (calls_drawn step calls draws).0 (omega arith) (omega arith) (calls_hold step IsNamed (call_named step) calls draws);
+  read = all_hold IsRead (calls_drawn step calls draws).0 refl refl (calls_hold step IsRead (call_read step) calls draws);
   short = (let size = calls_size step calls draws in let all = all_few (calls_drawn step calls draws).0 in omega (arith, size, all));
   start = refl;
   threshold = refl;

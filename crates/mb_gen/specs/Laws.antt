@@ -1,17 +1,23 @@
 -- What a generated job keeps, as each job that a text writes does.
-use Rattle.std.specs.Prelude.{[], ◌∷◌, ℕ, ◌+◌, ◌<◌, ◌≤◌, ◌≡◌, length, map}
+use Rattle.std.specs.Prelude.{[], ◌∷◌, ℕ, ◌+◌, ◌<◌, ◌≤◌, ◌≡◌, Some, length, map}
 use Rattle.std.specs.List.{AllByRecursion}
 use Rattle.mb_plan.specs.declared.rules.Rule.{Rule}
+use Rattle.mb_jobs.specs.Calls.{line_call}
 use Rattle.mb_jobs.specs.declared.jobs.Caller.{Caller}
 use Rattle.mb_jobs.specs.declared.jobs.Job.{Job}
 use Rattle.mb_jobs.specs.declared.jobs.JobCall.{JobCall}
 use Rattle.mb_gen.specs.Generator.{generated}
 
--- a job of the callers `a` and `b`, whose calls each name one of them and are few, whose start, threshold and limit are those of a
--- text that names none, and whose rules fire at a first crossing alone
+-- a call is what a job's reader makes of its text
+abbrev pub IsRead : JobCall → Type 0
+IsRead made = line_call made.text ≡ Some made.call
+
+-- a job of the callers `a` and `b`, whose calls each name one of them and are few, and read as their texts; whose start, threshold and
+-- limit are those of a text that names none, and whose rules fire at a first crossing alone
 pub record IsFit (job : Job) : Type 0 where
   pub letters : map (λ (caller : Caller). caller.letter) job.callers ≡ 97 ∷ 98 ∷ []
   pub named : AllByRecursion (λ (made : JobCall). made.caller < length job.callers) job.calls
+  pub read : AllByRecursion IsRead job.calls
   pub short : length job.calls ≤ 32770
   pub start : job.start ≡ 0
   pub threshold : job.threshold ≡ 64
