@@ -11,7 +11,7 @@ use Rattle.mb_gen.specs.Calls.{call_drawn, calls_drawn, close_call, creat_call, 
 use Rattle.mb_gen.specs.Draws.{drawn, of_one, of_three, of_two}
 use Rattle.mb_gen.specs.Faults.{rules_drawn}
 use Rattle.mb_gen.specs.Generator.{draws_of, job_drawn, the_callers}
-use Rattle.mb_gen.specs.Laws.{GeneratedAreFit, IsFit, IsRead}
+use Rattle.mb_gen.specs.Laws.{GeneratedAreFit, IsFitToRun, IsReadOfText}
 use Rattle.mb_gen.proofs.Reading.{close_read, creat_read, fill_read, lseek_read, open_read, read_read, stat_read, unlink_read}
 
 all_with : {A : Type 0} (P : A → Type 0) (xs ys : List A) → AllByRecursion P xs → AllByRecursion P ys → AllByRecursion P (xs ++ ys)
@@ -55,16 +55,16 @@ module _ {G : Type 0} (step : G → ℕ × G) where
   row_named caller row draws low =
       row_holds IsNamed caller (λ name small. low) (λ name small. low) (λ fd count byte a b c. low) (λ fd count a b. low) (λ fd a. low) (λ name small. low) (λ name small. low) (λ fd offset a b. low) row draws
 
-  row_read : (caller row : ℕ) (draws : G) → IsRead (row_drawn step caller row draws).0
+  row_read : (caller row : ℕ) (draws : G) → IsReadOfText (row_drawn step caller row draws).0
   row_read caller row draws =
-      row_holds IsRead caller (creat_read caller) (open_read caller) (fill_read caller) (read_read caller) (close_read caller) (unlink_read caller) (stat_read caller) (lseek_read caller) row draws
+      row_holds IsReadOfText caller (creat_read caller) (open_read caller) (fill_read caller) (read_read caller) (close_read caller) (unlink_read caller) (stat_read caller) (lseek_read caller) row draws
 
   call_named : (draws : G) → IsNamed (call_drawn step draws).0
   call_named draws =
       let caller = drawn step 2 draws in
       row_named caller.0 (drawn step 8 caller.1).0 (drawn step 8 caller.1).1 (below 2 draws (omega arith))
 
-  call_read : (draws : G) → IsRead (call_drawn step draws).0
+  call_read : (draws : G) → IsReadOfText (call_drawn step draws).0
   call_read draws =
       let caller = drawn step 2 draws in
       row_read caller.0 (drawn step 8 caller.1).0 (drawn step 8 caller.1).1
@@ -108,11 +108,11 @@ all_few calls =
     let second = exit_few calls 1 in
     omega (arith, whole, exits, last, first, second)
 
-drawn_fit : {G : Type 0} (step : G → ℕ × G) (calls faults : ℕ) (draws : G) → calls ≤ 32768 → IsFit (job_drawn step calls faults draws)
+drawn_fit : {G : Type 0} (step : G → ℕ × G) (calls faults : ℕ) (draws : G) → calls ≤ 32768 → IsFitToRun (job_drawn step calls faults draws)
 drawn_fit step calls faults draws few = record {
   letters = refl;
   named = all_hold IsNamed (calls_drawn step calls draws).0 (omega arith) (omega arith) (calls_hold step IsNamed (call_named step) calls draws);
-  read = all_hold IsRead (calls_drawn step calls draws).0 refl refl (calls_hold step IsRead (call_read step) calls draws);
+  read = all_hold IsReadOfText (calls_drawn step calls draws).0 refl refl (calls_hold step IsReadOfText (call_read step) calls draws);
   short = (let size = calls_size step calls draws in let all = all_few (calls_drawn step calls draws).0 in omega (arith, size, all));
   start = refl;
   threshold = refl;

@@ -20,7 +20,7 @@ use Rattle.mb_call_texts.proofs.Arguments.{path_in-word}
 use Rattle.mb_call_texts.proofs.Blanks.{HasNoBlank, after_word-of, decimal_no_blank, first_word-of, path_no_blank}
 use Rattle.mb_call_texts.proofs.Numerals.{number_below-decimal, offset_in-decimal}
 use Rattle.mb_gen.specs.Calls.{close_call, creat_call, fd_of, fill_call, lseek_call, name_of, open_call, read_call, stat_call, unlink_call}
-use Rattle.mb_gen.specs.Laws.{IsRead}
+use Rattle.mb_gen.specs.Laws.{IsReadOfText}
 
 -- two words and three, each read as an argument
 read_two : {A B : Type 0} (make : A → B → Call) (p : List ℕ → Option A) (q : List ℕ → Option B) (first second : List ℕ) (x : A) (y : B) → HasNoBlank first → p first ≡ Some x → q second ≡ Some y
@@ -68,34 +68,34 @@ name_no_blank number small = path_no_blank (name_of number) (name_can number sma
 
 -- ---- the rows
 
-pub creat_read : (caller name : ℕ) → name < 16 → IsRead (creat_call caller name)
+pub creat_read : (caller name : ℕ) → name < 16 → IsReadOfText (creat_call caller name)
 creat_read caller name small = read_two Creat path_in (octal_in 3) (name_of name) (codes "644") (name_of name) 420 (name_no_blank name small) (name_is name small) refl _ refl
 
-pub open_read : (caller name : ℕ) → name < 16 → IsRead (open_call caller name)
+pub open_read : (caller name : ℕ) → name < 16 → IsReadOfText (open_call caller name)
 open_read caller name small = read_two Open path_in how_in (name_of name) (codes "rw") (name_of name) Both (name_no_blank name small) (name_is name small) refl _ refl
 
-pub fill_read : (caller fd count byte : ℕ) → fd < 4 → count < 512 → byte < 256 → IsRead (fill_call caller fd count byte)
+pub fill_read : (caller fd count byte : ℕ) → fd < 4 → count < 512 → byte < 256 → IsReadOfText (fill_call caller fd count byte)
 fill_read caller fd count byte low few small =
     read_three fills short_in short_in (number_below 256) (decimal (fd_of fd)) (decimal count) (decimal byte) (fd_of fd) count byte
     (short_no_blank (fd_of fd) (omega arith)) (short_no_blank count (omega arith)) (short_is (fd_of fd) (omega arith)) (short_is count (omega arith)) (number_below-decimal 256 byte small (omega arith)) _
     (append_assoc (decimal (fd_of fd) ++ codes " " ++ decimal count) (codes " ") (decimal byte) ∙ ap (λ l. l ++ 32 ∷ decimal byte) (append_assoc (decimal (fd_of fd)) (codes " ") (decimal count))
     ∙ append_assoc (decimal (fd_of fd)) (32 ∷ decimal count) (32 ∷ decimal byte))
 
-pub read_read : (caller fd count : ℕ) → fd < 4 → count < 512 → IsRead (read_call caller fd count)
+pub read_read : (caller fd count : ℕ) → fd < 4 → count < 512 → IsReadOfText (read_call caller fd count)
 read_read caller fd count low few =
     read_two Read short_in short_in (decimal (fd_of fd)) (decimal count) (fd_of fd) count (short_no_blank (fd_of fd) (omega arith)) (short_is (fd_of fd) (omega arith)) (short_is count (omega arith)) _
     (append_assoc (decimal (fd_of fd)) (codes " ") (decimal count))
 
-pub close_read : (caller fd : ℕ) → fd < 4 → IsRead (close_call caller fd)
+pub close_read : (caller fd : ℕ) → fd < 4 → IsReadOfText (close_call caller fd)
 close_read caller fd low = ap (one Close) (short_is (fd_of fd) (omega arith))
 
-pub unlink_read : (caller name : ℕ) → name < 16 → IsRead (unlink_call caller name)
+pub unlink_read : (caller name : ℕ) → name < 16 → IsReadOfText (unlink_call caller name)
 unlink_read caller name small = ap (one Unlink) (name_is name small)
 
-pub stat_read : (caller name : ℕ) → name < 16 → IsRead (stat_call caller name)
+pub stat_read : (caller name : ℕ) → name < 16 → IsReadOfText (stat_call caller name)
 stat_read caller name small = ap (one Stat) (name_is name small)
 
-pub lseek_read : (caller fd offset : ℕ) → fd < 4 → offset < 8192 → IsRead (lseek_call caller fd offset)
+pub lseek_read : (caller fd offset : ℕ) → fd < 4 → offset < 8192 → IsReadOfText (lseek_call caller fd offset)
 lseek_read caller fd offset low few =
     read_three Lseek short_in offset_in whence_in (decimal (fd_of fd)) (decimal offset) (codes "0") (fd_of fd) (pos offset) Start
     (short_no_blank (fd_of fd) (omega arith)) (short_no_blank offset (omega arith)) (short_is (fd_of fd) (omega arith)) (offset_in-decimal (pos offset) (omega (arith, ints)) (omega (arith, ints))) refl _

@@ -1,6 +1,6 @@
 ghost use Rattle.std.specs.Prelude.{◌≡◌, ◌≤◌, ◌<◌, ◌∷◌, [], length, IfOk};
 ghost use Rattle.mb_edge.specs.declared.strokes.Stroke.{Stroke};
-ghost use Rattle.mb_gen.specs.Faults.{kind_of, rule_drawn, rule_of, rules_drawn};
+ghost use Rattle.mb_gen.specs.Faults.{kind_numbered, rule_at, rule_drawn, rules_drawn};
 
 use crate::draws::draw;
 use crate::ordinals::ordinal_at;
@@ -12,9 +12,9 @@ use rand_core::utils::NextWord;
 use std::alloc::{AllocError, Global};
 
 /// The kind of a fault point.
-fn kind_of(number: u16) -> Kind
+fn kind_numbered(number: u16) -> Kind
     requires { number < 4 }
-    ensures { result ≡ kind_of number }
+    ensures { result ≡ kind_numbered number }
 {
     match number {
         0 => Kind::Enter,
@@ -34,7 +34,7 @@ fn wiping(alloc: Global, byte: u8) -> Result<Damage, AllocError>
 }
 
 /// The rule that strikes the call at a place, from 0, at its first fault point of a kind.
-fn rule_of(
+fn rule_at(
     alloc: Global,
     calls: &[JobCall],
     place: u16,
@@ -44,13 +44,13 @@ fn rule_of(
     requires short { length calls.now ≤ 32770 }
     requires inside { place < length calls.now }
     requires kind { kind < 4 }
-    ensures { IfOk result (λ rule. rule ≡ rule_of calls.now place kind byte) }
+    ensures { IfOk result (λ rule. rule ≡ rule_at calls.now place kind byte) }
 {
     let at = usize::from(place);
     Ok(Rule {
         caller: calls[at].caller,
         ordinal: ordinal_at(calls, at),
-        kind: kind_of(kind),
+        kind: kind_numbered(kind),
         skip: 0,
         times: 1,
         damage: wiping(alloc, byte)?,
@@ -72,7 +72,7 @@ fn rule_drawn<G: NextWord<u32>>(
     let place = draw(draws, bound);
     let kind = draw(draws, 4);
     let byte = draw(draws, 256);
-    rule_of(alloc, calls, place, kind, byte as u8)
+    rule_at(alloc, calls, place, kind, byte as u8)
 }
 
 /// So many rules, one after another, each of one of the first calls.
