@@ -21,6 +21,7 @@ pub mod Quiet
 pub mod Waiting
 pub mod Listing
 pub mod InOrder
+pub mod Indexed
 pub mod Completing
 pub mod Beginning
 pub mod Ending

@@ -5,6 +5,7 @@ pub mod Events
 pub mod Recovering
 pub mod Firsts
 pub mod Served
+pub mod Indexes
 pub mod Orders
 pub mod Settling
 pub mod Runs

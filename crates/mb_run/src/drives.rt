@@ -2,6 +2,7 @@ ghost use Rattle.std.specs.Prelude.{[], ◌≡◌, ◌≢◌, ◌<◌, ◌≤◌
 ghost use Rattle.std.specs.List.{AllByRecursion};
 ghost use Rattle.mb_jobs.specs.declared.jobs.JobCall.{JobCall};
 ghost use Rattle.mb_run.specs.Drives.{AreNew, Ends, IsBegun, IsComplete, IsDriven, IsRunnable};
+ghost use Rattle.mb_run.specs.Indexes.{IsIndexOf};
 ghost use Rattle.mb_run.specs.Letters.{AreLetters, HasBegunBy, letters_of};
 ghost use Rattle.mb_run.specs.Orders.{AreRunOut, IsReached, IsWhole};
 ghost use Rattle.mb_run.specs.Runs.{FirstsRise};
@@ -9,6 +10,7 @@ ghost use Rattle.mb_run.specs.Served.{IsBalanced, Underway};
 ghost use Rattle.mb_run.specs.Sights.{IsOrderly};
 ghost use Rattle.mb_run.specs.declared.drives.DriveEnd.TheVariants as end;
 
+use crate::call_index::CallIndex;
 use crate::event_core::EventCore;
 use crate::orders::run_order;
 use crate::runner::Runner;
@@ -42,9 +44,11 @@ fn run_up_to<C: EventCore, H: Hook>(
     hook: &mut H,
     runners: &mut [Runner],
     calls: &[JobCall],
+    index: &CallIndex,
     caller: u8,
     count: u32,
 ) -> bool
+    requires index { IsIndexOf calls.now index.now.places }
     requires underway { Underway calls.now (H.test hook.old) (C.sight core.old) runners.old }
     requires within { caller < length runners.old }
     ensures whole { result ≡ true → IsWhole calls.now (H.test hook.old) (C.sight core.old) (C.sight core.new) runners.old runners.new }
@@ -57,7 +61,7 @@ fn run_up_to<C: EventCore, H: Hook>(
     if runners[caller as usize].done >= count {
         return true;
     }
-    run_call(alloc, core, hook, runners, calls, caller)
+    run_call(alloc, core, hook, runners, calls, index, caller)
 }
 
 /// Runs the calls that are not answered to their ends, in the order of their indices. False is want of memory.
@@ -67,7 +71,9 @@ fn run_out<C: EventCore, H: Hook>(
     hook: &mut H,
     runners: &mut [Runner],
     calls: &[JobCall],
+    index: &CallIndex,
 ) -> bool
+    requires index { IsIndexOf calls.now index.now.places }
     requires underway { Underway calls.now (H.test hook.old) (C.sight core.old) runners.old }
     requires callers { AllByRecursion (λ (made : JobCall). made.caller < length runners.old) calls.now }
     requires few { length runners.old ≤ 8 }
@@ -84,7 +90,7 @@ fn run_out<C: EventCore, H: Hook>(
         let caller = made.caller as usize;
         let count = passed[caller] + 1;
         passed[caller] = count;
-        if !run_up_to(alloc, core, hook, runners, calls, made.caller, count) {
+        if !run_up_to(alloc, core, hook, runners, calls, index, made.caller, count) {
             return false;
         }
     }
@@ -113,10 +119,13 @@ fn run_by_order<C: EventCore, H: Hook>(
     ensures origin { C.origin core.new ≡ C.origin core.old }
     ensures right { IsOrderly (C.sight core.new) }
 {
-    if !run_order(alloc, core, hook, runners, calls, callers, order) {
+    let Ok(index) = CallIndex::new(alloc, calls) else {
+        return false;
+    };
+    if !run_order(alloc, core, hook, runners, calls, &index, callers, order) {
         return false;
     }
-    run_out(alloc, core, hook, runners, calls)
+    run_out(alloc, core, hook, runners, calls, &index)
 }
 
 /// Runs a job, by its order where it has one. False is want of memory.

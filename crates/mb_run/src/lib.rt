@@ -15,6 +15,7 @@
 #![tactic(auto)]
 
 mod answers;
+mod call_index;
 mod drives;
 mod event_core;
 mod examples;
@@ -26,6 +27,7 @@ mod settles;
 mod steps;
 
 pub use answers::{Enter, Stepped};
+pub use call_index::{CallIndex, find_call};
 pub use drives::{DriveEnd, Driven, drive};
 pub use event_core::EventCore;
 pub use examples::{
@@ -34,6 +36,6 @@ pub use examples::{
 pub use orders::run_order;
 pub use progress::{Next, Turn, Went};
 pub use runner::{At, Runner};
-pub use runs::{find_call, recover, run_call, run_holder, run_in_order, turn};
+pub use runs::{recover, run_call, run_holder, run_in_order, turn};
 pub use settles::{SettleEnd, Settled, settle};
 pub use steps::step;

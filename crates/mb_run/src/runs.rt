@@ -1,6 +1,7 @@
 ghost use Rattle.std.specs.Prelude.{◌≡◌, ◌<◌, Some, true, length, option_map, slice_get};
 ghost use Rattle.std.specs.List.{AllByRecursion};
 ghost use Rattle.mb_edge.specs.declared.crossings.Crossings.{Crossings};
+ghost use Rattle.mb_run.specs.Indexes.{IsIndexOf};
 ghost use Rattle.mb_run.specs.Orders.{IsAnswered, IsWhole};
 ghost use Rattle.mb_run.specs.Recovering.{GoOn};
 ghost use Rattle.mb_run.specs.Served.{IsAfter, IsMine, IsResting, IsRunInOrder, Keeps, MayGiveUp, MayStep, Ran, Recovers, Rolled, Turns, Underway, calls_of};
@@ -9,6 +10,7 @@ ghost use Rattle.mb_run.specs.declared.runner.At.TheVariants as at;
 ghost use Rattle.mb_jobs.specs.declared.jobs.JobCall.{JobCall};
 
 use crate::answers::Stepped;
+use crate::call_index::{CallIndex, find_call};
 use crate::event_core::EventCore;
 use crate::progress::{Turn, Went};
 use crate::runner::Runner;
@@ -173,22 +175,6 @@ pub fn run_holder<C: EventCore, H: Hook>(
     }
 }
 
-/// The call of a caller's list at a place, from 0.
-pub fn find_call<'a>(calls: &'a [JobCall], caller: u8, place: u32) -> Option<&'a Call>
-    ensures { option_map (λ call. call.now) result ≡ slice_get (calls_of calls.now caller) place }
-{
-    let mut passed: u64 = 0;
-    for made in calls {
-        if made.caller == caller {
-            if passed == place as u64 {
-                return Some(&made.call);
-            }
-            passed += 1;
-        }
-    }
-    None
-}
-
 /// One turn of a call: a step, and the recovery where it has to wait for one.
 pub fn turn<C: EventCore, H: Hook>(
     alloc: Global,
@@ -228,8 +214,10 @@ pub fn run_call<C: EventCore, H: Hook>(
     hook: &mut H,
     runners: &mut [Runner],
     calls: &[JobCall],
+    index: &CallIndex,
     caller: u8,
 ) -> bool
+    requires index { IsIndexOf calls.now index.now.places }
     requires underway { Underway calls.now (H.test hook.old) (C.sight core.old) runners.old }
     requires within { caller < length runners.old }
     ensures whole { result ≡ true → IsWhole calls.now (H.test hook.old) (C.sight core.old) (C.sight core.new) runners.old runners.new }
@@ -241,7 +229,7 @@ pub fn run_call<C: EventCore, H: Hook>(
 {
     'turns: loop {
         let place = runners[caller as usize].done;
-        let Some(call) = find_call(calls, caller, place) else {
+        let Some(call) = find_call(calls, index, caller, place) else {
             return true;
         };
         match turn(
@@ -260,7 +248,7 @@ pub fn run_call<C: EventCore, H: Hook>(
             }
             Turn::Busy(holder) => {
                 let holds = runners[holder as usize].done;
-                let Some(first) = find_call(calls, holder, holds) else {
+                let Some(first) = find_call(calls, index, holder, holds) else {
                     unreachable!();
                 };
                 if !run_holder(
