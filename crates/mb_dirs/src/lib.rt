@@ -16,6 +16,7 @@ mod enters;
 mod fields;
 mod grows;
 mod makes;
+mod pick_needs;
 mod rewrites;
 mod slot_writes;
 mod steps;
