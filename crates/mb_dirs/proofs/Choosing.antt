@@ -6,7 +6,7 @@ use Rattle.std.proofs.lemmas.Bool.Decides.{nat_tests}
 use Rattle.mb_kinds.specs.Image.{Image}
 use Rattle.mb_word.specs.Fields.{inode_block, inode_place, isize_of, mode_of, ninode_of}
 use Rattle.mb_tree.specs.Step.{IsFreeNumber}
-use Rattle.mb_tree.specs.Views.{over, IsPart}
+use Rattle.mb_tree.specs.Views.{over}
 use Rattle.mb_tree.specs.Volume.{HasInode, last_inode}
 use Rattle.mb_tree.specs.declared.nodes.Node.{Node}
 use Rattle.mb_tree.specs.declared.trees.Tree.{Tree}
@@ -14,7 +14,6 @@ use Rattle.mb_alloc.specs.Numbers.{Picks, cached_below, cached_in, free_numbers,
 use Rattle.mb_alloc.specs.declared.picks.Picked.TheVariants as picked
 use Rattle.mb_iface.specs.Acting.{with_changes}
 use Rattle.mb_iface.specs.Changed.{ChangeList, changed}
-use Rattle.mb_iface.specs.Needs.{IsNeed}
 use Rattle.mb_iface.specs.declared.replies.Need.{Need}
 use Rattle.mb_nodes.specs.Bodies.{IsCacheWritten}
 use Rattle.mb_nodes.specs.Stored.{IsStored}
@@ -133,12 +132,4 @@ pick_asks shown old new need picks = (
   λ image tree chain part stored looks.
       (let blocks = with_changes image old in
       list_near blocks tree chain stored looks need.first (elim (picks.2 image.at part (stored_rules blocks tree chain stored)) [ inl one ↦ inl one | inr listed ↦ inr (inl listed) ])),
-)
-
--- what is asked for before the pick
-pub pick_lacks : (shown : ℕ → Option (List ℕ)) (old new : ChangeList) (need : Need)
-    → IsNeed shown need × ((blocks : ℕ → List ℕ) → IsPart shown blocks → (need.first ≡ 1) ⊎ ((2 ≤ need.first) × (need.first < isize_of (over blocks (changed old) 1)))) → PicksNumberOf shown old new (chosen.Need need)
-pick_lacks shown old new need lacks = (
-  lacks.0,
-  λ image tree chain part stored looks. list_near (with_changes image old) tree chain stored looks need.first (elim (lacks.1 image.at part) [ inl one ↦ inl one | inr listed ↦ inr (inl listed) ]),
 )

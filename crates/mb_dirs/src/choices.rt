@@ -1,6 +1,5 @@
 ghost use Rattle.mb_dirs.specs.Choosing.{Chooses, ChecksNumber, PicksNumberOf};
 
-use crate::pick_needs::lacking_pick;
 use mb_alloc::{Picked, pick_inode};
 use mb_iface::{Changes, Need, View, seen};
 use mb_layout::inode_block;
@@ -45,13 +44,10 @@ fn check_number<V: View>(view: &V, changes: &Changes, ino: u16) -> Chosen
     Chosen::Number(ino)
 }
 
-/// Picks a free number as V7 does, once the blocks at which the pick looks first are there.
+/// Picks a free number as V7 does.
 fn pick_number<V: View>(view: &V, changes: &mut Changes) -> Chosen
     ensures { PicksNumberOf (V.shown view.now) changes.old changes.new result }
 {
-    if let Some(need) = lacking_pick(view, changes) {
-        return Chosen::Need(need);
-    }
     match pick_inode(view, changes) {
         Picked::Ino(ino) => Chosen::Number(ino),
         Picked::NoneLeft => Chosen::NoneLeft,

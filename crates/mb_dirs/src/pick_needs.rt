@@ -5,10 +5,21 @@ use mb_iface::{Changes, Need, View, seen};
 use mb_layout::inode_block;
 use mb_word::word_at;
 
-/// What a pick of a free number is sure to look at, or likely to, and the view lacks: block 1, the block
-/// of the last cached number's inode, or, where no number is cached, blocks of the i-list. A pick that
-/// is begun only where this is none makes its scan of the i-list about once.
-pub(crate) fn lacking_pick<V: View>(view: &V, changes: &Changes) -> Option<Need>
+/// What V7's pick of a free number is sure to look at, or likely to, and the view lacks: block 1, the
+/// block of the last cached number's inode, or, where no number is cached, blocks of the i-list. An
+/// operation asks for it before all else: then it chooses a number about once, and scans the i-list about
+/// once, whatever it asks for later. A demanded number is not looked for.
+pub fn lacking_number<V: View>(view: &V, changes: &Changes, demanded: Option<u16>) -> Option<Need>
+    ensures { LacksForPick (V.shown view.now) changes.now result }
+{
+    match demanded {
+        Some(_) => None,
+        None => lacking_pick(view, changes),
+    }
+}
+
+/// What a pick lacks.
+fn lacking_pick<V: View>(view: &V, changes: &Changes) -> Option<Need>
     ensures { LacksForPick (V.shown view.now) changes.now result }
 {
     let Some(first) = seen(view, changes, 1) else {

@@ -1,4 +1,4 @@
-use Rattle.mb_dirs.proofs.Choosing.{picked_number, none_picked, pick_asks, pick_lacks}
+use Rattle.mb_dirs.proofs.Choosing.{picked_number, none_picked, pick_asks}
 use Rattle.mb_dirs.proofs.choices.pick_number.Goals as goal
 
 pub returns-in-Ino : goal.returns-in-Ino
@@ -9,6 +9,3 @@ returns-in-NoneLeft g c = none_picked (g.V.View.shown c.args.view.now) c.args.ch
 
 pub returns-in-Need : goal.returns-in-Need
 returns-in-Need g c = pick_asks (g.V.View.shown c.args.view.now) c.args.changes.now c.pick_inode.new.changes c.in-Need.need c.in-Need.ensures
-
-pub returns-in-Some : goal.returns-in-Some
-returns-in-Some g c = pick_lacks (g.V.View.shown c.args.view.now) c.args.changes.now c.args.changes.now c.in-Some.need c.in-Some.ensures
