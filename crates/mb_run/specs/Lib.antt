@@ -9,6 +9,7 @@ pub mod Indexes
 pub mod Orders
 pub mod Settling
 pub mod Runs
+pub mod Tallies
 pub mod Letters
 pub mod Drives
 pub mod Examples

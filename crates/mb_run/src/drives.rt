@@ -202,7 +202,9 @@ fn drive_core<C: EventCore, H: Hook>(
 /// entries are `start + 1` to `start + n`, each once, and in list order one after another; by an order, the moments of
 /// the callers' first calls rise as their letters first stand in it, and those of callers without a letter in it come
 /// last; and each fault record is at a crossing where the fault injector faults, no two at one whose `nth` is below
-/// 4294967295.
+/// 4294967295. In list order, over a core that runs at the beginning, a call with a plain reply has a record of each of its
+/// first crossings at Enter, Gather, Finish and Leave where the injector's test holds, and, where it was struck inside, at
+/// Remount; and a record of Enter, Finish or Remount has an `nth` of at most one more than the records before it.
 pub fn drive<C: EventCore, H: Hook>(alloc: Global, core: C, job: &Job, hook: &mut H) -> Driven<C>
     requires runnable { IsRunnable job.now }
     requires begun { IsBegun job.now (C.sight core) }

@@ -7,8 +7,10 @@
 //!
 //! One step of a caller is `step`. Of what its caller did so far, of its ticket, pages and fault points `IsServed`
 //! (`specs/Served.antt`) keeps the account, and `Acts` says what the steps of one caller leave to the others; with both
-//! every loop goes on and ends. `drive` runs a job, in list order or by its order, and leaves `IsDriven`
-//! (`specs/Drives.antt`). `settle` ends a run and leaves `IsSettled` (`specs/Settling.antt`).
+//! every loop goes on and ends. Of a caller that acts alone, as in list order, `IsTallied` (`specs/Tallies.antt`) tells at
+//! which fault points its call was, and that the faults there have their records. `drive` runs a job, in list order or by
+//! its order, and leaves `IsDriven` (`specs/Drives.antt`). `settle` ends a run and leaves `IsSettled`
+//! (`specs/Settling.antt`).
 //!
 //! `specs/Runs.antt` has what is to be said of a whole run over history, fault records, trace and job alone, and
 //! `specs/Examples.antt` evaluates it on worked examples.
@@ -19,6 +21,7 @@ mod call_index;
 mod drives;
 mod event_core;
 mod examples;
+mod laws;
 mod orders;
 mod progress;
 mod runner;
@@ -33,6 +36,7 @@ pub use event_core::EventCore;
 pub use examples::{
     worked_checkpoints, worked_entering, worked_faults, worked_moments, worked_orders,
 };
+pub use laws::planned_faults;
 pub use orders::run_order;
 pub use progress::{Next, Turn, Went};
 pub use runner::{At, Runner};

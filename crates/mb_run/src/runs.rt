@@ -4,8 +4,10 @@ ghost use Rattle.mb_edge.specs.declared.crossings.Crossings.{Crossings};
 ghost use Rattle.mb_run.specs.Indexes.{IsIndexOf};
 ghost use Rattle.mb_run.specs.Orders.{IsAnswered, IsWhole};
 ghost use Rattle.mb_run.specs.Recovering.{GoOn};
+ghost use Rattle.mb_run.specs.Runs.{HasTakenTested};
 ghost use Rattle.mb_run.specs.Served.{IsAfter, IsMine, IsResting, IsRunInOrder, Keeps, MayGiveUp, MayStep, Ran, Recovers, Rolled, Turns, Underway, calls_of};
 ghost use Rattle.mb_run.specs.Sights.{IsOrderly, IsWaiting, recovers};
+ghost use Rattle.mb_run.specs.Tallies.{AreRested, IsBetween, IsTallied, Tallies};
 ghost use Rattle.mb_run.specs.declared.runner.At.TheVariants as at;
 ghost use Rattle.mb_jobs.specs.declared.jobs.JobCall.{JobCall};
 
@@ -45,6 +47,7 @@ pub(crate) fn roll<C: EventCore, H: Hook>(
     requires waits { IsWaiting ((C.sight core.old).seats runner.old.crossings.caller) }
     requires recovered { recovers (C.sight core.old).stage ≡ true }
     ensures rolled { Rolled calls.now (H.test hook.old) (C.sight core.old) (C.sight core.new) runner.old runner.new result }
+    ensures tallied { Tallies (H.test hook.old) (C.sight core.old) (C.sight core.new) runner.old runner.new result }
     ensures test { H.test hook.new ≡ H.test hook.old }
     ensures origin { C.origin core.new ≡ C.origin core.old }
     ensures right { IsOrderly (C.sight core.new) }
@@ -118,6 +121,7 @@ pub fn recover<C: EventCore, H: Hook>(
     requires waits { IsWaiting ((C.sight core.old).seats runner.old.crossings.caller) }
     requires recovered { recovers (C.sight core.old).stage ≡ true }
     ensures recovers { Recovers calls.now (H.test hook.old) (C.sight core.old) (C.sight core.new) runner.old runner.new result }
+    ensures tallied { Tallies (H.test hook.old) (C.sight core.old) (C.sight core.new) runner.old runner.new result }
     ensures test { H.test hook.new ≡ H.test hook.old }
     ensures origin { C.origin core.new ≡ C.origin core.old }
     ensures right { IsOrderly (C.sight core.new) }
@@ -146,6 +150,7 @@ pub fn run_holder<C: EventCore, H: Hook>(
     requires may { MayStep calls.now (H.test hook.old) (C.sight core.old) runner.old call.now }
     requires mine { IsMine runner.old.crossings.caller (C.sight core.old).floor }
     ensures ran { Ran calls.now (H.test hook.old) (C.sight core.old) (C.sight core.new) runner.old runner.new result }
+    ensures tallied { result ≡ true → IsTallied (H.test hook.old) (C.sight core.old) runner.old runner.old.at → IsBetween (H.test hook.old) (C.sight core.new) runner.new }
     ensures test { H.test hook.new ≡ H.test hook.old }
     ensures origin { C.origin core.new ≡ C.origin core.old }
     ensures right { IsOrderly (C.sight core.new) }
@@ -277,6 +282,7 @@ pub fn run_in_order<C: EventCore, H: Hook>(
     requires begins { IsAfter calls.now (H.test hook.old) (C.sight core.old) runners.old 0 }
     requires callers { AllByRecursion (λ (made : JobCall). made.caller < length runners.old) calls.now }
     ensures done { result ≡ true → IsRunInOrder calls.now (length runners.old) (H.test hook.old) (C.sight core.new) }
+    ensures taken { result ≡ true → AreRested (H.test hook.old) (C.sight core.old) runners.old → HasTakenTested (H.test hook.old) (C.sight core.new).history (C.sight core.new).records }
     ensures config { result ≡ true → (C.sight core.new).config ≡ (C.sight core.old).config }
     ensures test { H.test hook.new ≡ H.test hook.old }
     ensures origin { C.origin core.new ≡ C.origin core.old }
