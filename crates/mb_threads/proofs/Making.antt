@@ -1,0 +1,74 @@
+-- A caller's thread makes its calls one after another.
+use Rattle.std.proofs.Common.{◌≡◌, ◌≢◌, List, [], ◌∷◌, ◌++◌, ℕ, ◌+◌, ◌<◌, ◌≤◌, Bool, true, false, cond, nat_eq, length, map, take, refl, ap, sym, subst, ◌∙◌, arith, Option, None, Some, slice_get, IfSome, length-append}
+use Rattle.std.proofs.lemmas.Bool.{eq-eqb}
+use Rattle.std.proofs.lemmas.List.{append-nil, map-append, map_push}
+use Rattle.std.proofs.lemmas.List.Elements.{filter-append}
+use Rattle.std.specs.List.{AllByRecursion, filter}
+use Rattle.mb_edge.specs.declared.crossings.Crossing.{Crossing}
+use Rattle.mb_jobs.specs.declared.jobs.JobCall.{JobCall}
+use Rattle.mb_kinds.specs.declared.calls.Call.{Call}
+use Rattle.mb_kinds.specs.declared.entries.Entry.{Entry}
+use Rattle.mb_kinds.specs.declared.faults.FaultRecord.{FaultRecord}
+use Rattle.mb_kinds.specs.declared.replies.Reply.{Reply}
+use Rattle.mb_run.proofs.Completing.{take_few}
+use Rattle.mb_run.proofs.Lists.{all_both, all_map, neq, take_next}
+use Rattle.mb_run.specs.Recovering.{crossing_of}
+use Rattle.mb_run.specs.Served.{AreApart, AreSound, IsApart, calls_of}
+use Rattle.mb_run.specs.Sights.{Seat}
+use Rattle.mb_volume.specs.Called.{AreOfFirst, IsAnsweredWith}
+use Rattle.mb_volume.specs.Parts.{Part}
+use Rattle.mb_threads.specs.Workers.{HasMade}
+
+-- ---- fault records of calls one after another
+
+apart_all : (fault : FaultRecord) (begun : ℕ) (more : List FaultRecord) → fault.ordinal ≤ begun → AllByRecursion (λ (f : FaultRecord). f.ordinal ≡ begun + 1) more → AllByRecursion (IsApart fault) more
+apart_all fault begun [] low all = tt
+apart_all fault begun (one ∷ more) low all = ((λ same. absurd (omega (arith, low, all.0, ap (λ (f : FaultRecord). f.ordinal) same))), apart_all fault begun more low all.1)
+
+apart_both : (begun : ℕ) (before more : List FaultRecord) → AreOfFirst begun before → AllByRecursion (λ (f : FaultRecord). f.ordinal ≡ begun + 1) more → AreApart before → AreApart more → AreApart (before ++ more)
+apart_both begun [] more first all one other = other
+apart_both begun (fault ∷ before) more first all one other = (all_both (IsApart fault) before more one.0 (apart_all fault begun more first.0 all), apart_both begun before more first.1 all one.1 other)
+
+sound_both : (test : Option (Crossing → Bool)) (begun : ℕ) (before more : List FaultRecord) → AreOfFirst begun before → AllByRecursion (λ (f : FaultRecord). f.ordinal ≡ begun + 1) more → AreSound test before → AreSound test more → AreSound test (before ++ more)
+sound_both test begun before more first all one other = record {
+  holds = all_both (λ (f : FaultRecord). IfSome test (λ fires. fires (crossing_of f) ≡ true)) before more one.holds other.holds;
+  apart = apart_both begun before more first all one.apart other.apart;
+}
+
+-- one call more was answered
+pub made_more : (made : List Call) (call : Call) (test : Option (Crossing → Bool)) (caller : ℕ) (old now : Part) (answer : Reply) → HasMade made test old → IsAnsweredWith call test caller old now answer → HasMade (made ++ call ∷ []) test now
+made_more made call test caller old now answer was is =
+    let begun : old.seat.begun ≡ length made = ap (λ (s : Seat). s.begun) was.seat in
+    let long : length (made ++ call ∷ []) ≡ length made + 1 = length-append made (call ∷ []) in
+    let ordinals : AllByRecursion (λ (f : FaultRecord). f.ordinal ≡ length made + 1) is.suffers.more =
+    all_map (λ (f : FaultRecord). (f.caller ≡ caller) × (f.ordinal ≡ old.seat.begun + 1)) (λ (f : FaultRecord). f.ordinal ≡ length made + 1) is.suffers.more (λ f its. its.1 ∙ ap (λ n. n + 1) begun) is.suffers.theirs in
+    record {
+      calls = ap (map (λ (e : Entry). e.call)) is.whole ∙ map_push (λ (e : Entry). e.call) old.entries is.entry ∙ ap (λ cs. cs ++ is.entry.call ∷ []) was.calls ∙ ap (λ c. made ++ c ∷ []) is.call_is;
+      seat = is.seat ∙ ap (λ n. record { begun = n + 1; flight = None }) begun ∙ ap (λ n. record { begun = n; flight = None }) (sym long);
+      first = subst (AreOfFirst (length (made ++ call ∷ []))) (sym is.suffers.whole) (all_both (λ (f : FaultRecord). f.ordinal ≤ length (made ++ call ∷ [])) old.struck is.suffers.more
+          (all_map (λ (f : FaultRecord). f.ordinal ≤ length made) (λ (f : FaultRecord). f.ordinal ≤ length (made ++ call ∷ [])) old.struck (λ f low. omega (arith, low, long)) was.first)
+          (all_map (λ (f : FaultRecord). f.ordinal ≡ length made + 1) (λ (f : FaultRecord). f.ordinal ≤ length (made ++ call ∷ [])) is.suffers.more (λ f low. omega (arith, low, long)) ordinals));
+      sound = subst (AreSound test) (sym is.suffers.whole) (sound_both test (length made) old.struck is.suffers.more was.first ordinals was.sound is.suffers.sound);
+    }
+
+-- ---- the caller's calls among the first ones of the job
+
+calls_more : (calls : List JobCall) (index caller : ℕ) (made : JobCall) → slice_get calls index ≡ Some made → calls_of (take (index + 1) calls) caller ≡ calls_of (take index calls) caller ++ calls_of (made ∷ []) caller
+calls_more calls index caller made here =
+    ap (λ cs. calls_of cs caller) (take_next calls index made here) ∙ ap (map (λ (m : JobCall). m.call)) (filter-append (λ (m : JobCall). nat_eq m.caller caller) (take index calls) (made ∷ []))
+    ∙ map-append (λ (m : JobCall). m.call) (filter (λ (m : JobCall). nat_eq m.caller caller) (take index calls)) (filter (λ (m : JobCall). nat_eq m.caller caller) (made ∷ []))
+
+pub calls_mine : (calls : List JobCall) (index caller : ℕ) (made : JobCall) → slice_get calls index ≡ Some made → made.caller ≡ caller → calls_of (take (index + 1) calls) caller ≡ calls_of (take index calls) caller ++ made.call ∷ []
+calls_mine calls index caller made here mine =
+    calls_more calls index caller made here ∙ ap (λ b. calls_of (take index calls) caller ++ map (λ (m : JobCall). m.call) (cond b (made ∷ []) [])) (eq-eqb made.caller caller mine)
+
+pub calls_theirs : (calls : List JobCall) (index caller : ℕ) (made : JobCall) → slice_get calls index ≡ Some made → made.caller ≢ caller → calls_of (take (index + 1) calls) caller ≡ calls_of (take index calls) caller
+calls_theirs calls index caller made here apart =
+    calls_more calls index caller made here ∙ ap (λ b. calls_of (take index calls) caller ++ map (λ (m : JobCall). m.call) (cond b (made ∷ []) [])) (neq made.caller caller apart) ∙ append-nil (calls_of (take index calls) caller)
+
+-- the caller may begin its next call
+pub may_more : (calls : List JobCall) (index caller : ℕ) (made : JobCall) → slice_get calls index ≡ Some made → made.caller ≡ caller → (begun most bound : ℕ) → begun ≡ length (calls_of (take index calls) caller) → length (calls_of calls caller) ≤ bound → most ≡ bound → begun < most
+may_more calls index caller made here mine begun most bound is few same =
+    let more : length (calls_of (take (index + 1) calls) caller) ≡ length (calls_of (take index calls) caller) + 1 = ap length (calls_mine calls index caller made here mine) ∙ length-append (calls_of (take index calls) caller) (made.call ∷ []) in
+    let all = take_few calls (index + 1) caller in
+    omega (arith, is, few, same, more, all)
