@@ -1,5 +1,5 @@
 -- A core that begins over a disk, as the driver sees it.
-use Rattle.std.proofs.Common.{◌≡◌, ℕ, zero, suc, Option, None, length, slice_get, refl, ap, sym, subst, ◌∙◌, arith}
+use Rattle.std.proofs.Common.{◌≡◌, ℕ, zero, suc, Option, None, Result, Ok, Err, IfOk, length, slice_get, refl, ap, sym, subst, ◌∙◌, arith}
 use Rattle.std.specs.Prelude.{replicate}
 use Rattle.std.specs.FinMap as fin
 use Rattle.std.proofs.lemmas.List.{length-map}
@@ -73,3 +73,9 @@ pub begins_for : {F D : Type 0} (told : D → Option Image) (faults : D → ℕ)
 begins_for {F = F} {D = D} told faults fs disk job config core over right is may =
     let good : IsConfig config = subst IsConfig (ap (λ (c : CoreState F D). c.config) over.begun) right.orderly.bounds in
     subst (λ (c : CoreState F D). IsBegun job (sight_of c)) (sym over.begun) (begun_for fs core.first config core.cache fin.empty core.journal.room good job is may)
+
+-- where it begins at all
+pub begins_if : {F D R : Type 0} (told : D → Option Image) (faults : D → ℕ) (fs : F) (disk : D) (job : Job) (config : Config) (found : Result (CoreState F D) R)
+    → IfOk found (IsBegunOver told faults fs disk config) → IfOk found (Right told faults) → IsConfigOf job config → MayBeginAll job config → IfOk found (λ core. IsBegun job (sight_of core))
+begins_if told faults fs disk job config (Ok core) over right is may = begins_for told faults fs disk job config core over right is may
+begins_if told faults fs disk job config (Err why) over right is may = tt
