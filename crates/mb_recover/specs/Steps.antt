@@ -1,5 +1,5 @@
 -- What each answer of a step of a recovery means: when it comes, and what it made of the core.
-use Rattle.std.specs.Prelude.{List, ℕ, ◌+◌, ◌<◌, ◌≤◌, ◌≡◌, ◌⊎◌, Bool, true, Option, Some, None, IfSome, length, option_map, slice_get, slice_set}
+use Rattle.std.specs.Prelude.{List, ℕ, ◌+◌, ◌<◌, ◌≤◌, ◌≡◌, ◌⊎◌, Bool, true, false, Option, Some, None, IfSome, length, option_map, slice_get, slice_set}
 use Rattle.mb_kinds.specs.Image.{Image}
 use Rattle.mb_kinds.specs.declared.faults.Kind.{Kind}
 use Rattle.mb_kinds.specs.declared.faults.Kind.TheVariants.{Remount, Replay}
@@ -115,8 +115,12 @@ CountsAt phase.Remount old new = new ≡ counted_if Remount old
 CountsAt (phase.Replay number) old new = new ≡ counted_if Replay old
 CountsAt _ old new = new ≡ old
 
+-- the hook's test, where it tells one, does not hold at the next crossing of a kind
+abbrev pub IsUnfired : Option (Crossing → Bool) → Kind → Crossings → Type 0
+IsUnfired test kind by = IfSome test (λ fires. fires (next_of kind by) ≡ false)
+
 -- a step that is a fault point was made where the hook did not fault; `struck` is the crossing of its last fault
-abbrev pub IsUnheard : Option Crossing → Option Crossings → Stepped → Type 0
-IsUnheard struck (Some by) stepped.Remounted = struck ≡ None
-IsUnheard struck (Some by) (stepped.Replayed number) = struck ≡ None
-IsUnheard struck by answer = Unit {0}
+abbrev pub IsUnheard : Option (Crossing → Bool) → Option Crossing → Option Crossings → Stepped → Type 0
+IsUnheard test struck (Some by) stepped.Remounted = (struck ≡ None) × IsUnfired test Remount by
+IsUnheard test struck (Some by) (stepped.Replayed number) = (struck ≡ None) × IsUnfired test Replay by
+IsUnheard test struck by answer = Unit {0}

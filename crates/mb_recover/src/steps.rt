@@ -1,5 +1,5 @@
-ghost use Rattle.std.specs.Prelude.{◌≡◌, ◌≤◌, ◌⊎◌, true, Some, IfSome, length};
-ghost use Rattle.mb_recover.specs.Steps.{CountsAt, Drops, IsMet, IsStruck, IsUnheard, PassesLimit, Recovers, Remounts, Replays, RunsFor, caller_of, counted_if, next_if};
+ghost use Rattle.std.specs.Prelude.{◌≡◌, ◌≤◌, ◌⊎◌, true, None, Some, IfSome, length};
+ghost use Rattle.mb_recover.specs.Steps.{CountsAt, Drops, IsMet, IsStruck, IsUnfired, IsUnheard, PassesLimit, Recovers, Remounts, Replays, RunsFor, caller_of, counted_if, next_if};
 ghost use Rattle.mb_core_events.specs.Callings.{HasCall, MayMeetFault, phase_now};
 ghost use Rattle.mb_edge.specs.declared.crossings.Crossings.{Crossings};
 
@@ -51,7 +51,7 @@ pub fn recover_step<F: FileSys, D: Disk, H: Hook>(
     ensures recovers { Recovers D.told D.faults core.old core.new by.old (H.test hook.old) (H.strokes hook.new) result }
     ensures later { D.faults core.old.cache.disk ≤ D.faults core.new.cache.disk }
     ensures counted { CountsAt (phase_now core.old) by.old by.new }
-    ensures heard { IsUnheard (H.struck hook.new) by.old result }
+    ensures heard { IsUnheard (H.test hook.old) (H.struck hook.new) by.old result }
     ensures test { H.test hook.new ≡ H.test hook.old }
 {
     match core.phase() {
@@ -98,7 +98,7 @@ fn remount<F: FileSys, D: Disk, H: Hook>(
     ensures remounts { Remounts D.faults core.old core.new (caller_of by.old) result ⊎ IsMet core.old core.new by.old (H.test hook.old) (H.strokes hook.new) result }
     ensures later { D.faults core.old.cache.disk ≤ D.faults core.new.cache.disk }
     ensures counted { by.new ≡ counted_if Kind.Remount by.old }
-    ensures heard { IsUnheard (H.struck hook.new) by.old result }
+    ensures heard { IsUnheard (H.test hook.old) (H.struck hook.new) by.old result }
     ensures test { H.test hook.new ≡ H.test hook.old }
 {
     if let Some(at) = meets(by, hook, Kind::Remount) {
@@ -125,7 +125,7 @@ fn replay<F: FileSys, D: Disk, H: Hook>(
     ensures replays { Replays D.told D.faults core.old core.new (caller_of by.old) result ⊎ IsMet core.old core.new by.old (H.test hook.old) (H.strokes hook.new) result }
     ensures later { D.faults core.old.cache.disk ≤ D.faults core.new.cache.disk }
     ensures counted { by.new ≡ counted_if Kind.Replay by.old }
-    ensures heard { IsUnheard (H.struck hook.new) by.old result }
+    ensures heard { IsUnheard (H.test hook.old) (H.struck hook.new) by.old result }
     ensures test { H.test hook.new ≡ H.test hook.old }
 {
     if let Some(at) = meets(by, hook, Kind::Replay) {
@@ -162,6 +162,7 @@ fn meets<H: Hook>(by: &mut Option<Crossings>, hook: &mut H, kind: Kind) -> Optio
     ensures met { IfSome result (λ at. (at.kind ≡ kind) × (next_if kind by.old ≡ Some at) × (H.struck hook.new ≡ Some at)) }
     ensures tested { IfSome result (λ at. IfSome (H.test hook.old) (λ fires. fires at ≡ true)) }
     ensures heard { IfSome by.old (λ (passed : Crossings). H.struck hook.new ≡ result) }
+    ensures unfired { result ≡ None → IfSome by.old (λ (passed : Crossings). IsUnfired (H.test hook.old) kind passed) }
     ensures test { H.test hook.new ≡ H.test hook.old }
 {
     let Some(mut crossings) = *by else {

@@ -3,14 +3,15 @@ use Rattle.std.proofs.Common.{◌≡◌, List, [], ◌∷◌, ℕ, zero, suc, �
 use Rattle.std.proofs.lemmas.List.{length-take-le}
 use Rattle.std.proofs.lemmas.Option.{same_Some, slice_get_past, slice_get_within}
 use Rattle.mb_edge.specs.declared.crossings.Crossing.{Crossing}
+use Rattle.mb_core_spec.specs.declared.stages.Stage.TheVariants as stage
 use Rattle.mb_jobs.specs.declared.jobs.Job.{Job}
 use Rattle.mb_jobs.specs.declared.jobs.JobCall.{JobCall}
 use Rattle.mb_kinds.specs.declared.entries.Entry.{Entry}
 use Rattle.mb_kinds.specs.declared.entries.Flight.{Flight}
-use Rattle.mb_run.specs.Drives.{AreNew, HasEachMoment, IsBegun, IsComplete, IsDriven, IsLinedUp, IsRunnable, RisesByOrder, new_runner}
+use Rattle.mb_run.specs.Drives.{TakesByOrder, AreNew, HasEachMoment, IsBegun, IsComplete, IsDriven, IsLinedUp, IsRunnable, RisesByOrder, new_runner}
 use Rattle.mb_run.specs.Firsts.{HasFirst}
 use Rattle.mb_run.specs.Letters.{AreLetters, HasBegunBy, letters_of}
-use Rattle.mb_run.specs.Runs.{FirstsRise}
+use Rattle.mb_run.specs.Runs.{FirstsRise, HasTakenTested}
 use Rattle.mb_run.specs.Served.{AreCounts, IsAfter, IsBalanced, IsRunInOrder, IsServed, Underway, calls_of, moments_in}
 use Rattle.mb_run.specs.Sights.{IsOrderly, Limits, Seat, Sight}
 use Rattle.mb_run.specs.declared.runner.Runner.{Runner}
@@ -83,8 +84,8 @@ declared : (job : Job) (old new : Sight) → IsBegun job old → new.config ≡ 
 declared job old new begun config = ap (λ (l : Limits). l.callers) config ∙ begun.callers
 
 pub listed : (job : Job) (test : Option (Crossing → Bool)) (old new : Sight) (callers : ℕ) → IsBegun job old → job.order ≡ None → callers ≡ length job.callers → IsRunInOrder job.calls callers test new → new.config ≡ old.config → IsOrderly new
-    → IsDriven job test old new
-listed job test old new callers begun none same ran config right =
+    → (old.stage ≡ stage.Running → HasTakenTested test new.history new.records) → IsDriven job test old new
+listed job test old new callers begun none same ran config right taken =
     let start : new.config.start ≡ job.start = ap (λ (l : Limits). l.start) config ∙ begun.start in
     record {
       config = config;
@@ -94,6 +95,7 @@ listed job test old new callers begun none same ran config right =
       lined = subst (λ order. IsLinedUp order job.calls job.start new.history) (sym none) (ran.listed, subst (λ n. moments_in new.history ≡ range_with_len (n + 1) (length new.history)) start ran.moments);
       firsts = subst (λ order. RisesByOrder order job.callers new.history) (sym none) tt;
       sound = ran.sound;
+      taken = λ runs. subst (λ order. TakesByOrder order test new) (sym none) (taken runs);
     }
 
 pub ordered : (job : Job) (test : Option (Crossing → Bool)) (old new : Sight) (callers : ℕ) (order : List ℕ) → IsBegun job old → job.order ≡ Some order → callers ≡ length job.callers → IsComplete job.calls callers test new → new.config ≡ old.config → IsOrderly new
@@ -108,6 +110,7 @@ ordered job test old new callers order begun some same done config right rises =
       lined = subst (λ given. IsLinedUp given job.calls job.start new.history) (sym some) tt;
       firsts = subst (λ given. RisesByOrder given job.callers new.history) (sym some) rises;
       sound = done.sound;
+      taken = λ runs. subst (λ given. TakesByOrder given test new) (sym some) tt;
     }
 
 -- ---- the callers of a job

@@ -73,10 +73,10 @@ next_is counts kind fits = elim (two_cases (slice_index counts (place_of kind)) 
 abbrev after : Crossings → Kind → ℕ → ℕ
 after crossings kind place = slice_index (counted crossings kind).counts place
 
-here : (crossings : Crossings) (kind : Kind) → AreCounts crossings → after crossings kind (place_of kind) ≡ next_nth crossings.counts kind
+pub here : (crossings : Crossings) (kind : Kind) → AreCounts crossings → after crossings kind (place_of kind) ≡ next_nth crossings.counts kind
 here crossings kind are = let low : place_of kind < length crossings.counts = omega (arith, place_below kind, are.six) in get_or-set_same crossings.counts (place_of kind) (next_nth crossings.counts kind) 0 low
 
-there : (crossings : Crossings) (kind other : Kind) → place_of other ≢ place_of kind → after crossings kind (place_of other) ≡ slice_index crossings.counts (place_of other)
+pub there : (crossings : Crossings) (kind other : Kind) → place_of other ≢ place_of kind → after crossings kind (place_of other) ≡ slice_index crossings.counts (place_of other)
 there crossings kind other apart = get_or-set_other crossings.counts (place_of kind) (place_of other) (next_nth crossings.counts kind) 0 apart
 
 each : (crossings : Crossings) (kind other : Kind) → AreCounts crossings → (slice_index crossings.counts (place_of other) ≤ after crossings kind (place_of other)) × (after crossings kind (place_of other) ≤ 4294967295)

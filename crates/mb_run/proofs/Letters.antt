@@ -1,5 +1,5 @@
 -- The first moments under an order, character by character.
-use Rattle.std.proofs.Common.{◌≡◌, ◌≢◌, ◌⊎◌, List, [], ◌∷◌, ◌++◌, ℕ, zero, suc, ◌+◌, ◌<◌, ◌≤◌, Bool, true, false, cond, length, map, filter, nat_eq, inl, inr, refl, ap, sym, subst, ◌∙◌, arith, Option, None, Some, IfSome, slice_get, get_or, take, length-append}
+use Rattle.std.proofs.Common.{◌≡◌, ◌⊎◌, List, [], ◌∷◌, ◌++◌, ℕ, zero, suc, ◌+◌, ◌<◌, ◌≤◌, Bool, true, false, cond, length, map, filter, nat_eq, inl, inr, refl, ap, sym, subst, ◌∙◌, arith, Option, None, Some, IfSome, slice_get, get_or, take, length-append}
 use Rattle.std.proofs.lemmas.Bool.{eq-eqb}
 use Rattle.std.proofs.lemmas.Option.{same_Some, slice_get-get_or, slice_get_past, slice_get_within}
 use Rattle.std.proofs.lemmas.List.{length-map, take_more}
@@ -8,9 +8,9 @@ use Rattle.mb_jobs.specs.declared.jobs.Caller.{Caller}
 use Rattle.mb_jobs.specs.declared.jobs.JobCall.{JobCall}
 use Rattle.mb_kinds.specs.declared.entries.Entry.{Entry}
 use Rattle.mb_run.specs.Drives.{IsComplete}
-use Rattle.mb_run.specs.Firsts.{BeginsFirst, HasFirst, IsFirstEntry, KeepsFirsts}
-use Rattle.mb_run.specs.Letters.{BeginsByLetter, HasBegun, HasBegunBy, HasCalls, letters_of}
-use Rattle.mb_run.specs.Runs.{FirstsRise, IsEntryAt, IsFirstAt, first_at, is_letter_of, letter_of}
+use Rattle.mb_run.specs.Firsts.{HasFirst, KeepsFirsts}
+use Rattle.mb_run.specs.Letters.{BeginsByLetter, HasBegunBy, HasCalls, letters_of}
+use Rattle.mb_run.specs.Runs.{FirstsRise, first_at, is_letter_of, letter_of}
 use Rattle.mb_run.specs.Served.{calls_in, calls_of}
 use Rattle.mb_run.specs.Sights.{Limits, Sight}
 use Rattle.mb_run.specs.declared.runner.Runner.{Runner}

@@ -1,5 +1,9 @@
 pub mod Lists
 pub mod Counting
+pub mod TallyRecords
+pub mod Tallying
+pub mod TallySteps
+pub mod TallyRolls
 pub mod Firsts
 pub mod Acting
 pub mod Places
@@ -21,6 +25,9 @@ pub mod Quiet
 pub mod Waiting
 pub mod Listing
 pub mod InOrder
+pub mod Indexed
+pub mod Resting
+pub mod Planned
 pub mod Completing
 pub mod Beginning
 pub mod Ending

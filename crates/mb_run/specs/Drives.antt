@@ -9,7 +9,7 @@ use Rattle.mb_jobs.specs.declared.jobs.Job.{Job}
 use Rattle.mb_jobs.specs.declared.jobs.JobCall.{JobCall}
 use Rattle.mb_kinds.specs.declared.entries.Entry.{Entry}
 use Rattle.mb_run.specs.Letters.{AreLetters, letters_of}
-use Rattle.mb_run.specs.Runs.{FirstsRise}
+use Rattle.mb_run.specs.Runs.{FirstsRise, HasTakenTested}
 use Rattle.mb_run.specs.Served.{AreSound, AreSoundBy, IsListed, calls_in, calls_of, moments_in}
 use Rattle.mb_run.specs.Sights.{AreApart, IsOrderly, Sight}
 use Rattle.mb_core_spec.specs.Copies.{no_pages}
@@ -60,6 +60,11 @@ abbrev pub RisesByOrder : Option (List ℕ) → List Caller → List Entry → T
 RisesByOrder None callers history = Unit {0}
 RisesByOrder (Some order) callers history = AreLetters (letters_of callers) → FirstsRise order (letters_of callers) history
 
+-- in list order the faults that the test has at the first crossings are taken
+abbrev pub TakesByOrder : Option (List ℕ) → Option (Crossing → Bool) → Sight → Type 0
+TakesByOrder None test sight = HasTakenTested test sight.history sight.records
+TakesByOrder (Some order) test sight = Unit {0}
+
 -- what a job leaves of a core that was begun for it
 pub record IsDriven (job : Job) (test : Option (Crossing → Bool)) (old new : Sight) : Type 0 where
   pub config : new.config ≡ old.config
@@ -69,6 +74,7 @@ pub record IsDriven (job : Job) (test : Option (Crossing → Bool)) (old new : S
   pub lined : IsLinedUp job.order job.calls job.start new.history
   pub firsts : RisesByOrder job.order job.callers new.history
   pub sound : AreSound test new.records
+  pub taken : old.stage ≡ stage.Running → TakesByOrder job.order test new
 
 -- the end tells whether the volume failed
 abbrev pub Ends : Stage → DriveEnd → Type 0

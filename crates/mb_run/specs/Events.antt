@@ -1,5 +1,6 @@
 -- What the events of a core make of what the driver sees, by their answers.
-use Rattle.std.specs.Prelude.{ℕ, ◌+◌, ◌<◌, ◌≡◌, ◌≢◌, ◌⊎◌, [], ◌∷◌, ◌++◌, length, min, true, false, Option, Some, None}
+use Rattle.std.specs.Prelude.{ℕ, ◌+◌, ◌<◌, ◌≡◌, ◌≢◌, ◌⊎◌, List, [], ◌∷◌, ◌++◌, length, min, true, false, Option, Some, None}
+use Rattle.std.specs.List.{Contains}
 use Rattle.mb_kinds.specs.declared.calls.Call.{Call}
 use Rattle.mb_kinds.specs.declared.entries.Entry.{Entry}
 use Rattle.mb_kinds.specs.declared.entries.Flight.{Flight}
@@ -83,6 +84,14 @@ IsUnplain reply.Device = Unit {0}
 IsUnplain (reply.Failed faults) = Unit {0}
 IsUnplain _ = ⊥
 
+-- an entry of that call has this reply
+pub record IsReplyOf (history : List Entry) (caller ordinal : ℕ) (answer : Reply) : Type 0 where
+  pub entry : Entry
+  pub there : Contains history entry
+  pub caller_is : entry.caller ≡ caller
+  pub ordinal_is : entry.ordinal ≡ ordinal
+  pub reply_is : entry.reply ≡ answer
+
 pub record EntersInside (old new : Sight) (caller : ℕ) (call : Call) (ticket : Ticket) : Type 0 where
   pub begins : Begins caller (record (flight_of old caller call (old.seats caller).flight) { ticket = Some ticket }) old new
   pub runs : old.stage ≡ stage.Running
@@ -98,7 +107,7 @@ pub record EntersInside (old new : Sight) (caller : ℕ) (call : Call) (ticket :
 
 abbrev pub Enters : Sight → Sight → ℕ → Call → Enter → Type 0
 Enters old new caller call (enter.Done answer) =
-    ((flight : Flight) × Leaves caller flight old new)
+    ((flight : Flight) × Leaves caller flight old new × IsReplyOf old.history caller flight.ordinal answer)
     ⊎ (((flight_of old caller call (old.seats caller).flight).answered ≡ false) × IsUnplain answer × Answers caller (flight_of old caller call (old.seats caller).flight) answer old new)
 Enters old new caller call enter.Shut =
     (recovers old.stage ≡ true) × ((flight_of old caller call (old.seats caller).flight).answered ≡ false) × Begins caller (flight_of old caller call (old.seats caller).flight) old new
@@ -160,7 +169,7 @@ Finishes old new ticket pages finished.Logged = (ticket.incarnation ≡ old.inca
 
 abbrev pub LeavesWith : Sight → Sight → Ticket → Left → Type 0
 LeavesWith old new ticket (left.Skip mine was) = (ticket.incarnation ≢ old.incarnation) × (new ≡ old)
-LeavesWith old new ticket (left.Left answer) = (ticket.incarnation ≡ old.incarnation) × ((flight : Flight) × Leaves ticket.caller flight old new)
+LeavesWith old new ticket (left.Left answer) = (ticket.incarnation ≡ old.incarnation) × ((flight : Flight) × Leaves ticket.caller flight old new × IsReplyOf old.history ticket.caller flight.ordinal answer)
 
 -- what a call is performed over that finishes, and what it came to
 abbrev pub IsReadyAt : Sight → Ticket → PagesState → Ready → Type 0

@@ -1,5 +1,5 @@
 -- Whose first call an order begins when: what the characters of an order make of the callers.
-use Rattle.std.specs.Prelude.{ℕ, ◌+◌, ◌<◌, ◌≤◌, ◌≡◌, ◌≢◌, List, map, length, Bool, true, false, Option, Some, slice_get}
+use Rattle.std.specs.Prelude.{ℕ, ◌+◌, ◌<◌, ◌≤◌, ◌≡◌, ◌≢◌, List, map, length, true, false, Option, Some, slice_get}
 use Rattle.std.specs.List.{AllByRecursion}
 use Rattle.mb_jobs.specs.declared.jobs.Caller.{Caller}
 use Rattle.mb_jobs.specs.declared.jobs.JobCall.{JobCall}

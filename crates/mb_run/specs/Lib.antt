@@ -5,9 +5,11 @@ pub mod Events
 pub mod Recovering
 pub mod Firsts
 pub mod Served
+pub mod Indexes
 pub mod Orders
 pub mod Settling
 pub mod Runs
+pub mod Tallies
 pub mod Letters
 pub mod Drives
 pub mod Examples

@@ -1,6 +1,6 @@
 -- What a step of a recovery makes of what the driver sees, and of the crossings of the call that runs it.
-use Rattle.std.specs.Prelude.{ℕ, ◌<◌, ◌≤◌, ◌≡◌, ◌⊎◌, [], ◌∷◌, ◌++◌, length, slice_index, Bool, true, false, Option, Some, None, IfSome}
-use Rattle.mb_edge.specs.Crossings.{place_of}
+use Rattle.std.specs.Prelude.{ℕ, ◌<◌, ◌≤◌, ◌≡◌, ◌⊎◌, [], ◌∷◌, ◌++◌, length, slice_index, slice_set, Bool, true, false, Option, Some, None, IfSome}
+use Rattle.mb_edge.specs.Crossings.{next_nth, place_of}
 use Rattle.mb_edge.specs.declared.crossings.Crossing.{Crossing}
 use Rattle.mb_edge.specs.declared.crossings.Crossings.{Crossings}
 use Rattle.mb_kinds.specs.declared.entries.Flight.{Flight}
@@ -10,6 +10,7 @@ use Rattle.mb_kinds.specs.declared.faults.Kind.TheVariants.{Remount, Replay}
 use Rattle.mb_kinds.specs.declared.replies.Reply.TheVariants as reply
 use Rattle.mb_run.specs.Events.{Counts, Answers}
 use Rattle.mb_run.specs.Sights.{Sight, recovers}
+use Rattle.mb_core_spec.specs.declared.stages.Stage.{Stage}
 use Rattle.mb_core_spec.specs.declared.stages.Stage.TheVariants as stage
 use Rattle.mb_run.specs.declared.answers.Stepped.{Stepped}
 use Rattle.mb_run.specs.declared.answers.Stepped.TheVariants as stepped
@@ -17,6 +18,13 @@ use Rattle.mb_run.specs.declared.answers.Stepped.TheVariants as stepped
 -- the crossings are those of a caller's call in flight, which has no entry
 abbrev pub RunsFor : Sight → Crossings → Type 0
 RunsFor sight by = (flight : Flight) × ((sight.seats by.caller).flight ≡ Some flight) × (flight.answered ≡ false) × (by.ordinal ≡ flight.ordinal)
+
+-- the next crossing of a kind, and the crossings once it was counted
+abbrev pub next_of : Kind → Crossings → Crossing
+next_of kind crossings = record { caller = crossings.caller; ordinal = crossings.ordinal; kind = kind; nth = next_nth crossings.counts kind }
+
+abbrev pub counted : Crossings → Kind → Crossings
+counted crossings kind = record crossings { counts = slice_set crossings.counts (place_of kind) (next_nth crossings.counts kind) }
 
 -- the crossing of a fault record
 abbrev pub crossing_of : FaultRecord → Crossing
@@ -53,6 +61,33 @@ pub record Rolls (old new : Sight) : Type 0 where
   pub recovered : recovers old.stage ≡ true
   pub fewer : new.left < old.left
 
+-- the file system is to be started anew
+abbrev pub awaits_remount : Stage → Bool
+awaits_remount stage.Struck = true
+awaits_remount stage.Again = true
+awaits_remount stage.Dropped = true
+awaits_remount _ = false
+
+-- the call that ran a step, if one did, was at no fault point
+abbrev pub IsAtNone : Option Crossings → Option Crossings → Type 0
+IsAtNone (Some before) (Some now) = now ≡ before
+IsAtNone _ _ = Unit {0}
+
+-- it was at its next crossing of a kind, where no fault came
+pub record WentPast (test : Option (Crossing → Bool)) (kind : Kind) (before now : Crossings) : Type 0 where
+  pub counts : now ≡ counted before kind
+  pub unfired : IfSome test (λ fires. fires (next_of kind before) ≡ false)
+
+abbrev pub IsPassed : Option (Crossing → Bool) → Kind → Option Crossings → Option Crossings → Type 0
+IsPassed test kind (Some before) (Some now) = WentPast test kind before now
+IsPassed test kind _ _ = Unit {0}
+
+-- a fault came at the next crossing of its kind: where the file system is started anew, or elsewhere in the recovery
+pub record IsStruckNext (before now : Crossings) (old : Stage) (fault : FaultRecord) : Type 0 where
+  pub counts : now ≡ counted before fault.kind
+  pub nth : fault.nth ≡ next_nth before.counts fault.kind
+  pub point : ((old ≡ stage.Dropped) × (fault.kind ≡ Remount)) ⊎ (fault.kind ≡ Replay)
+
 -- the hook's fault
 pub record Strikes (test : Option (Crossing → Bool)) (before now : Crossings) (old new : Sight) : Type 0 where
   pub waits : Waits old new
@@ -60,7 +95,7 @@ pub record Strikes (test : Option (Crossing → Bool)) (before now : Crossings) 
   pub fault : FaultRecord
   pub records : new.records ≡ old.records ++ fault ∷ []
   pub taken : IsTaken test before now fault
-  pub kind : (fault.kind ≡ Remount) ⊎ (fault.kind ≡ Replay)
+  pub next : IsStruckNext before now old.stage fault
 
 -- the call that ran the step, if one did
 abbrev pub EndsByDevice : Option Crossings → Sight → Sight → Type 0
@@ -79,10 +114,11 @@ StrikesBy test _ _ old new = ⊥
 abbrev pub Steps : Option (Crossing → Bool) → Option Crossings → Option Crossings → Sight → Sight → Stepped → Type 0
 Steps test before now old new stepped.Idle = (recovers old.stage ≡ false) × (new ≡ old)
 Steps test before now old new (stepped.Failed faults) =
-    (new.stage ≡ stage.Failed) × (((new.records ≡ old.records) × Waits old new × (recovers old.stage ≡ true)) ⊎ StrikesBy test before now old new)
-Steps test before now old new stepped.Resumed = (new.stage ≡ stage.Running) × (new.floor ≡ None) × Rolls old new
+    (new.stage ≡ stage.Failed) × (((new.records ≡ old.records) × Waits old new × (recovers old.stage ≡ true) × IsAtNone before now) ⊎ StrikesBy test before now old new)
+Steps test before now old new stepped.Resumed = (new.stage ≡ stage.Running) × (new.floor ≡ None) × Rolls old new × (awaits_remount old.stage ≡ false) × IsAtNone before now
 Steps test before now old new (stepped.Again faults) = (new.stage ≡ stage.Again) × StrikesBy test before now old new
 Steps test before now old new stepped.Device = (recovers old.stage ≡ true) × EndsByDevice before old new
 Steps test before now old new stepped.NoMemory = new ≡ old
-Steps test before now old new stepped.Remounted = (old.stage ≡ stage.Dropped) × (new.stage ≡ stage.Remounted) × Rolls old new
-Steps test before now old new _ = (recovers new.stage ≡ true) × Rolls old new
+Steps test before now old new stepped.Remounted = (old.stage ≡ stage.Dropped) × (new.stage ≡ stage.Remounted) × Rolls old new × IsPassed test Remount before now
+Steps test before now old new (stepped.Replayed number) = (recovers new.stage ≡ true) × Rolls old new × (awaits_remount new.stage ≡ awaits_remount old.stage) × IsPassed test Replay before now
+Steps test before now old new _ = (recovers new.stage ≡ true) × Rolls old new × (awaits_remount new.stage ≡ awaits_remount old.stage) × IsAtNone before now

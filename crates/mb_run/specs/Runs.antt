@@ -2,6 +2,7 @@
 use Rattle.std.specs.Prelude.{ℕ, ◌+◌, ◌<◌, ◌≤◌, ◌≡◌, ◌≢◌, List, [], ◌∷◌, ◌++◌, length, map, filter, nat_eq, nat_lt, nat_le, ◌&&◌, ◌||◌, not, slice_get, Bool, true, false, cond, Option, Some, None, IfSome, count_by, option_and_then}
 use Rattle.std.specs.List.{AllByRecursion, list_any, range_with_len}
 use Rattle.mb_core_spec.specs.Faults.{IsTwice}
+use Rattle.mb_edge.specs.declared.crossings.Crossing.{Crossing}
 use Rattle.mb_kinds.specs.declared.entries.Entry.{Entry}
 use Rattle.mb_kinds.specs.declared.faults.FaultRecord.{FaultRecord}
 use Rattle.mb_kinds.specs.declared.faults.Kind.{Kind}
@@ -112,15 +113,16 @@ has_rule plan caller ordinal kind = list_any (λ (rule : Rule). ((nat_eq rule.ca
 abbrev pub TakesFirst : List Rule → List FaultRecord → Entry → Kind → Type 0
 TakesFirst plan records entry kind = has_rule plan entry.caller entry.ordinal kind ≡ true → is_struck_first records entry.caller entry.ordinal kind ≡ true
 
-abbrev pub was_struck_inside : List FaultRecord → Entry → Bool
-was_struck_inside records entry = is_struck records entry.caller entry.ordinal Enter || is_struck records entry.caller entry.ordinal Gather || is_struck records entry.caller entry.ordinal Finish
+-- a call was struck before it had its entry, but in a recovery
+abbrev pub is_struck_inside : List FaultRecord → ℕ → ℕ → Bool
+is_struck_inside records caller ordinal = is_struck records caller ordinal Enter || (is_struck records caller ordinal Gather || is_struck records caller ordinal Finish)
 
 pub record TakesFaults (plan : List Rule) (records : List FaultRecord) (entry : Entry) : Type 0 where
   pub enters : TakesFirst plan records entry Enter
   pub gathers : TakesFirst plan records entry Gather
   pub finishes : TakesFirst plan records entry Finish
   pub leaves : TakesFirst plan records entry Leave
-  pub remounts : was_struck_inside records entry ≡ true → TakesFirst plan records entry Remount
+  pub remounts : is_struck_inside records entry.caller entry.ordinal ≡ true → TakesFirst plan records entry Remount
 
 -- a record after so many others has an nth that this allows
 abbrev pub is_near : ℕ → Kind → ℕ → Bool
@@ -133,9 +135,32 @@ abbrev pub AreNear : ℕ → List FaultRecord → Type 0
 AreNear before [] = Unit {0}
 AreNear before (fault ∷ later) = (is_near before fault.kind fault.nth ≡ true) × AreNear (before + 1) later
 
+-- the same where a test, if it is told, tells at which fault points faults come
+abbrev pub IsTakenFirst : Option (Crossing → Bool) → List FaultRecord → ℕ → ℕ → Kind → Type 0
+IsTakenFirst test records caller ordinal kind = IfSome test (λ fires. fires (record { caller = caller; ordinal = ordinal; kind = kind; nth = 1 }) ≡ true → is_struck_first records caller ordinal kind ≡ true)
+
+pub record TakesTested (test : Option (Crossing → Bool)) (records : List FaultRecord) (entry : Entry) : Type 0 where
+  pub enters : IsTakenFirst test records entry.caller entry.ordinal Enter
+  pub gathers : IsTakenFirst test records entry.caller entry.ordinal Gather
+  pub finishes : IsTakenFirst test records entry.caller entry.ordinal Finish
+  pub leaves : IsTakenFirst test records entry.caller entry.ordinal Leave
+  pub remounts : is_struck_inside records entry.caller entry.ordinal ≡ true → IsTakenFirst test records entry.caller entry.ordinal Remount
+
+pub record HasTakenTested (test : Option (Crossing → Bool)) (history : List Entry) (records : List FaultRecord) : Type 0 where
+  pub taken : AllByRecursion (λ (entry : Entry). is_plain entry.reply ≡ true → TakesTested test records entry) history
+  pub near : AreNear 0 records
+
 pub record HasTakenFaults (plan : List Rule) (history : List Entry) (records : List FaultRecord) : Type 0 where
   pub taken : AllByRecursion (λ (entry : Entry). is_plain entry.reply ≡ true → TakesFaults plan records entry) history
   pub near : AreNear 0 records
+
+-- each rule strikes at least once
+abbrev pub AllStrike : List Rule → Type 0
+AllStrike plan = AllByRecursion (λ (rule : Rule). 1 ≤ rule.times) plan
+
+-- where the plan's test was answered, the faults of its rules were taken
+abbrev pub PlannedAreTaken : Type 0
+PlannedAreTaken = (plan : List Rule) (history : List Entry) (records : List FaultRecord) → AllStrike plan → HasTakenTested (Some (fires plan)) history records → HasTakenFaults plan history records
 
 -- ---- a disk that failed, a volume that failed
 

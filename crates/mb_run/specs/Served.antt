@@ -1,5 +1,5 @@
 -- A job under way: where the call of each caller stands, which calls have their entries, and which crossings were counted.
-use Rattle.std.specs.Prelude.{ℕ, zero, suc, ◌+◌, ◌-◌, ◌*◌, ◌<◌, ◌≤◌, ◌≡◌, ◌≢◌, ◌⊎◌, List, [], ◌∷◌, ◌++◌, length, map, filter, take, nat_eq, nat_le, ◌||◌, slice_get, slice_index, slice_set, Bool, true, false, cond, Option, Some, None, IfSome}
+use Rattle.std.specs.Prelude.{ℕ, zero, suc, ◌+◌, ◌-◌, ◌*◌, ◌<◌, ◌≤◌, ◌≡◌, ◌≢◌, ◌⊎◌, List, [], ◌∷◌, ◌++◌, length, map, filter, take, nat_eq, nat_le, ◌||◌, slice_get, slice_index, Bool, true, false, cond, Option, Some, None, IfSome}
 use Rattle.std.specs.List.{AllByRecursion, range_with_len}
 use Rattle.mb_edge.specs.Crossings.{place_of, next_nth}
 use Rattle.mb_edge.specs.declared.crossings.Crossing.{Crossing}
@@ -13,7 +13,8 @@ use Rattle.mb_kinds.specs.declared.faults.Kind.{Kind}
 use Rattle.mb_kinds.specs.declared.faults.Ticket.{Ticket}
 use Rattle.mb_core_spec.specs.Copies.{PagesState, no_pages}
 use Rattle.mb_run.specs.Pages.{HasTablesFor, has}
-use Rattle.mb_run.specs.Recovering.{crossing_of}
+pub use Rattle.mb_run.specs.Recovering.{counted}
+use Rattle.mb_run.specs.Recovering.{crossing_of, next_of}
 use Rattle.mb_run.specs.Sights.{Sight, Seat, HasTicket, IsOld, IsOrderly, IsWaiting, one_if, recovers}
 use Rattle.mb_kinds.specs.declared.calls.Call.TheVariants as call
 use Rattle.mb_run.specs.Events.{Strikes, sealed}
@@ -174,9 +175,6 @@ Goes caller old new before now went.NoMemory = (now.done ≡ before.done) × (no
 abbrev pub calls_of : List JobCall → ℕ → List Call
 calls_of calls caller = map (λ (made : JobCall). made.call) (filter (λ (made : JobCall). nat_eq made.caller caller) calls)
 
-abbrev pub counted : Crossings → Kind → Crossings
-counted crossings kind = record crossings { counts = slice_set crossings.counts (place_of kind) (next_nth crossings.counts kind) }
-
 abbrev pub backed : Runner → Runner
 backed runner = record runner { at = at.Outside; asked = false; pages = no_pages }
 
@@ -215,10 +213,11 @@ pub record Did (calls : List JobCall) (test : Option (Crossing → Bool)) (old n
 
 -- the hook was asked at the next crossing of a kind, for a call with a ticket
 abbrev pub Asks : Option (Crossing → Bool) → Sight → Sight → Runner → Runner → Ticket → Kind → Bool → Type 0
-Asks test old new before now ticket kind false = (new ≡ old) × (now ≡ record before { crossings = counted before.crossings kind })
+Asks test old new before now ticket kind false =
+    (new ≡ old) × (now ≡ record before { crossings = counted before.crossings kind }) × IfSome test (λ fires. fires (next_of kind before.crossings) ≡ false)
 Asks test old new before now ticket kind true =
     (now ≡ backed (record before { crossings = counted before.crossings kind }))
-    × IfSome test (λ fires. fires (record { caller = before.crossings.caller; ordinal = before.crossings.ordinal; kind = kind; nth = next_nth before.crossings.counts kind }) ≡ true)
+    × IfSome test (λ fires. fires (next_of kind before.crossings) ≡ true)
     × (((ticket.incarnation ≢ old.incarnation) × (new ≡ old)) ⊎ ((ticket.incarnation ≡ old.incarnation) × Strikes old new ticket kind (next_nth before.crossings.counts kind)))
 
 -- the hook is asked right after a call entered

@@ -2,6 +2,7 @@ ghost use Rattle.std.specs.Prelude.{[], ◌≡◌, ◌≢◌, ◌<◌, ◌≤◌
 ghost use Rattle.std.specs.List.{AllByRecursion};
 ghost use Rattle.mb_jobs.specs.declared.jobs.JobCall.{JobCall};
 ghost use Rattle.mb_run.specs.Drives.{AreNew, Ends, IsBegun, IsComplete, IsDriven, IsRunnable};
+ghost use Rattle.mb_run.specs.Indexes.{IsIndexOf};
 ghost use Rattle.mb_run.specs.Letters.{AreLetters, HasBegunBy, letters_of};
 ghost use Rattle.mb_run.specs.Orders.{AreRunOut, IsReached, IsWhole};
 ghost use Rattle.mb_run.specs.Runs.{FirstsRise};
@@ -9,6 +10,7 @@ ghost use Rattle.mb_run.specs.Served.{IsBalanced, Underway};
 ghost use Rattle.mb_run.specs.Sights.{IsOrderly};
 ghost use Rattle.mb_run.specs.declared.drives.DriveEnd.TheVariants as end;
 
+use crate::call_index::CallIndex;
 use crate::event_core::EventCore;
 use crate::orders::run_order;
 use crate::runner::Runner;
@@ -42,9 +44,11 @@ fn run_up_to<C: EventCore, H: Hook>(
     hook: &mut H,
     runners: &mut [Runner],
     calls: &[JobCall],
+    index: &CallIndex,
     caller: u8,
     count: u32,
 ) -> bool
+    requires index { IsIndexOf calls.now index.now.places }
     requires underway { Underway calls.now (H.test hook.old) (C.sight core.old) runners.old }
     requires within { caller < length runners.old }
     ensures whole { result ≡ true → IsWhole calls.now (H.test hook.old) (C.sight core.old) (C.sight core.new) runners.old runners.new }
@@ -57,7 +61,7 @@ fn run_up_to<C: EventCore, H: Hook>(
     if runners[caller as usize].done >= count {
         return true;
     }
-    run_call(alloc, core, hook, runners, calls, caller)
+    run_call(alloc, core, hook, runners, calls, index, caller)
 }
 
 /// Runs the calls that are not answered to their ends, in the order of their indices. False is want of memory.
@@ -67,7 +71,9 @@ fn run_out<C: EventCore, H: Hook>(
     hook: &mut H,
     runners: &mut [Runner],
     calls: &[JobCall],
+    index: &CallIndex,
 ) -> bool
+    requires index { IsIndexOf calls.now index.now.places }
     requires underway { Underway calls.now (H.test hook.old) (C.sight core.old) runners.old }
     requires callers { AllByRecursion (λ (made : JobCall). made.caller < length runners.old) calls.now }
     requires few { length runners.old ≤ 8 }
@@ -84,7 +90,7 @@ fn run_out<C: EventCore, H: Hook>(
         let caller = made.caller as usize;
         let count = passed[caller] + 1;
         passed[caller] = count;
-        if !run_up_to(alloc, core, hook, runners, calls, made.caller, count) {
+        if !run_up_to(alloc, core, hook, runners, calls, index, made.caller, count) {
             return false;
         }
     }
@@ -113,10 +119,13 @@ fn run_by_order<C: EventCore, H: Hook>(
     ensures origin { C.origin core.new ≡ C.origin core.old }
     ensures right { IsOrderly (C.sight core.new) }
 {
-    if !run_order(alloc, core, hook, runners, calls, callers, order) {
+    let Ok(index) = CallIndex::new(alloc, calls) else {
+        return false;
+    };
+    if !run_order(alloc, core, hook, runners, calls, &index, callers, order) {
         return false;
     }
-    run_out(alloc, core, hook, runners, calls)
+    run_out(alloc, core, hook, runners, calls, &index)
 }
 
 /// Runs a job, by its order where it has one. False is want of memory.
@@ -193,7 +202,9 @@ fn drive_core<C: EventCore, H: Hook>(
 /// entries are `start + 1` to `start + n`, each once, and in list order one after another; by an order, the moments of
 /// the callers' first calls rise as their letters first stand in it, and those of callers without a letter in it come
 /// last; and each fault record is at a crossing where the fault injector faults, no two at one whose `nth` is below
-/// 4294967295.
+/// 4294967295. In list order, over a core that runs at the beginning, a call with a plain reply has a record of each of its
+/// first crossings at Enter, Gather, Finish and Leave where the injector's test holds, and, where it was struck inside, at
+/// Remount; and a record of Enter, Finish or Remount has an `nth` of at most one more than the records before it.
 pub fn drive<C: EventCore, H: Hook>(alloc: Global, core: C, job: &Job, hook: &mut H) -> Driven<C>
     requires runnable { IsRunnable job.now }
     requires begun { IsBegun job.now (C.sight core) }

@@ -7,17 +7,21 @@
 //!
 //! One step of a caller is `step`. Of what its caller did so far, of its ticket, pages and fault points `IsServed`
 //! (`specs/Served.antt`) keeps the account, and `Acts` says what the steps of one caller leave to the others; with both
-//! every loop goes on and ends. `drive` runs a job, in list order or by its order, and leaves `IsDriven`
-//! (`specs/Drives.antt`). `settle` ends a run and leaves `IsSettled` (`specs/Settling.antt`).
+//! every loop goes on and ends. Of a caller that acts alone, as in list order, `IsTallied` (`specs/Tallies.antt`) tells at
+//! which fault points its call was, and that the faults there have their records. `drive` runs a job, in list order or by
+//! its order, and leaves `IsDriven` (`specs/Drives.antt`). `settle` ends a run and leaves `IsSettled`
+//! (`specs/Settling.antt`).
 //!
 //! `specs/Runs.antt` has what is to be said of a whole run over history, fault records, trace and job alone, and
 //! `specs/Examples.antt` evaluates it on worked examples.
 #![tactic(auto)]
 
 mod answers;
+mod call_index;
 mod drives;
 mod event_core;
 mod examples;
+mod laws;
 mod orders;
 mod progress;
 mod runner;
@@ -26,14 +30,16 @@ mod settles;
 mod steps;
 
 pub use answers::{Enter, Stepped};
+pub use call_index::{CallIndex, find_call};
 pub use drives::{DriveEnd, Driven, drive};
 pub use event_core::EventCore;
 pub use examples::{
     worked_checkpoints, worked_entering, worked_faults, worked_moments, worked_orders,
 };
+pub use laws::planned_faults;
 pub use orders::run_order;
 pub use progress::{Next, Turn, Went};
 pub use runner::{At, Runner};
-pub use runs::{find_call, recover, run_call, run_holder, run_in_order, turn};
+pub use runs::{recover, run_call, run_holder, run_in_order, turn};
 pub use settles::{SettleEnd, Settled, settle};
 pub use steps::step;

@@ -1,14 +1,16 @@
 ghost use Rattle.std.specs.Prelude.{[], ◌≡◌, ◌≢◌, ◌<◌, ◌≤◌, IfSome, None, Some, true, length};
+ghost use Rattle.mb_run.specs.Indexes.{IsIndexOf};
 ghost use Rattle.mb_run.specs.Letters.{AreLetters, BeginsAlone, BeginsByLetter, HasBegun, HasBegunBy, LacksLetter, letters_of};
 ghost use Rattle.mb_run.specs.Orders.{Ahead, HasLetter, IsOpenAt, IsQuiet, IsSealedNow, IsWhole, MayLook, Moved};
 ghost use Rattle.mb_run.specs.Served.{MayStep, Underway};
 ghost use Rattle.mb_run.specs.Sights.{IsOrderly, recovers};
 
 use crate::answers::Stepped;
+use crate::call_index::{CallIndex, find_call};
 use crate::event_core::EventCore;
 use crate::progress::{Next, Went};
 use crate::runner::{At, Runner};
-use crate::runs::{find_call, give_up, roll};
+use crate::runs::{give_up, roll};
 use crate::steps::{has_tables, step};
 use mb_calls::Performed;
 use mb_core_spec::Stage;
@@ -115,9 +117,11 @@ fn step_letter<C: EventCore, H: Hook>(
     hook: &mut H,
     runners: &mut [Runner],
     calls: &[JobCall],
+    index: &CallIndex,
     caller: u8,
     capital: bool,
 ) -> bool
+    requires index { IsIndexOf calls.now index.now.places }
     requires underway { Underway calls.now (H.test hook.old) (C.sight core.old) runners.old }
     requires within { caller < length runners.old }
     ensures whole { result ≡ true → IsWhole calls.now (H.test hook.old) (C.sight core.old) (C.sight core.new) runners.old runners.new }
@@ -129,7 +133,7 @@ fn step_letter<C: EventCore, H: Hook>(
     ensures right { IsOrderly (C.sight core.new) }
 {
     let place = runners[caller as usize].done;
-    let Some(call) = find_call(calls, caller, place) else {
+    let Some(call) = find_call(calls, index, caller, place) else {
         return true;
     };
     if capital {
@@ -203,7 +207,9 @@ fn recover_once<C: EventCore, H: Hook>(
     hook: &mut H,
     runners: &mut [Runner],
     calls: &[JobCall],
+    index: &CallIndex,
 ) -> bool
+    requires index { IsIndexOf calls.now index.now.places }
     requires underway { Underway calls.now (H.test hook.old) (C.sight core.old) runners.old }
     ensures whole { result ≡ true → IsWhole calls.now (H.test hook.old) (C.sight core.old) (C.sight core.new) runners.old runners.new }
     ensures alone { result ≡ true → BeginsAlone None (C.sight core.old) (C.sight core.new) }
@@ -219,7 +225,7 @@ fn recover_once<C: EventCore, H: Hook>(
         return recover_alone(alloc, core, hook);
     };
     let place = runners[caller as usize].done;
-    let Some(call) = find_call(calls, caller, place) else {
+    let Some(call) = find_call(calls, index, caller, place) else {
         unreachable!();
     };
     match roll(
@@ -289,9 +295,11 @@ fn step_character<C: EventCore, H: Hook>(
     hook: &mut H,
     runners: &mut [Runner],
     calls: &[JobCall],
+    index: &CallIndex,
     callers: &[Caller],
     character: u8,
 ) -> bool
+    requires index { IsIndexOf calls.now index.now.places }
     requires underway { Underway calls.now (H.test hook.old) (C.sight core.old) runners.old }
     requires callers { length callers.now ≡ length runners.old }
     ensures whole { result ≡ true → IsWhole calls.now (H.test hook.old) (C.sight core.old) (C.sight core.new) runners.old runners.new }
@@ -312,14 +320,14 @@ fn step_character<C: EventCore, H: Hook>(
         return true;
     }
     if character == b'*' {
-        return recover_once(alloc, core, hook, runners, calls);
+        return recover_once(alloc, core, hook, runners, calls, index);
     }
     let capital = character.is_ascii_uppercase();
     let letter = character.to_ascii_lowercase();
     let Some(caller) = find_letter(callers, letter) else {
         return true;
     };
-    step_letter(alloc, core, hook, runners, calls, caller, capital)
+    step_letter(alloc, core, hook, runners, calls, index, caller, capital)
 }
 
 /// The steps of an order, one after another. False is want of memory.
@@ -329,9 +337,11 @@ pub fn run_order<C: EventCore, H: Hook>(
     hook: &mut H,
     runners: &mut [Runner],
     calls: &[JobCall],
+    index: &CallIndex,
     callers: &[Caller],
     order: &[u8],
 ) -> bool
+    requires index { IsIndexOf calls.now index.now.places }
     requires underway { Underway calls.now (H.test hook.old) (C.sight core.old) runners.old }
     requires callers { length callers.now ≡ length runners.old }
     ensures whole { result ≡ true → IsWhole calls.now (H.test hook.old) (C.sight core.old) (C.sight core.new) runners.old runners.new }
@@ -342,7 +352,9 @@ pub fn run_order<C: EventCore, H: Hook>(
     ensures right { IsOrderly (C.sight core.new) }
 {
     for character in order {
-        if !step_character(alloc, core, hook, runners, calls, callers, *character) {
+        if !step_character(
+            alloc, core, hook, runners, calls, index, callers, *character,
+        ) {
             return false;
         }
     }

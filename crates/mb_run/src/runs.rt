@@ -1,14 +1,18 @@
 ghost use Rattle.std.specs.Prelude.{◌≡◌, ◌<◌, Some, true, length, option_map, slice_get};
 ghost use Rattle.std.specs.List.{AllByRecursion};
 ghost use Rattle.mb_edge.specs.declared.crossings.Crossings.{Crossings};
+ghost use Rattle.mb_run.specs.Indexes.{IsIndexOf};
 ghost use Rattle.mb_run.specs.Orders.{IsAnswered, IsWhole};
 ghost use Rattle.mb_run.specs.Recovering.{GoOn};
+ghost use Rattle.mb_run.specs.Runs.{HasTakenTested};
 ghost use Rattle.mb_run.specs.Served.{IsAfter, IsMine, IsResting, IsRunInOrder, Keeps, MayGiveUp, MayStep, Ran, Recovers, Rolled, Turns, Underway, calls_of};
 ghost use Rattle.mb_run.specs.Sights.{IsOrderly, IsWaiting, recovers};
+ghost use Rattle.mb_run.specs.Tallies.{AreRested, IsBetween, IsTallied, Tallies};
 ghost use Rattle.mb_run.specs.declared.runner.At.TheVariants as at;
 ghost use Rattle.mb_jobs.specs.declared.jobs.JobCall.{JobCall};
 
 use crate::answers::Stepped;
+use crate::call_index::{CallIndex, find_call};
 use crate::event_core::EventCore;
 use crate::progress::{Turn, Went};
 use crate::runner::Runner;
@@ -43,6 +47,7 @@ pub(crate) fn roll<C: EventCore, H: Hook>(
     requires waits { IsWaiting ((C.sight core.old).seats runner.old.crossings.caller) }
     requires recovered { recovers (C.sight core.old).stage ≡ true }
     ensures rolled { Rolled calls.now (H.test hook.old) (C.sight core.old) (C.sight core.new) runner.old runner.new result }
+    ensures tallied { Tallies (H.test hook.old) (C.sight core.old) (C.sight core.new) runner.old runner.new result }
     ensures test { H.test hook.new ≡ H.test hook.old }
     ensures origin { C.origin core.new ≡ C.origin core.old }
     ensures right { IsOrderly (C.sight core.new) }
@@ -116,6 +121,7 @@ pub fn recover<C: EventCore, H: Hook>(
     requires waits { IsWaiting ((C.sight core.old).seats runner.old.crossings.caller) }
     requires recovered { recovers (C.sight core.old).stage ≡ true }
     ensures recovers { Recovers calls.now (H.test hook.old) (C.sight core.old) (C.sight core.new) runner.old runner.new result }
+    ensures tallied { Tallies (H.test hook.old) (C.sight core.old) (C.sight core.new) runner.old runner.new result }
     ensures test { H.test hook.new ≡ H.test hook.old }
     ensures origin { C.origin core.new ≡ C.origin core.old }
     ensures right { IsOrderly (C.sight core.new) }
@@ -144,6 +150,7 @@ pub fn run_holder<C: EventCore, H: Hook>(
     requires may { MayStep calls.now (H.test hook.old) (C.sight core.old) runner.old call.now }
     requires mine { IsMine runner.old.crossings.caller (C.sight core.old).floor }
     ensures ran { Ran calls.now (H.test hook.old) (C.sight core.old) (C.sight core.new) runner.old runner.new result }
+    ensures tallied { result ≡ true → IsTallied (H.test hook.old) (C.sight core.old) runner.old runner.old.at → IsBetween (H.test hook.old) (C.sight core.new) runner.new }
     ensures test { H.test hook.new ≡ H.test hook.old }
     ensures origin { C.origin core.new ≡ C.origin core.old }
     ensures right { IsOrderly (C.sight core.new) }
@@ -171,22 +178,6 @@ pub fn run_holder<C: EventCore, H: Hook>(
             },
         }
     }
-}
-
-/// The call of a caller's list at a place, from 0.
-pub fn find_call<'a>(calls: &'a [JobCall], caller: u8, place: u32) -> Option<&'a Call>
-    ensures { option_map (λ call. call.now) result ≡ slice_get (calls_of calls.now caller) place }
-{
-    let mut passed: u64 = 0;
-    for made in calls {
-        if made.caller == caller {
-            if passed == place as u64 {
-                return Some(&made.call);
-            }
-            passed += 1;
-        }
-    }
-    None
 }
 
 /// One turn of a call: a step, and the recovery where it has to wait for one.
@@ -228,8 +219,10 @@ pub fn run_call<C: EventCore, H: Hook>(
     hook: &mut H,
     runners: &mut [Runner],
     calls: &[JobCall],
+    index: &CallIndex,
     caller: u8,
 ) -> bool
+    requires index { IsIndexOf calls.now index.now.places }
     requires underway { Underway calls.now (H.test hook.old) (C.sight core.old) runners.old }
     requires within { caller < length runners.old }
     ensures whole { result ≡ true → IsWhole calls.now (H.test hook.old) (C.sight core.old) (C.sight core.new) runners.old runners.new }
@@ -241,7 +234,7 @@ pub fn run_call<C: EventCore, H: Hook>(
 {
     'turns: loop {
         let place = runners[caller as usize].done;
-        let Some(call) = find_call(calls, caller, place) else {
+        let Some(call) = find_call(calls, index, caller, place) else {
             return true;
         };
         match turn(
@@ -260,7 +253,7 @@ pub fn run_call<C: EventCore, H: Hook>(
             }
             Turn::Busy(holder) => {
                 let holds = runners[holder as usize].done;
-                let Some(first) = find_call(calls, holder, holds) else {
+                let Some(first) = find_call(calls, index, holder, holds) else {
                     unreachable!();
                 };
                 if !run_holder(
@@ -289,6 +282,7 @@ pub fn run_in_order<C: EventCore, H: Hook>(
     requires begins { IsAfter calls.now (H.test hook.old) (C.sight core.old) runners.old 0 }
     requires callers { AllByRecursion (λ (made : JobCall). made.caller < length runners.old) calls.now }
     ensures done { result ≡ true → IsRunInOrder calls.now (length runners.old) (H.test hook.old) (C.sight core.new) }
+    ensures taken { result ≡ true → AreRested (H.test hook.old) (C.sight core.old) runners.old → HasTakenTested (H.test hook.old) (C.sight core.new).history (C.sight core.new).records }
     ensures config { result ≡ true → (C.sight core.new).config ≡ (C.sight core.old).config }
     ensures test { H.test hook.new ≡ H.test hook.old }
     ensures origin { C.origin core.new ≡ C.origin core.old }

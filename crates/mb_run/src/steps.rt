@@ -4,6 +4,7 @@ ghost use Rattle.mb_core_spec.specs.declared.stages.Stage.TheVariants as stage;
 ghost use Rattle.mb_run.specs.Pages.{Performs, has};
 ghost use Rattle.mb_run.specs.Served.{Asks, Did, GoesIn, MayStep, SealsIf, is_due};
 ghost use Rattle.mb_run.specs.Sights.{IsOrderly, IsTicketOf};
+ghost use Rattle.mb_run.specs.Tallies.{IsEntering, IsFinishing, Tallies, TalliedBy};
 ghost use Rattle.mb_run.specs.declared.progress.Went.TheVariants as went;
 ghost use Rattle.mb_run.specs.declared.runner.At.TheVariants as at;
 
@@ -59,6 +60,7 @@ fn go_in<C: EventCore, H: Hook>(
     requires may { MayStep calls.now (H.test hook.old) (C.sight core.old) runner.old call.now }
     requires inside { runner.old.at ≡ at.Inside ticket.now }
     ensures did { GoesIn calls.now (H.test hook.old) (C.sight core.old) (C.sight core.new) runner.old runner.new result }
+    ensures tallied { IsEntering (H.test hook.old) (C.sight core.old) runner.old ticket.now → TalliedBy (H.test hook.old) (C.sight core.new) runner.new result }
     ensures test { H.test hook.new ≡ H.test hook.old }
     ensures origin { C.origin core.new ≡ C.origin core.old }
     ensures right { IsOrderly (C.sight core.new) }
@@ -81,6 +83,7 @@ fn enter<C: EventCore, H: Hook>(
     requires outside { runner.old.at ≡ at.Outside }
     ensures did { Did calls.now (H.test hook.old) (C.sight core.old) (C.sight core.new) runner.old runner.new result }
     ensures begins { result ≢ went.NoMemory → ((C.sight core.new).seats runner.old.crossings.caller).begun ≢ 0 }
+    ensures tallied { Tallies (H.test hook.old) (C.sight core.old) (C.sight core.new) runner.old runner.new result }
     ensures test { H.test hook.new ≡ H.test hook.old }
     ensures origin { C.origin core.new ≡ C.origin core.old }
     ensures right { IsOrderly (C.sight core.new) }
@@ -118,6 +121,7 @@ fn gather<C: EventCore, H: Hook>(
     requires some { 1 ≤ need.count }
     requires count { need.count ≤ 32 }
     ensures did { Did calls.now (H.test hook.old) (C.sight core.old) (C.sight core.new) runner.old runner.new result }
+    ensures tallied { Tallies (H.test hook.old) (C.sight core.old) (C.sight core.new) runner.old runner.new result }
     ensures test { H.test hook.new ≡ H.test hook.old }
     ensures origin { C.origin core.new ≡ C.origin core.old }
     ensures right { IsOrderly (C.sight core.new) }
@@ -172,6 +176,7 @@ fn finish_now<C: EventCore, H: Hook>(
     requires there { has runner.old.pages 0 ≡ true }
     requires ready { Performs runner.old.pages ticket.now.caller call.now ticket.now.moment (performed.Ready ready) }
     ensures did { Did calls.now (H.test hook.now) (C.sight core.old) (C.sight core.new) runner.old runner.new result }
+    ensures tallied { IsFinishing (H.test hook.now) (C.sight core.old) runner.old ticket.now → TalliedBy (H.test hook.now) (C.sight core.new) runner.new result }
     ensures origin { C.origin core.new ≡ C.origin core.old }
     ensures right { IsOrderly (C.sight core.new) }
 {
@@ -215,6 +220,7 @@ fn finish<C: EventCore, H: Hook>(
     requires there { has runner.old.pages 0 ≡ true }
     requires ready { Performs runner.old.pages ticket.now.caller call.now ticket.now.moment (performed.Ready ready) }
     ensures did { Did calls.now (H.test hook.old) (C.sight core.old) (C.sight core.new) runner.old runner.new result }
+    ensures tallied { Tallies (H.test hook.old) (C.sight core.old) (C.sight core.new) runner.old runner.new result }
     ensures test { H.test hook.new ≡ H.test hook.old }
     ensures origin { C.origin core.new ≡ C.origin core.old }
     ensures right { IsOrderly (C.sight core.new) }
@@ -239,6 +245,7 @@ fn leave<C: EventCore, H: Hook>(
     requires may { MayStep calls.now (H.test hook.old) (C.sight core.old) runner.old call.now }
     requires logged { runner.old.at ≡ at.Logged ticket.now }
     ensures did { Did calls.now (H.test hook.old) (C.sight core.old) (C.sight core.new) runner.old runner.new result }
+    ensures tallied { Tallies (H.test hook.old) (C.sight core.old) (C.sight core.new) runner.old runner.new result }
     ensures test { H.test hook.new ≡ H.test hook.old }
     ensures origin { C.origin core.new ≡ C.origin core.old }
     ensures right { IsOrderly (C.sight core.new) }
@@ -277,6 +284,7 @@ fn go_on<C: EventCore, H: Hook>(
     requires may { MayStep calls.now (H.test hook.old) (C.sight core.old) runner.old call.now }
     requires inside { runner.old.at ≡ at.Inside ticket.now }
     ensures did { Did calls.now (H.test hook.old) (C.sight core.old) (C.sight core.new) runner.old runner.new result }
+    ensures tallied { Tallies (H.test hook.old) (C.sight core.old) (C.sight core.new) runner.old runner.new result }
     ensures test { H.test hook.new ≡ H.test hook.old }
     ensures origin { C.origin core.new ≡ C.origin core.old }
     ensures right { IsOrderly (C.sight core.new) }
@@ -313,6 +321,7 @@ pub fn step<C: EventCore, H: Hook>(
     requires { MayStep calls.now (H.test hook.old) (C.sight core.old) runner.old call.now }
     ensures did { Did calls.now (H.test hook.old) (C.sight core.old) (C.sight core.new) runner.old runner.new result }
     ensures begins { result ≢ went.NoMemory → ((C.sight core.new).seats runner.old.crossings.caller).begun ≢ 0 }
+    ensures tallied { Tallies (H.test hook.old) (C.sight core.old) (C.sight core.new) runner.old runner.new result }
     ensures test { H.test hook.new ≡ H.test hook.old }
     ensures origin { C.origin core.new ≡ C.origin core.old }
     ensures right { IsOrderly (C.sight core.new) }

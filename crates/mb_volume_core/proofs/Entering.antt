@@ -21,11 +21,11 @@ use Rattle.mb_core_state.specs.declared.answers.Enter.{Enter as Entered}
 use Rattle.mb_core_state.specs.declared.answers.Enter.TheVariants as entered
 use Rattle.mb_core_events.specs.Callings.{MayCall}
 use Rattle.mb_run.specs.CoreSight.{is_fresh, pages_kept, seat_of, sight_of, stales_of}
-use Rattle.mb_run.specs.Events.{Answers, Begins, Enters, EntersInside, IsUnplain, Leaves, Stays}
+use Rattle.mb_run.specs.Events.{Answers, Begins, Enters, EntersInside, IsReplyOf, IsUnplain, Leaves, Stays}
 use Rattle.mb_run.specs.Served.{MayBegin, MayEnter}
 use Rattle.mb_run.specs.Sights.{IsOld, Seat, flight_of, is_new, one_if as one_where, recovers}
 use Rattle.mb_volume_core.specs.Answers.{entered_as}
-use Rattle.mb_volume_core.proofs.Leaving.{gone, leaves_at}
+use Rattle.mb_volume_core.proofs.Leaving.{gone, leaves_at, reply_of}
 use Rattle.mb_volume_core.proofs.Origins.{origin_of}
 use Rattle.mb_volume_core.proofs.Staying.{begun_now, floor_without, open_now, own_now, seat_now, set_same, set_twice, stays_at}
 
@@ -156,12 +156,13 @@ module _ {F D : Type 0} (told : D → Option Image) (faults : D → ℕ) (core :
   -- ---- by the answer
 
   -- the call had its entry
-  handed_out : (new : CoreState F D) (answer : Reply) → IsHandedOut core new caller mine answer → (o : Option Flight) → mine.flight ≡ o → HasEntry o → (flight : Flight) × Leaves caller flight (sight_of core) (sight_of new)
+  handed_out : (new : CoreState F D) (answer : Reply) → IsHandedOut core new caller mine answer → (o : Option Flight) → mine.flight ≡ o → HasEntry o
+      → (flight : Flight) × Leaves caller flight (sight_of core) (sight_of new) × IsReplyOf core.journal.history caller flight.ordinal answer
   handed_out new answer out None flies has = absurd has
   handed_out new answer out (Some flight) flies has =
       let made : CoreState F D = with_room (ended core caller mine new.cache.pins) new in
       let leaves = leaves_at core caller mine here made flight flies has refl (stays_at core made caller (gone mine) refl refl refl refl refl) refl (floor_without caller core.floor) in
-      (flight, subst (λ (c : CoreState F D). Leaves caller flight (sight_of core) (sight_of c)) (sym out.event) leaves)
+      (flight, subst (λ (c : CoreState F D). Leaves caller flight (sight_of core) (sight_of c)) (sym out.event) leaves, reply_of caller core.journal.history mine flight answer (r.orderly.answers caller mine here) flies has out.answer_is)
 
   given_up_if : (new : CoreState F D) (answer : Reply) (o : Option Flight) → mine.flight ≡ o → LacksEntry o
       → new ≡ with_room (answered_by (waiting_if core caller mine given o) caller (state o) (the_flight o) answer new.cache.pins) new → Answers caller (the_flight o) answer (sight_of core) (sight_of new)

@@ -1,9 +1,13 @@
 -- A call that has its entry leaves, and one that has none is given up.
-use Rattle.std.proofs.Common.{◌≡◌, ◌⊎◌, ◌∙◌, ℕ, ◌+◌, Bool, true, false, if◌then◌else◌, Option, None, Some, slice_get, slice_set, refl, ap, sym, subst, arith}
+use Rattle.std.proofs.Common.{◌≡◌, ◌⊎◌, ◌∙◌, List, ℕ, ◌+◌, Bool, true, false, if◌then◌else◌, Option, None, Some, slice_get, slice_set, refl, ap, sym, subst, arith}
+use Rattle.std.proofs.lemmas.Option.{same_Some}
+use Rattle.mb_kinds.specs.declared.entries.Entry.{Entry}
 use Rattle.mb_kinds.specs.declared.entries.Flight.{Flight}
 use Rattle.mb_kinds.specs.declared.faults.Ticket.{Ticket}
+use Rattle.mb_kinds.specs.declared.replies.Reply.{Reply}
 use Rattle.mb_core_spec.specs.Callers.{begun, one_if}
 use Rattle.mb_core_spec.specs.Events.{ended, leaving, taken_back, with_room}
+use Rattle.mb_core_spec.specs.Flights.{IsAnswered}
 use Rattle.mb_core_spec.specs.Numbers.{is_open, open_calls, open_flight}
 use Rattle.mb_core_spec.specs.State.{CallerState, CoreState}
 use Rattle.mb_core_state.specs.Answers.{Leaving}
@@ -11,7 +15,7 @@ use Rattle.mb_core_state.specs.declared.answers.Left.{Left}
 use Rattle.mb_core_state.specs.declared.answers.Left.TheVariants as left
 use Rattle.mb_core_events.specs.Callings.{HasEntry, HasOpenCall}
 use Rattle.mb_run.specs.CoreSight.{seat_of, sight_of}
-use Rattle.mb_run.specs.Events.{Leaves, LeavesWith, Quits, Stays}
+use Rattle.mb_run.specs.Events.{IsReplyOf, Leaves, LeavesWith, Quits, Stays}
 use Rattle.mb_run.specs.Sights.{HasTicket, IsWaiting, Seat}
 use Rattle.mb_volume_core.proofs.Origins.{origin_of}
 use Rattle.mb_volume_core.proofs.Staying.{begun_now, floor_without, open_now, seat_now, seated, stays_at}
@@ -19,6 +23,13 @@ use Rattle.mb_volume_core.proofs.Staying.{begun_now, floor_without, open_now, se
 -- the caller once its call ended
 abbrev pub gone : CallerState → CallerState
 gone mine = taken_back (record mine { flight = None; inside = false; answer = None })
+
+-- a call that has its entry hands out that entry's reply
+pub reply_of : (caller : ℕ) (history : List Entry) (mine : CallerState) (flight : Flight) (answer : Reply) → IsAnswered caller history mine → mine.flight ≡ Some flight → flight.answered ≡ true → mine.answer ≡ Some answer
+    → IsReplyOf history caller flight.ordinal answer
+reply_of caller history mine flight answer answers flies answered kept =
+    let its = answers flight flies answered in
+    record { entry = its.0; there = its.1; caller_is = its.2; ordinal_is = its.3; reply_is = same_Some its.0.reply answer (sym its.4 ∙ kept) }
 
 pub has_entry : {F D : Type 0} (core : CoreState F D) (ticket : Ticket) → HasTicket true ((sight_of core).seats ticket.caller) ticket → HasEntry core ticket
 has_entry core ticket has =
@@ -64,14 +75,14 @@ module _ {F D : Type 0} (core : CoreState F D) (caller : ℕ) (mine : CallerStat
   quit_origin new event = ap (λ (c : CoreState F D). origin_of c) event
 
 module _ {F D : Type 0} (core new : CoreState F D) (ticket : Ticket) (mine : CallerState) where
-  pub leaves_by : slice_get core.callers ticket.caller ≡ Some mine → (flight : Flight) (answer : Left) → mine.flight ≡ Some flight → flight.answered ≡ true → Leaving core new ticket mine answer
+  pub leaves_by : IsAnswered ticket.caller core.journal.history mine → slice_get core.callers ticket.caller ≡ Some mine → (flight : Flight) (answer : Left) → mine.flight ≡ Some flight → flight.answered ≡ true → Leaving core new ticket mine answer
       → LeavesWith (sight_of core) (sight_of new) ticket answer
-  leaves_by here flight (left.Skip was now) flies answered by = ((λ same. by.other (by.mine_is ∙ same ∙ sym by.now_is)), ap (λ (c : CoreState F D). sight_of c) by.same)
-  leaves_by here flight (left.Left answer) flies answered by =
+  leaves_by answers here flight (left.Skip was now) flies answered by = ((λ same. by.other (by.mine_is ∙ same ∙ sym by.now_is)), ap (λ (c : CoreState F D). sight_of c) by.same)
+  leaves_by answers here flight (left.Left answer) flies answered by =
       let made : CoreState F D = with_room (leaving core ticket.caller mine ticket new.cache.pins) new in
       let stays = stays_at core made ticket.caller (gone mine) refl refl refl refl refl in
       let leaves = leaves_at core ticket.caller mine here made flight flies answered refl stays refl (floor_without ticket.caller core.floor) in
-      (by.0, (flight, subst (λ (c : CoreState F D). Leaves ticket.caller flight (sight_of core) (sight_of c)) (sym by.2) leaves))
+      (by.0, (flight, subst (λ (c : CoreState F D). Leaves ticket.caller flight (sight_of core) (sight_of c)) (sym by.2) leaves, reply_of ticket.caller core.journal.history mine flight answer answers flies answered by.1))
 
   pub left_origin : (answer : Left) → Leaving core new ticket mine answer → origin_of new ≡ origin_of core
   left_origin (left.Skip was now) by = ap (λ (c : CoreState F D). origin_of c) by.same

@@ -35,12 +35,12 @@ use Rattle.mb_core_state.specs.declared.answers.Phase.{Phase}
 use Rattle.mb_core_state.specs.declared.answers.Phase.TheVariants as phase
 use Rattle.mb_core_events.specs.Callings.{Unwinds, phase_now}
 use Rattle.mb_core_events.proofs.Phases.{drops_at, remounts_at, reopens_at, replays_at, resumes_at, unwinds_at}
-use Rattle.mb_recover.specs.Steps.{CountsAt, Drops, IsMet, IsPointOf, Plainly, Recovers, Remounts, Replays, RunsFor as HasFor, caller_of, counted_if, next_if, next_of, striking_at}
+use Rattle.mb_recover.specs.Steps.{CountsAt, Drops, IsMet, IsPointOf, IsUnfired, IsUnheard, Plainly, Recovers, Remounts, Replays, RunsFor as HasFor, caller_of, counted_if, next_if, next_of, striking_at}
 use Rattle.mb_recover.specs.declared.steps.Stepped.{Stepped as Recovered}
 use Rattle.mb_recover.specs.declared.steps.Stepped.TheVariants as recovered
 use Rattle.mb_run.specs.CoreSight.{seat_of, sight_of}
 use Rattle.mb_run.specs.Events.{Answers}
-use Rattle.mb_run.specs.Recovering.{EndsByDevice, GoOn, GoesOn, IsTaken, Rolls, RunsFor, Steps, Strikes, StrikesBy, Waits}
+use Rattle.mb_run.specs.Recovering.{EndsByDevice, GoOn, GoesOn, IsAtNone, IsPassed, IsTaken, Rolls, RunsFor, Steps, Strikes, StrikesBy, Waits, awaits_remount}
 use Rattle.mb_run.specs.Served.{AreCounts, counted}
 use Rattle.mb_run.specs.Sights.{recovers, steps_left}
 use Rattle.mb_run.specs.declared.answers.Stepped.TheVariants as stepped
@@ -77,14 +77,35 @@ goes_on phase.Reopen by after are is = subst (GoOn by) (sym is) (goes_nowhere by
 goes_on phase.Resume by after are is = subst (GoOn by) (sym is) (goes_nowhere by are)
 
 -- the fault point of the step is what was counted
-counted_point : (now : Phase) (kind : Kind) (by after : Option Crossings) → IsPointOf now kind → CountsAt now by after → (after ≡ counted_if kind by) × ((kind ≡ Remount) ⊎ (kind ≡ Replay))
-counted_point phase.Remount kind by after point is = (is ∙ ap (λ k. counted_if k by) (sym point), inl point)
-counted_point (phase.Replay number) kind by after point is = (is ∙ ap (λ k. counted_if k by) (sym point), inr point)
-counted_point phase.Idle kind by after point is = absurd point
-counted_point phase.Unwind kind by after point is = absurd point
-counted_point phase.Drop kind by after point is = absurd point
-counted_point phase.Reopen kind by after point is = absurd point
-counted_point phase.Resume kind by after point is = absurd point
+counted_point : (now : Phase) (on : Stage) (kind : Kind) (by after : Option Crossings) → (now ≡ phase.Remount → on ≡ stage.Dropped) → IsPointOf now kind → CountsAt now by after
+    → (after ≡ counted_if kind by) × (((on ≡ stage.Dropped) × (kind ≡ Remount)) ⊎ (kind ≡ Replay))
+counted_point phase.Remount on kind by after dropped point is = (is ∙ ap (λ k. counted_if k by) (sym point), inl (dropped refl, point))
+counted_point (phase.Replay number) on kind by after dropped point is = (is ∙ ap (λ k. counted_if k by) (sym point), inr point)
+counted_point phase.Idle on kind by after dropped point is = absurd point
+counted_point phase.Unwind on kind by after dropped point is = absurd point
+counted_point phase.Drop on kind by after dropped point is = absurd point
+counted_point phase.Reopen on kind by after dropped point is = absurd point
+counted_point phase.Resume on kind by after dropped point is = absurd point
+
+-- a step that is no fault point
+at_none : (by after : Option Crossings) → after ≡ by → IsAtNone by after
+at_none None after is = tt
+at_none (Some by) None is = tt
+at_none (Some by) (Some now) is = same_Some now by is
+
+-- a fault point where no fault came
+passed_at : (test : Option (Crossing → Bool)) (kind : Kind) (by after : Option Crossings) → after ≡ counted_if kind by → IfSome by (IsUnfired test kind) → IsPassed test kind by after
+passed_at test kind None after is unfired = tt
+passed_at test kind (Some by) None is unfired = tt
+passed_at test kind (Some by) (Some now) is unfired = record { counts = same_Some now (counted by kind) is; unfired = unfired }
+
+unfired_remount : (test : Option (Crossing → Bool)) (struck : Option Crossing) (by : Option Crossings) → IsUnheard test struck by recovered.Remounted → IfSome by (IsUnfired test Remount)
+unfired_remount test struck None heard = tt
+unfired_remount test struck (Some by) heard = heard.1
+
+unfired_replay : (test : Option (Crossing → Bool)) (struck : Option Crossing) (by : Option Crossings) (number : ℕ) → IsUnheard test struck by (recovered.Replayed number) → IfSome by (IsUnfired test Replay)
+unfired_replay test struck None number heard = tt
+unfired_replay test struck (Some by) number heard = heard.1
 
 -- ---- by where the volume stands
 
@@ -195,16 +216,28 @@ module _ {F D : Type 0} (told : D → Option Image) (faults : D → ℕ) (core :
 
   -- ---- the steps, by their answers
 
-  module _ (test : Option (Crossing → Bool)) (by after : Option Crossings) where
+  module _ (test : Option (Crossing → Bool)) (by after : Option Crossings) (counts : CountsAt (phase_now core) by after) where
+    none_at : (now : Phase) → phase_now core ≡ now → (CountsAt now by after → after ≡ by) → IsAtNone by after
+    none_at now is still = at_none by after (still (subst (λ (p : Phase). CountsAt p by after) is counts))
+
     abbrev Comes : Recovered → Type 0
     Comes answer = Steps test by after (sight_of core) (sight_of new) (stepped_as answer) × (origin_of new ≡ origin_of core)
 
     plain_comes : (answer : Recovered) → Plainly core new answer → Comes answer
     plain_comes recovered.Idle is = ((idle_at core.stage _ _ is.0, ap sight_of is.1), ap origin_of is.1)
-    plain_comes (recovered.Unwound ticket) is = (unwinds ticket is.1 (unwinds_at core.stage _ _ is.0).0, ap origin_of is.1.event)
+    plain_comes (recovered.Unwound ticket) is =
+        let now = unwinds ticket is.1 (unwinds_at core.stage _ _ is.0).0 in
+        ((now.0, now.1, ap (λ (c : CoreState F D). awaits_remount c.stage) is.1.event, none_at phase.Unwind is.0 (λ still. still)), ap origin_of is.1.event)
     plain_comes recovered.Reopened is =
-        let now = reopens_at core.stage _ _ is.0 in
-        ((ap (λ (c : CoreState F D). recovers c.stage) is.1, rolls (reopening core new.tables.opens) is.1 refl refl refl refl refl refl (recovers_at stage.Remounted now refl) (fewer_at stage.Remounted _ now (omega arith))), ap origin_of is.1)
+        let now = reopens_at core.stage _ _ is.0 in (
+          (
+            ap (λ (c : CoreState F D). recovers c.stage) is.1,
+            rolls (reopening core new.tables.opens) is.1 refl refl refl refl refl refl (recovers_at stage.Remounted now refl) (fewer_at stage.Remounted _ now (omega arith)),
+            ap (λ (c : CoreState F D). awaits_remount c.stage) is.1 ∙ sym (ap awaits_remount now),
+            none_at phase.Reopen is.0 (λ still. still),
+          ),
+          ap origin_of is.1,
+        )
     plain_comes recovered.Resumed is =
         let now = resumes_at core.stage _ _ is.0 in
         let most : now.0 ≤ ops = subst (λ (s : Stage). replayed s ≤ ops) now.1 r.orderly.within in (
@@ -212,6 +245,8 @@ module _ {F D : Type 0} (told : D → Option Image) (faults : D → ℕ) (core :
             ap (λ (c : CoreState F D). c.stage) is.1,
             ap (λ (c : CoreState F D). c.floor) is.1 ∙ floor_free now.0 now.1,
             rolls (resuming core) is.1 refl refl refl refl refl refl (recovers_at (stage.Restored now.0) now.1 refl) (fewer_at (stage.Restored now.0) _ now.1 (omega (arith, most))),
+            ap awaits_remount now.1,
+            none_at phase.Resume is.0 (λ still. still),
           ),
           ap origin_of is.1,
         )
@@ -229,13 +264,16 @@ module _ {F D : Type 0} (told : D → Option Image) (faults : D → ℕ) (core :
       | inr again ↦ (recovers_at stage.Again again refl, fewer_at stage.Again left again low)
     ]
 
+    drops_awaits : phase_now core ≡ phase.Drop → awaits_remount core.stage ≡ true
+    drops_awaits is = elim (drops_at core.stage _ _ is) [ inl struck ↦ ap awaits_remount struck.0 | inr again ↦ ap awaits_remount again ]
+
     drop_comes : (answer : Recovered) → Drops core new answer → Comes answer
     drop_comes recovered.Dropped is =
         let now = drops_by (ops + 3) (omega arith) is.0 in
-        ((ap (λ (c : CoreState F D). recovers c.stage) is.2, rolls (dropping core) is.2 refl refl refl refl refl refl now.0 now.1), ap origin_of is.2)
+        ((ap (λ (c : CoreState F D). recovers c.stage) is.2, rolls (dropping core) is.2 refl refl refl refl refl refl now.0 now.1, ap (λ (c : CoreState F D). awaits_remount c.stage) is.2 ∙ sym (drops_awaits is.0), none_at phase.Drop is.0 (λ still. still)), ap origin_of is.2)
     drop_comes (recovered.Failed count) is =
         let now = drops_by 0 (omega arith) is.0 in
-        ((ap (λ (c : CoreState F D). c.stage) is.3, inl (ap (λ (c : CoreState F D). c.journal.records) is.3, waits (failing core) is.3 refl refl refl refl refl, now.0)), ap origin_of is.3)
+        ((ap (λ (c : CoreState F D). c.stage) is.3, inl (ap (λ (c : CoreState F D). c.journal.records) is.3, waits (failing core) is.3 refl refl refl refl refl, now.0, none_at phase.Drop is.0 (λ still. still))), ap origin_of is.3)
     drop_comes recovered.Idle is = absurd is
     drop_comes (recovered.Unwound ticket) is = absurd is
     drop_comes recovered.Remounted is = absurd is
@@ -262,27 +300,34 @@ module _ {F D : Type 0} (told : D → Option Image) (faults : D → ℕ) (core :
           ap origin_of ends.0,
         )
 
-    module _ (runs : IfSome by (HasFor core)) where
+    module _ (runs : IfSome by (HasFor core)) (struck : Option Crossing) where
       fails_comes : recovers core.stage ≡ true → FailsStep faults core new (caller_of by) read.Device → Comes recovered.Device
       fails_comes recovered fails = let ends = device_comes by runs fails in ((recovered, ends.0), ends.1)
 
-      remount_comes : (answer : Recovered) → Remounts faults core new (caller_of by) answer → Comes answer
-      remount_comes recovered.Remounted is =
-          let now = remounts_at core.stage _ _ is.0 in
-          ((now, ap (λ (c : CoreState F D). c.stage) is.1, rolls (remounting core new.cache.disk) is.1 refl refl refl refl refl refl (recovers_at stage.Dropped now refl) (fewer_at stage.Dropped _ now (omega arith))), ap origin_of is.1)
-      remount_comes recovered.Device is = fails_comes (recovers_at stage.Dropped (remounts_at core.stage _ _ is.0) refl) is.1
-      remount_comes recovered.NoMemory is = (ap sight_of is.0, ap origin_of is.0)
-      remount_comes recovered.Idle is = absurd is
-      remount_comes (recovered.Unwound ticket) is = absurd is
-      remount_comes (recovered.Failed count) is = absurd is
-      remount_comes recovered.Dropped is = absurd is
-      remount_comes recovered.Reopened is = absurd is
-      remount_comes (recovered.Replayed number) is = absurd is
-      remount_comes recovered.Resumed is = absurd is
-      remount_comes (recovered.Again count) is = absurd is
+      remount_comes : (answer : Recovered) → IsUnheard test struck by answer → Remounts faults core new (caller_of by) answer → Comes answer
+      remount_comes recovered.Remounted heard is =
+          let now = remounts_at core.stage _ _ is.0 in (
+            (
+              now,
+              ap (λ (c : CoreState F D). c.stage) is.1,
+              rolls (remounting core new.cache.disk) is.1 refl refl refl refl refl refl (recovers_at stage.Dropped now refl) (fewer_at stage.Dropped _ now (omega arith)),
+              passed_at test Remount by after (subst (λ (p : Phase). CountsAt p by after) is.0 counts) (unfired_remount test struck by heard),
+            ),
+            ap origin_of is.1,
+          )
+      remount_comes recovered.Device heard is = fails_comes (recovers_at stage.Dropped (remounts_at core.stage _ _ is.0) refl) is.1
+      remount_comes recovered.NoMemory heard is = (ap sight_of is.0, ap origin_of is.0)
+      remount_comes recovered.Idle heard is = absurd is
+      remount_comes (recovered.Unwound ticket) heard is = absurd is
+      remount_comes (recovered.Failed count) heard is = absurd is
+      remount_comes recovered.Dropped heard is = absurd is
+      remount_comes recovered.Reopened heard is = absurd is
+      remount_comes (recovered.Replayed number) heard is = absurd is
+      remount_comes recovered.Resumed heard is = absurd is
+      remount_comes (recovered.Again count) heard is = absurd is
 
-      replay_comes : (answer : Recovered) → Replays told faults core new (caller_of by) answer → Comes answer
-      replay_comes (recovered.Replayed number) is =
+      replay_comes : (answer : Recovered) → IsUnheard test struck by answer → Replays told faults core new (caller_of by) answer → Comes answer
+      replay_comes (recovered.Replayed number) heard is =
           let now = replays_at core.stage _ _ number is.0 in
           let logged = some_at core.journal.oplog now.0 now.3 in
           let again = is.1 now.0 logged.0 now.1 logged.1 in
@@ -290,22 +335,24 @@ module _ {F D : Type 0} (told : D → Option Image) (faults : D → ℕ) (core :
             (
               ap (λ (c : CoreState F D). recovers c.stage) again.event,
               rolls (redoing (with_disk core new.cache.disk) logged.0 again.changes now.0) again.event refl refl refl refl refl refl (recovers_at (stage.Restored now.0) now.1 refl) (fewer_at (stage.Restored now.0) _ now.1 (omega (arith, low))),
+              ap (λ (c : CoreState F D). awaits_remount c.stage) again.event ∙ sym (ap awaits_remount now.1),
+              passed_at test Replay by after (subst (λ (p : Phase). CountsAt p by after) is.0 counts) (unfired_replay test struck by number heard),
             ),
             ap origin_of again.event,
           )
-      replay_comes recovered.Device is = let now = replays_at core.stage _ _ is.0.0 is.0.1 in fails_comes (recovers_at (stage.Restored now.0) now.1 refl) is.1
-      replay_comes recovered.NoMemory is = (ap sight_of is.0, ap origin_of is.0)
-      replay_comes recovered.Idle is = absurd is
-      replay_comes (recovered.Unwound ticket) is = absurd is
-      replay_comes (recovered.Failed count) is = absurd is
-      replay_comes recovered.Dropped is = absurd is
-      replay_comes recovered.Remounted is = absurd is
-      replay_comes recovered.Reopened is = absurd is
-      replay_comes recovered.Resumed is = absurd is
-      replay_comes (recovered.Again count) is = absurd is
+      replay_comes recovered.Device heard is = let now = replays_at core.stage _ _ is.0.0 is.0.1 in fails_comes (recovers_at (stage.Restored now.0) now.1 refl) is.1
+      replay_comes recovered.NoMemory heard is = (ap sight_of is.0, ap origin_of is.0)
+      replay_comes recovered.Idle heard is = absurd is
+      replay_comes (recovered.Unwound ticket) heard is = absurd is
+      replay_comes (recovered.Failed count) heard is = absurd is
+      replay_comes recovered.Dropped heard is = absurd is
+      replay_comes recovered.Remounted heard is = absurd is
+      replay_comes recovered.Reopened heard is = absurd is
+      replay_comes recovered.Resumed heard is = absurd is
+      replay_comes (recovered.Again count) heard is = absurd is
 
       -- the hook faulted
-      module _ (are : IfSome by AreCounts) (counts : CountsAt (phase_now core) by after) (strokes : List Stroke) where
+      module _ (are : IfSome by AreCounts) (strokes : List Stroke) where
         taken : (crossings : Crossings) (at : Crossing) → AreCounts crossings → next_of at.kind crossings ≡ at → IfSome test (λ fires. fires at ≡ true) → IsTaken test crossings (counted crossings at.kind) (fault_at at)
         taken crossings at six same tested =
             subst (λ (c : Crossing). IsTaken test crossings (counted crossings at.kind) (fault_at c)) same
@@ -316,14 +363,14 @@ module _ {F D : Type 0} (told : D → Option Image) (faults : D → ℕ) (core :
         strikes event is waited at records point None six next tested counting = absurd (let wrong : None ≡ Some at = next in cc)
         strikes event is waited at records point (Some crossings) six next tested counting =
             let same : next_of at.kind crossings ≡ at = same_Some (next_of at.kind crossings) at next in
-            let was = counted_point (phase_now core) at.kind (Some crossings) after point counting in
+            let was = counted_point (phase_now core) core.stage at.kind (Some crossings) after (λ is. remounts_at core.stage _ _ is) point counting in
             subst (λ (o : Option Crossings). StrikesBy test (Some crossings) o (sight_of core) (sight_of new)) (sym was.0) (record {
               waits = waited;
               recovered = point_recovers core.stage _ _ at.kind point;
               fault = fault_at at;
               records = records;
               taken = taken crossings at six same tested;
-              kind = was.1;
+              next = record { counts = refl; nth = ap (λ (c : Crossing). c.nth) (sym same); point = was.1 };
             })
 
         met_comes : (answer : Recovered) → IsMet core new by test strokes answer → Comes answer
@@ -355,14 +402,14 @@ module _ {F D : Type 0} (told : D → Option Image) (faults : D → ℕ) (core :
         met_comes recovered.Resumed met = absurd met.struck
         met_comes recovered.Device met = absurd met.struck
 
-        pub comes : (answer : Recovered) → Recovers told faults core new by test strokes answer → Comes answer
-        comes answer is = elim is [
+        pub comes : (answer : Recovered) → IsUnheard test struck by answer → Recovers told faults core new by test strokes answer → Comes answer
+        comes answer heard is = elim is [
           | inl plainly ↦ plain_comes answer plainly
           | inr others ↦ elim others [
             | inl drops ↦ drop_comes answer drops
             | inr more ↦ elim more [
-              | inl remounts ↦ remount_comes answer remounts
-              | inr rest ↦ elim rest [ inl replays ↦ replay_comes answer replays | inr met ↦ met_comes answer met ]
+              | inl remounts ↦ remount_comes answer heard remounts
+              | inr rest ↦ elim rest [ inl replays ↦ replay_comes answer heard replays | inr met ↦ met_comes answer met ]
             ]
           ]
         ]

@@ -116,6 +116,7 @@ impl<F: FileSys, D: Disk> EventCore for VolumeCore<F, D> {
     }
 
     fn leave(&mut self, ticket: &Ticket) -> Left {
+        in_order(&self.core);
         self.core.leave(ticket)
     }
 

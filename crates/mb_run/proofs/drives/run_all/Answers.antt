@@ -1,4 +1,5 @@
 use Rattle.mb_run.proofs.Beginning.{begins_after, begins_firsts, begins_underway, listed, named_below, ordered}
+use Rattle.mb_run.proofs.Resting.{rested_begin}
 use Rattle.mb_run.proofs.drives.run_all.Goals as goal
 
 pub run_in_order-requires-clause-begins : goal.run_in_order-requires-clause-begins
@@ -8,7 +9,7 @@ pub run_in_order-requires-clause-callers : goal.run_in_order-requires-clause-cal
 run_in_order-requires-clause-callers g c = rw c.as_slice-calls.ensures (named_below _ _ c.requires.runnable c.requires.runners)
 
 pub returns-in-None-clause-driven : goal.returns-in-None-clause-driven
-returns-in-None-clause-driven g c = λ so. listed _ _ _ _ _ c.requires.begun c.in-None.is c.requires.runners.size (rw c.as_slice-calls.ensures at c.run_in_order.ensures.done so) (c.run_in_order.ensures.config so) c.run_in_order.ensures.right
+returns-in-None-clause-driven g c = λ so. listed _ _ _ _ _ c.requires.begun c.in-None.is c.requires.runners.size (rw c.as_slice-calls.ensures at c.run_in_order.ensures.done so) (c.run_in_order.ensures.config so) c.run_in_order.ensures.right (λ runs. c.run_in_order.ensures.taken so (rested_begin _ _ _ _ c.requires.begun c.requires.runners runs))
 
 pub run_by_order-requires-clause-underway : goal.run_by_order-requires-clause-underway
 run_by_order-requires-clause-underway g c = rw c.as_slice-calls.ensures (begins_underway _ _ _ _ c.requires.runnable c.requires.begun c.requires.runners)

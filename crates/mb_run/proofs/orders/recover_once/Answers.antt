@@ -4,7 +4,7 @@ use Rattle.mb_run.proofs.Moving.{moved_whole}
 use Rattle.mb_run.proofs.Quiet.{quiet_whole}
 use Rattle.mb_run.proofs.Waiting.{letter_may, open_has, open_low, open_rests, open_waits, rolled_gives_up, rolled_move}
 use Rattle.mb_run.specs.Sights.{recovers}
-use Rattle.mb_run.proofs.Starting.{open_rolls, quiet_alone, same_alone}
+use Rattle.mb_run.proofs.Starting.{open_rolls, quiet_alone}
 use Rattle.mb_run.proofs.orders.recover_once.Goals as goal
 
 pub returns-in_default-clause-alone : goal.returns-in_default-clause-alone

@@ -1,8 +1,7 @@
 use Rattle.std.proofs.Common.{sym}
 use Rattle.mb_run.proofs.Moving.{moved_whole, moved_yes}
 use Rattle.mb_run.proofs.Waiting.{letter_may}
-use Rattle.std.proofs.Common.{ap, get_or, ◌≡◌}
-use Rattle.mb_run.proofs.Starting.{letter_acts, letter_begun, past_begun, same_alone}
+use Rattle.mb_run.proofs.Starting.{letter_acts, letter_begun, past_begun}
 use Rattle.mb_run.proofs.orders.step_letter.Goals as goal
 
 pub returns-in_default-clause-begins : goal.returns-in_default-clause-begins

@@ -3,7 +3,7 @@ use Rattle.mb_run.proofs.Going.{turning_begin, turning_less, turning_on}
 use Rattle.mb_run.proofs.Moving.{may_look, stopped_move, turned_move}
 use Rattle.mb_run.proofs.GivingUp.{may_give_up, turning_gives_up}
 use Rattle.mb_run.specs.declared.progress.Went.TheVariants as went
-use Rattle.std.proofs.Common.{inr, subst, ◌≢◌}
+use Rattle.std.proofs.Common.{inr}
 use Rattle.mb_run.proofs.Starting.{back_goes, begun_late, busy_goes, ended_goes, on_goes, outside_or_begun, shut_goes, turned_begun}
 use Rattle.mb_run.proofs.orders.step_to_finish.Goals as goal
 

@@ -4,13 +4,13 @@ use Rattle.mb_run.proofs.Going.{rolling_begin, rolling_on, rolling_ends, rolling
 use Rattle.mb_run.proofs.runs.recover.Goals as goal
 
 pub steps-init : goal.steps-init
-steps-init g c = record { rolling = rolling_begin _ _ _ _ _ c.requires.may c.requires.outside c.requires.waits c.requires.recovered; origin = refl; test = refl }
+steps-init g c = record { rolling = rolling_begin _ _ _ _ _ c.requires.may c.requires.outside c.requires.waits c.requires.recovered; tallied = λ tally. tally; origin = refl; test = refl }
 
 pub roll-requires-clause-may : goal.roll-requires-clause-may
 roll-requires-clause-may g c = rw c.steps.invariant.test c.steps.invariant.rolling.may
 
 pub steps-preserved : goal.steps-preserved
-steps-preserved g c = record { rolling = rolling_on _ _ _ _ _ _ _ _ _ c.steps.invariant.rolling (rw c.steps.invariant.test at c.in-On.ensures.rolled) c.roll.ensures.right; origin = c.roll.ensures.origin ∙ c.steps.invariant.origin; test = c.roll.ensures.test ∙ c.steps.invariant.test }
+steps-preserved g c = record { rolling = rolling_on _ _ _ _ _ _ _ _ _ c.steps.invariant.rolling (rw c.steps.invariant.test at c.in-On.ensures.rolled) c.roll.ensures.right; tallied = λ tally. (rw c.steps.invariant.test at c.in-On.ensures.tallied) (c.steps.invariant.tallied tally); origin = c.roll.ensures.origin ∙ c.steps.invariant.origin; test = c.roll.ensures.test ∙ c.steps.invariant.test }
 
 pub steps-smaller : goal.steps-smaller
 steps-smaller g c = c.in-On.ensures.rolled.goes.4
@@ -26,3 +26,12 @@ returns-in-NoMemory-clause-recovers g c = rolling_stops _ _ _ _ _ _ _ _ _ c.step
 
 pub roll-requires-clause-rests : goal.roll-requires-clause-rests
 roll-requires-clause-rests g c = subst (IsResting (g.C.EventCore.sight c.steps.core).incarnation) (sym c.steps.invariant.rolling.outside) tt
+
+pub returns-in-Ended-clause-tallied : goal.returns-in-Ended-clause-tallied
+returns-in-Ended-clause-tallied g c = λ tally. (rw c.steps.invariant.test at c.in-Ended.ensures.tallied) (c.steps.invariant.tallied tally)
+
+pub returns-in-Back-clause-tallied : goal.returns-in-Back-clause-tallied
+returns-in-Back-clause-tallied g c = λ tally. (rw c.steps.invariant.test at c.in-Back.ensures.tallied) (c.steps.invariant.tallied tally)
+
+pub returns-in-NoMemory-clause-tallied : goal.returns-in-NoMemory-clause-tallied
+returns-in-NoMemory-clause-tallied g c = λ tally. tt

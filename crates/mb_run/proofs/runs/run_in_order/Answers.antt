@@ -1,9 +1,10 @@
-use Rattle.std.proofs.Common.{◌≡◌, ◌<◌, ◌∙◌, ap, sym, arith, length, Some, slice_get}
+use Rattle.std.proofs.Common.{◌≡◌, ◌<◌, ◌∙◌, ap, sym, arith, length, refl, Some, slice_get}
 use Rattle.std.proofs.Math.ListN.{length-set}
 use Rattle.std.proofs.lemmas.Option.{slice_get-get_or}
 use Rattle.mb_run.proofs.InOrder.{all_callers, order_after, order_may, order_mine, order_over}
 use Rattle.std.proofs.Common.{subst}
 use Rattle.mb_run.specs.Served.{IsRunInOrder}
+use Rattle.mb_run.proofs.Resting.{rested_after, rested_end}
 use Rattle.mb_run.proofs.runs.run_in_order.Goals as goal
 
 pub returns-clause-done : goal.returns-clause-done
@@ -31,6 +32,7 @@ loop-made-preserved g c =
     record {
       after = order_after _ _ _ _ _ c.loop-made.invariant.after c.made-item.result here _ low _ _ (rw c.loop-made.invariant.test at c.if-not-run_holder.ensures.ran) c.run_holder.ensures.right;
       size = length-set c.loop-made.runners c.made-item.result.caller c.run_holder.new.runner ∙ c.loop-made.invariant.size;
+      rested = λ rested. rested_after _ _ _ _ _ c.loop-made.invariant.after c.made-item.result here _ low _ _ (rw c.loop-made.invariant.test at c.if-not-run_holder.ensures.ran).nears (c.loop-made.invariant.rested rested) ((rw c.loop-made.invariant.test at c.if-not-run_holder.ensures.tallied) refl);
       config = c.if-not-run_holder.ensures.ran.nears.acts.config ∙ c.loop-made.invariant.config;
       origin = c.run_holder.ensures.origin ∙ c.loop-made.invariant.origin;
       test = c.run_holder.ensures.test ∙ c.loop-made.invariant.test;
@@ -38,3 +40,6 @@ loop-made-preserved g c =
 
 pub returns-clause-right : goal.returns-clause-right
 returns-clause-right g c = c.loop-made.invariant.after.underway.right
+
+pub returns-clause-taken : goal.returns-clause-taken
+returns-clause-taken g c = λ so rested. rested_end _ _ _ (c.loop-made.invariant.rested rested)

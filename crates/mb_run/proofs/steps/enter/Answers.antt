@@ -2,6 +2,7 @@ use Rattle.mb_run.proofs.Entered.{did_done, did_shut, may_inside, did_inside, di
 use Rattle.mb_run.proofs.Inside.{room}
 use Rattle.mb_run.proofs.Starting.{ended_begun, inside_begun, kept_begun, shut_begun}
 use Rattle.std.proofs.Common.{refl}
+use Rattle.mb_run.proofs.TallySteps.{entering_done, entering_inside, entering_shut}
 use Rattle.mb_run.proofs.steps.enter.Goals as goal
 
 pub returns-in-Done-clause-begins : goal.returns-in-Done-clause-begins
@@ -30,3 +31,15 @@ go_in-requires-clause-may g c = rw c.clear.ensures (may_inside _ _ _ _ _ c.requi
 
 pub returns-in-Inside-clause-did : goal.returns-in-Inside-clause-did
 returns-in-Inside-clause-did g c = did_inside _ _ _ _ _ c.requires.may c.requires.outside _ _ _ _ _ c.in-Inside.ensures.enters (rw c.clear.ensures at c.go_in.ensures.did)
+
+pub returns-in-Done-clause-tallied : goal.returns-in-Done-clause-tallied
+returns-in-Done-clause-tallied g c = rw c.advance.ensures (entering_done _ _ _ _ _ c.requires.may c.requires.outside _ _ c.in-Done.ensures.enters)
+
+pub returns-in-Shut-clause-tallied : goal.returns-in-Shut-clause-tallied
+returns-in-Shut-clause-tallied g c = entering_shut _ _ _ _ _ c.requires.may c.requires.outside _ c.in-Shut.ensures.enters
+
+pub returns-in-NoMemory-clause-tallied : goal.returns-in-NoMemory-clause-tallied
+returns-in-NoMemory-clause-tallied g c = λ tally. tt
+
+pub returns-in-Inside-clause-tallied : goal.returns-in-Inside-clause-tallied
+returns-in-Inside-clause-tallied g c = λ tally. c.go_in.ensures.tallied (rw c.clear.ensures (entering_inside _ _ _ _ _ c.requires.may c.requires.outside _ _ _ c.in-Inside.ensures.enters refl tally))

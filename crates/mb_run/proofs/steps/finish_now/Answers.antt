@@ -4,6 +4,7 @@ use Rattle.mb_run.specs.Sights.{Sight}
 use Rattle.mb_run.specs.declared.progress.Went.TheVariants as went
 use Rattle.mb_run.proofs.Inside.{inside_back, did_busy, did_nothing, did_stale, did_log}
 use Rattle.mb_run.proofs.Finishing.{did_seals, held_tables, logged_runs, ready_at}
+use Rattle.mb_run.proofs.TallySteps.{finishing_logged, finishing_skip, finishing_stale}
 use Rattle.mb_run.proofs.steps.finish_now.Goals as goal
 
 pub returns-in-Skip-clause-did : goal.returns-in-Skip-clause-did
@@ -29,3 +30,18 @@ finish-finished-requires-clause-ready g c = ready_at _ _ _ _ _ c.requires.may c.
 
 pub finish-finished-requires-clause-tables : goal.finish-finished-requires-clause-tables
 finish-finished-requires-clause-tables g c = held_tables _ _ _ _ _ c.requires.may c.args.ticket.now c.requires.inside
+
+pub returns-in-Skip-clause-tallied : goal.returns-in-Skip-clause-tallied
+returns-in-Skip-clause-tallied g c = finishing_skip _ _ _ _ _ c.requires.may c.args.ticket.now c.requires.inside _ c.in-Skip.mine c.in-Skip.now _ c.in-Skip.ensures.finishes
+
+pub returns-in-Busy-clause-tallied : goal.returns-in-Busy-clause-tallied
+returns-in-Busy-clause-tallied g c = λ tally. tt
+
+pub returns-in-Stale-clause-tallied : goal.returns-in-Stale-clause-tallied
+returns-in-Stale-clause-tallied g c = finishing_stale _ _ _ _ _ c.requires.may c.args.ticket.now c.requires.inside _ c.in-Stale.block _ c.in-Stale.ensures.finishes
+
+pub returns-in-NoMemory-clause-tallied : goal.returns-in-NoMemory-clause-tallied
+returns-in-NoMemory-clause-tallied g c = λ tally. tt
+
+pub returns-in-Logged-clause-tallied : goal.returns-in-Logged-clause-tallied
+returns-in-Logged-clause-tallied g c = finishing_logged _ _ _ _ _ c.requires.may c.args.ticket.now c.requires.inside _ _ _ c.in-Logged.ensures.finishes c.seal_if_due.ensures.seals

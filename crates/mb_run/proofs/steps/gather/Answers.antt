@@ -3,6 +3,7 @@ use Rattle.mb_core_state.specs.declared.answers.Gathered.TheVariants as gathered
 use Rattle.mb_run.proofs.Inside.{inside_asked, asked_gather, asked_room}
 use Rattle.mb_run.proofs.Inside.{has_ticket}
 use Rattle.mb_run.proofs.Places.{of_ticket}
+use Rattle.mb_run.proofs.TallySteps.{gathering_device, gathering_done, gathering_skip, gathering_struck}
 use Rattle.mb_run.proofs.steps.gather.Goals as goal
 
 pub returns-then-is_struck-clause-did : goal.returns-then-is_struck-clause-did
@@ -25,3 +26,18 @@ returns-in-Done-clause-did g c = asked_gather _ _ _ _ _ _ _ _ c.args.ticket.now 
 
 pub is_struck-requires-clause-ticket : goal.is_struck-requires-clause-ticket
 is_struck-requires-clause-ticket g c = of_ticket _ _ _ (has_ticket _ _ _ _ _ c.requires.may c.args.ticket.now c.requires.inside)
+
+pub returns-then-is_struck-clause-tallied : goal.returns-then-is_struck-clause-tallied
+returns-then-is_struck-clause-tallied g c = gathering_struck _ _ _ _ _ c.requires.may c.args.ticket.now c.requires.inside _ _ c.if-is_struck.ensures.asks
+
+pub returns-in-Skip-clause-tallied : goal.returns-in-Skip-clause-tallied
+returns-in-Skip-clause-tallied g c = gathering_skip _ _ _ _ _ c.requires.may c.args.ticket.now c.requires.inside _ _ c.if-is_struck.ensures.asks _ c.args.need c.gather.new.pages c.in-Skip.mine c.in-Skip.now _ c.in-Skip.ensures.gathers
+
+pub returns-in-Device-clause-tallied : goal.returns-in-Device-clause-tallied
+returns-in-Device-clause-tallied g c = rw c.advance.ensures (gathering_device _ _ _ _ _ c.requires.may c.args.ticket.now c.requires.inside _ _ c.if-is_struck.ensures.asks _ c.args.need c.gather.new.pages c.in-Device.ensures.gathers)
+
+pub returns-in-NoMemory-clause-tallied : goal.returns-in-NoMemory-clause-tallied
+returns-in-NoMemory-clause-tallied g c = λ tally. tt
+
+pub returns-in-Done-clause-tallied : goal.returns-in-Done-clause-tallied
+returns-in-Done-clause-tallied g c = gathering_done _ _ _ _ _ c.requires.may c.args.ticket.now c.requires.inside _ _ c.if-is_struck.ensures.asks _ c.args.need c.gather.new.pages c.in-Done.ensures.gathers

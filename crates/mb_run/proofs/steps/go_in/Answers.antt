@@ -2,6 +2,7 @@ use Rattle.mb_kinds.specs.declared.faults.Kind.TheVariants as kind
 use Rattle.mb_run.proofs.Inside.{inside_asked, in_on, in_back}
 use Rattle.mb_run.proofs.Inside.{has_ticket}
 use Rattle.mb_run.proofs.Places.{of_ticket}
+use Rattle.mb_run.proofs.TallySteps.{in_go, in_struck}
 use Rattle.mb_run.proofs.steps.go_in.Goals as goal
 
 pub returns-then-is_struck-clause-did : goal.returns-then-is_struck-clause-did
@@ -12,3 +13,9 @@ returns-clause-did g c = in_on _ _ _ _ _ _ _ c.args.ticket.now kind.Enter c.requ
 
 pub is_struck-requires-clause-ticket : goal.is_struck-requires-clause-ticket
 is_struck-requires-clause-ticket g c = of_ticket _ _ _ (has_ticket _ _ _ _ _ c.requires.may c.args.ticket.now c.requires.inside)
+
+pub returns-then-is_struck-clause-tallied : goal.returns-then-is_struck-clause-tallied
+returns-then-is_struck-clause-tallied g c = in_struck _ _ _ _ _ c.requires.may c.args.ticket.now c.requires.inside _ _ c.if-is_struck.ensures.asks
+
+pub returns-clause-tallied : goal.returns-clause-tallied
+returns-clause-tallied g c = in_go _ _ _ _ _ c.requires.may c.args.ticket.now c.requires.inside _ _ c.if-is_struck.ensures.asks

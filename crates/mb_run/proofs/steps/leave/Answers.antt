@@ -2,6 +2,7 @@ use Rattle.mb_kinds.specs.declared.faults.Kind.TheVariants as kind
 use Rattle.mb_run.proofs.Inside.{logged_asked, asked_skip, asked_left, asked_room}
 use Rattle.mb_run.proofs.Inside.{has_logged}
 use Rattle.mb_run.proofs.Places.{of_ticket}
+use Rattle.mb_run.proofs.TallySteps.{leaving_left, leaving_skip, leaving_struck}
 use Rattle.mb_run.proofs.steps.leave.Goals as goal
 
 pub returns-then-is_struck-clause-did : goal.returns-then-is_struck-clause-did
@@ -18,3 +19,12 @@ returns-in-Left-clause-did g c = rw c.advance.ensures (asked_left _ _ _ _ _ _ _ 
 
 pub is_struck-requires-clause-ticket : goal.is_struck-requires-clause-ticket
 is_struck-requires-clause-ticket g c = of_ticket _ _ _ (has_logged _ _ _ _ _ c.requires.may c.args.ticket.now c.requires.logged)
+
+pub returns-then-is_struck-clause-tallied : goal.returns-then-is_struck-clause-tallied
+returns-then-is_struck-clause-tallied g c = leaving_struck _ _ _ _ _ c.requires.may c.args.ticket.now c.requires.logged _ _ c.if-is_struck.ensures.asks
+
+pub returns-in-Skip-clause-tallied : goal.returns-in-Skip-clause-tallied
+returns-in-Skip-clause-tallied g c = leaving_skip _ _ _ _ _ c.requires.may c.args.ticket.now c.requires.logged _ _ c.if-is_struck.ensures.asks _ c.in-Skip.mine c.in-Skip.now _ c.in-Skip.ensures.leaves
+
+pub returns-in-Left-clause-tallied : goal.returns-in-Left-clause-tallied
+returns-in-Left-clause-tallied g c = rw c.advance.ensures (leaving_left _ _ _ _ _ c.requires.may c.args.ticket.now c.requires.logged _ _ c.if-is_struck.ensures.asks _ c.in-Left.field-0 c.in-Left.ensures.leaves)

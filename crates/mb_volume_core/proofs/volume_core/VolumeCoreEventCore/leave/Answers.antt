@@ -9,7 +9,7 @@ pub returns-clause-leaves : goal.returns-clause-leaves
 returns-clause-leaves g c =
     let core = c.args.self.now.core in
     let has = has_entry core c.args.ticket.now c.requires.ticket in
-    leaves_by core c.leave.new.self c.args.ticket.now has.0.mine has.0.here has.0.flight c.leave.result has.0.flies has.1 (c.leave.ensures.leaves has.0.mine has.0.here)
+    leaves_by core c.leave.new.self c.args.ticket.now has.0.mine (c.in_order.ensures.orderly.answers c.args.ticket.now.caller has.0.mine has.0.here) has.0.here has.0.flight c.leave.result has.0.flies has.1 (c.leave.ensures.leaves has.0.mine has.0.here)
 
 pub returns-clause-origin : goal.returns-clause-origin
 returns-clause-origin g c =

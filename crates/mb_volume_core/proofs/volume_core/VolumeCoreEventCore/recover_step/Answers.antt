@@ -17,13 +17,13 @@ returns-clause-on g c = goes_on _ c.args.by.now c.recover_step-stepped.new.by c.
 pub returns-clause-steps : goal.returns-clause-steps
 returns-clause-steps g c =
     subst (λ (answer : Stepped). Steps (g.H.Hook.test c.args.hook.now) c.args.by.now c.recover_step-stepped.new.by (sight_of c.args.self.now.core) (sight_of c.recover_step-stepped.new.core) answer) (sym c.stepped_as.ensures)
-    (comes g.D.Disk.told g.D.Disk.faults c.args.self.now.core c.in_order.ensures c.recover_step-stepped.new.core (g.H.Hook.test c.args.hook.now) c.args.by.now c.recover_step-stepped.new.by (has_for c.args.self.now.core c.args.by.now c.requires.by)
-    c.counts_fit.ensures c.recover_step-stepped.ensures.counted (g.H.Hook.strokes c.recover_step-stepped.new.hook) c.recover_step-stepped.result c.recover_step-stepped.ensures.recovers).0
+    (comes g.D.Disk.told g.D.Disk.faults c.args.self.now.core c.in_order.ensures c.recover_step-stepped.new.core (g.H.Hook.test c.args.hook.now) c.args.by.now c.recover_step-stepped.new.by c.recover_step-stepped.ensures.counted (has_for c.args.self.now.core c.args.by.now c.requires.by)
+    (g.H.Hook.struck c.recover_step-stepped.new.hook) c.counts_fit.ensures (g.H.Hook.strokes c.recover_step-stepped.new.hook) c.recover_step-stepped.result c.recover_step-stepped.ensures.heard c.recover_step-stepped.ensures.recovers).0
 
 pub returns-clause-origin : goal.returns-clause-origin
 returns-clause-origin g c =
-    (comes g.D.Disk.told g.D.Disk.faults c.args.self.now.core c.in_order.ensures c.recover_step-stepped.new.core (g.H.Hook.test c.args.hook.now) c.args.by.now c.recover_step-stepped.new.by (has_for c.args.self.now.core c.args.by.now c.requires.by)
-    c.counts_fit.ensures c.recover_step-stepped.ensures.counted (g.H.Hook.strokes c.recover_step-stepped.new.hook) c.recover_step-stepped.result c.recover_step-stepped.ensures.recovers).1
+    (comes g.D.Disk.told g.D.Disk.faults c.args.self.now.core c.in_order.ensures c.recover_step-stepped.new.core (g.H.Hook.test c.args.hook.now) c.args.by.now c.recover_step-stepped.new.by c.recover_step-stepped.ensures.counted (has_for c.args.self.now.core c.args.by.now c.requires.by)
+    (g.H.Hook.struck c.recover_step-stepped.new.hook) c.counts_fit.ensures (g.H.Hook.strokes c.recover_step-stepped.new.hook) c.recover_step-stepped.result c.recover_step-stepped.ensures.heard c.recover_step-stepped.ensures.recovers).1
 
 pub returns-clause-device : goal.returns-clause-device
 returns-clause-device g c = λ is. rose_at g.D.Disk.told g.D.Disk.faults c.args.self.now.core c.recover_step-stepped.new.core c.args.by.now (g.H.Hook.test c.args.hook.now) (g.H.Hook.strokes c.recover_step-stepped.new.hook) c.recover_step-stepped.result

@@ -1,0 +1,5 @@
+pub mod Fitness
+pub mod Names
+pub mod OneMore
+pub mod Places
+pub mod Reading

@@ -1,0 +1,5 @@
+pub mod Draws
+pub mod Calls
+pub mod Faults
+pub mod Generator
+pub mod Laws
