@@ -21,7 +21,7 @@ use Rattle.mb_run.specs.Drives.{IsBegun}
 use Rattle.mb_run.specs.Sights.{IsOrderly}
 use Rattle.mb_run.proofs.Completing.{calls_few}
 use Rattle.mb_headline.specs.Headline.{IsConfigOf}
-use Rattle.mb_headline.specs.Laws.{MayBeginAll}
+use Rattle.mb_headline.specs.Laws.{IsBegunFor, MayBeginAll}
 use Rattle.mb_headline.proofs.Reading.{no_some}
 
 idle_seat : (n caller : ℕ) → seat_of (slice_get (replicate n idle) caller) ≡ record { begun = 0; flight = None }
@@ -79,3 +79,6 @@ pub begins_if : {F D R : Type 0} (told : D → Option Image) (faults : D → ℕ
     → IfOk found (IsBegunOver told faults fs disk config) → IfOk found (Right told faults) → IsConfigOf job config → MayBeginAll job config → IfOk found (λ core. IsBegun job (sight_of core))
 begins_if told faults fs disk job config (Ok core) over right is may = begins_for told faults fs disk job config core over right is may
 begins_if told faults fs disk job config (Err why) over right is may = tt
+
+pub runs_begun : {F D : Type 0} (told : D → Option Image) (faults : D → ℕ) (fs : F) (job : Job) (disk : D) (made : CoreState F D) → IsBegunFor told faults fs job disk made → made.stage ≡ stage.Running
+runs_begun {F} {D} told faults fs job disk made begun = ap (λ (state : CoreState F D). state.stage) begun.over.begun

@@ -11,9 +11,11 @@ use Rattle.mb_jobs.specs.declared.jobs.Caller.{Caller}
 use Rattle.mb_jobs.specs.declared.jobs.Job.{Job}
 use Rattle.mb_kinds.specs.Image.{Image}
 use Rattle.mb_kinds.specs.declared.entries.Entry.{Entry}
+use Rattle.mb_kinds.specs.declared.faults.FaultRecord.{FaultRecord}
 use Rattle.mb_run.specs.Drives.{HasEachMoment, IsLinedUp}
 use Rattle.mb_run.specs.Letters.{letters_of}
-use Rattle.mb_run.specs.Runs.{FirstsRise, HasFailed, HasRecords}
+use Rattle.mb_plan.specs.declared.rules.Rule.{Rule}
+use Rattle.mb_run.specs.Runs.{FirstsRise, HasFailed, HasRecords, HasTakenFaults}
 use Rattle.mb_run.specs.Served.{calls_in, calls_of}
 use Rattle.mb_tree.specs.History.{Legal, after_first}
 use Rattle.mb_tree.specs.Opening.{opening}
@@ -69,11 +71,17 @@ pub record IsRun {F D : Type 0} (told : D → Option Image) (faults : D → ℕ)
   pub failures : AllByRecursion (λ (entry : Entry). HasFailed job.limit core.journal.records entry.reply) core.journal.history
   pub devices : FewDevices (faults disk) (faults core.cache.disk) core.journal.history
 
--- where one thread ran the job: without an order its calls stand in the job's order, entry by entry and moment by moment; by an
--- order the first calls begin as the callers' letters first stand in it
-pub record KeepsOrder (job : Job) (history : List Entry) : Type 0 where
+-- in list order the faults of the plan are taken: a call with a plain reply met each that a rule has at its first fault points
+abbrev pub TakesPlanned : Option (List ℕ) → List Rule → List Entry → List FaultRecord → Type 0
+TakesPlanned None plan history records = HasTakenFaults plan history records
+TakesPlanned (Some order) plan history records = Unit {0}
+
+-- where one thread ran the job: without an order its calls stand in the job's order, entry by entry and moment by moment, and
+-- the faults of its plan were taken; by an order the first calls begin as the callers' letters first stand in it
+pub record KeepsOrder (job : Job) (history : List Entry) (records : List FaultRecord) : Type 0 where
   pub lined : IsLinedUp job.order job.calls job.start history
   pub firsts : RiseAsOrdered job.order job.callers history
+  pub taken : TakesPlanned job.order job.plan history records
 
 -- ---- the end of a run
 

@@ -7,6 +7,7 @@ use Rattle.mb_core_spec.specs.Bounds.{IsConfig}
 use Rattle.mb_edge.specs.Causes.{Rose}
 use Rattle.mb_edge.specs.declared.crossings.Crossing.{Crossing}
 use Rattle.mb_core_spec.specs.declared.config.Config.{Config}
+use Rattle.mb_core_spec.specs.declared.stages.Stage.TheVariants as stage
 use Rattle.mb_jobs.specs.Job.{job_in}
 use Rattle.mb_jobs.specs.declared.jobs.Job.{Job}
 use Rattle.mb_kinds.specs.Image.{Image}
@@ -44,10 +45,14 @@ pub record IsBegunFor {F D : Type 0} (told : D → Option Image) (faults : D →
 abbrev pub DrivesApart : Type 0
 DrivesApart = (job : Job) (test : Option (Crossing → Bool)) (old new : Sight) → IsDriven job test old new → IsDrivenApart job (λ (caller : ℕ). test) old new
 
--- what one thread leaves of a job that a text writes keeps the job's order
+-- what one thread leaves of a job that a text writes keeps the job's order, and the faults of its plan were taken
 abbrev pub DrivesKeepOrder : Type 0
-DrivesKeepOrder = (bytes : List ℕ) (job : Job) (test : Option (Crossing → Bool)) (old new : Sight)
-    → job_in bytes ≡ Ok job → IsDriven job test old new → KeepsOrder job new.history
+DrivesKeepOrder = (bytes : List ℕ) (job : Job) (old new : Sight)
+    → job_in bytes ≡ Ok job → old.stage ≡ stage.Running → IsDriven job (Some (fires job.plan)) old new → KeepsOrder job new.history new.records
+
+-- a core that was begun runs
+abbrev pub BegunRuns : (F D : Type 0) → (D → Option Image) → (D → ℕ) → Type 0
+BegunRuns F D told faults = (fs : F) (job : Job) (disk : D) (core : CoreState F D) → IsBegunFor told faults fs job disk core → core.stage ≡ stage.Running
 
 -- a core that was begun over a disk for a job, the core that a driver of its callers left, and the core at the end
 pub record IsPath {F D : Type 0} (fs : F) (told : D → Option Image) (faults : D → ℕ) (job : Job) (disk : D) (begun driven ended : CoreState F D) : Type 0 where
