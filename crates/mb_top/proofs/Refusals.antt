@@ -1,6 +1,5 @@
 -- What a refusal of the image is told as.
-use Rattle.std.proofs.Common.{Bool, ◌≡◌, ℕ, Option, Err, IfSome, refl}
-use Rattle.mb_check.specs.Whole.{IsScanned}
+use Rattle.std.proofs.Common.{Bool, ℕ, Option, refl}
 use Rattle.mb_check.specs.declared.scans.OpenFault.{OpenFault}
 use Rattle.mb_check.specs.declared.scans.OpenFault.TheVariants as faults
 use Rattle.mb_core_events.specs.Beginning.{IsRefused}

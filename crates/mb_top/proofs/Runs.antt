@@ -1,5 +1,5 @@
 -- What comes of a run, from the laws on its path.
-use Rattle.std.proofs.Common.{Bool, false, List, ℕ, ◌+◌, ◌^◌, ◌-◌, ◌≤◌, ◌≡◌, ◌≢◌, ◌⊎◌, Option, Some, Ok, inl, inr, ap, arith, sym, subst, ◌∙◌, refl}
+use Rattle.std.proofs.Common.{Bool, true, false, List, ℕ, ◌≤◌, ◌≡◌, ◌≢◌, ◌⊎◌, Option, Some, Ok, inl, inr, ap, arith, sym, subst, ◌∙◌, refl}
 use Rattle.mb_core_events.specs.Beginning.{TellsVolume}
 use Rattle.mb_core_spec.specs.Right.{Right}
 use Rattle.mb_core_spec.specs.State.{CoreState}
@@ -7,11 +7,12 @@ use Rattle.mb_core_spec.specs.declared.stages.Stage.{Stage}
 use Rattle.mb_core_spec.specs.declared.stages.Stage.TheVariants as stage
 use Rattle.mb_edge.specs.Causes.{Rose}
 use Rattle.mb_fsops.specs.declared.v7.V7.{V7}
-use Rattle.mb_headline.specs.Headline.{FewerDevices, IsDone, IsGivenUp, IsRun, LeavesImage}
-use Rattle.mb_headline.specs.Laws.{DrivesApart, DrivesKeepOrder, IsBegunFor, IsPath, PathsAreRuns, PathsEnd, PathsFail}
+use Rattle.mb_headline.specs.Headline.{FewerDevices, IsDone, IsGivenUp, IsRun, KeepsOrder, LeavesImage}
+use Rattle.mb_headline.specs.Laws.{DrivesKeepOrder, DrivesApart, IsBegunFor, IsPath, PathsAreRuns, PathsEnd, PathsFail}
 use Rattle.mb_jobs.specs.Job.{job_in}
 use Rattle.mb_jobs.specs.declared.jobs.Job.{Job}
 use Rattle.mb_kinds.specs.Image.{Image}
+use Rattle.mb_kinds.specs.declared.entries.Entry.{Entry}
 use Rattle.mb_plan.specs.Fires.{fires}
 use Rattle.mb_plan.specs.declared.rules.Rule.{Rule}
 use Rattle.mb_print.specs.Transcript.{end_text, failed_text}
@@ -23,12 +24,12 @@ use Rattle.mb_volume_core.specs.declared.volume_core.Origin.{Origin}
 use Rattle.mb_top.specs.Held.{HoldsCore, held_disk}
 use Rattle.mb_top.specs.declared.finish.Held.{Held}
 use Rattle.mb_top.specs.declared.finish.Held.TheVariants as held
-use Rattle.mb_top.specs.Outcomes.{ComesOfCore, ComesOfJob, ComesOfRunWords, IsDiskFault, IsDrivenFor, KeepsOrderIfAlone, Says, ended_text, unsettled_text}
+use Rattle.mb_top.specs.Outcomes.{ComesOfCore, ComesOfJob, ComesOfRunWords, IsDiskFault, KeepsOrderIfAlone, IsDrivenFor, Says, ended_text, unsettled_text}
 use Rattle.mb_top.specs.declared.outcomes.Outcome.{Outcome}
 use Rattle.mb_top.specs.declared.outcomes.Outcome.TheVariants.{WordsRefused, CommandNotBuilt, InputFault, JobRefused, DiskFault, OutOfMemory, Made, Checked, Unsound, Unsettled, GivenUp, Ran}
 
 comes_done : {D : Type 0} (told : D → Option Image) (faults : D → ℕ) (threads : Bool) (job : Job) (disk : D) (core : CoreState V7 D) (outcome : Outcome)
-    → IsRun told faults job disk core → KeepsOrderIfAlone threads job core.journal.history → IsDone job core → LeavesImage told job disk core → Says Ran (ended_text end_text job core) outcome → ComesOfCore told faults threads job disk core outcome
+    → IsRun told faults job disk core → KeepsOrderIfAlone threads job core → IsDone job core → LeavesImage told job disk core → Says Ran (ended_text end_text job core) outcome → ComesOfCore told faults threads job disk core outcome
 comes_done told faults threads job disk core outcome run order all left said =
     elim said [
       | inl is ↦ subst (ComesOfCore told faults threads job disk core) (sym is) (record { run = run; order = order; done = all; left = left; printed = refl })
@@ -36,7 +37,7 @@ comes_done told faults threads job disk core outcome run order all left said =
     ]
 
 comes_given_up : {D : Type 0} (told : D → Option Image) (faults : D → ℕ) (threads : Bool) (job : Job) (disk : D) (core : CoreState V7 D) (outcome : Outcome)
-    → IsRun told faults job disk core → KeepsOrderIfAlone threads job core.journal.history → IsGivenUp job core → LeavesImage told job disk core → Says GivenUp (ended_text failed_text job core) outcome → ComesOfCore told faults threads job disk core outcome
+    → IsRun told faults job disk core → KeepsOrderIfAlone threads job core → IsGivenUp job core → LeavesImage told job disk core → Says GivenUp (ended_text failed_text job core) outcome → ComesOfCore told faults threads job disk core outcome
 comes_given_up told faults threads job disk core outcome run order failed left said =
     elim said [
       | inl is ↦ subst (ComesOfCore told faults threads job disk core) (sym is) (record { run = run; order = order; given_up = failed; left = left; printed = refl })
@@ -49,7 +50,7 @@ is_failed _ = ⊥
 
 -- a run that was settled, by whether the volume failed
 pub settled : {D : Type 0} (told : D → Option Image) (faults : D → ℕ) (threads : Bool) (job : Job) (disk : D) (core : CoreState V7 D) (outcome : Outcome)
-    → IsRun told faults job disk core → KeepsOrderIfAlone threads job core.journal.history → (IsDone job core ⊎ IsGivenUp job core) × LeavesImage told job disk core
+    → IsRun told faults job disk core → KeepsOrderIfAlone threads job core → (IsDone job core ⊎ IsGivenUp job core) × LeavesImage told job disk core
     → (core.stage ≡ stage.Failed → Says GivenUp (ended_text failed_text job core) outcome)
     → (core.stage ≢ stage.Failed → Says Ran (ended_text end_text job core) outcome)
     → ComesOfCore told faults threads job disk core outcome
@@ -61,7 +62,7 @@ settled told faults threads job disk core outcome run order ends failed runs =
 
 -- a run in whose end the disk failed
 pub unsettled : {D : Type 0} (told : D → Option Image) (faults : D → ℕ) (threads : Bool) (job : Job) (disk : D) (core : CoreState V7 D) (outcome : Outcome)
-    → IsRun told faults job disk core → KeepsOrderIfAlone threads job core.journal.history → FewerDevices (faults disk) (faults core.cache.disk) core.journal.history → Rose (faults disk) (faults core.cache.disk)
+    → IsRun told faults job disk core → KeepsOrderIfAlone threads job core → FewerDevices (faults disk) (faults core.cache.disk) core.journal.history → Rose (faults disk) (faults core.cache.disk)
     → Says Unsettled (unsettled_text job core) outcome → ComesOfCore told faults threads job disk core outcome
 unsettled told faults threads job disk core outcome run order fewer rose said =
     elim said [
@@ -75,7 +76,7 @@ unsettled told faults threads job disk core outcome run order fewer rose said =
 pub driven_alone : {D : Type 0} (told : D → Option Image) (faults : D → ℕ) (fs : V7) (bytes : List ℕ) (job : Job) (disk : D) (begun driven : CoreState V7 D) (rules : List Rule)
     → DrivesApart → DrivesKeepOrder → job_in bytes ≡ Ok job → rules ≡ job.plan → IsBegunFor told faults fs job disk begun → origin_of driven ≡ origin_of begun
     → IsDriven job (Some (fires rules)) (sight_of begun) (sight_of driven) → IsDrivenFor told faults false fs job disk driven
-driven_alone {D = D} told faults fs bytes job disk begun driven rules apart ordered written same over on drives =
+driven_alone {D = D} told faults fs bytes job disk begun driven rules apart law written same over on drives =
     let by_plan : IsDriven job (Some (fires job.plan)) (sight_of begun) (sight_of driven) = subst (λ (r : List Rule). IsDriven job (Some (fires r)) (sight_of begun) (sight_of driven)) same drives in
     record {
       begun = begun;
@@ -83,8 +84,15 @@ driven_alone {D = D} told faults fs bytes job disk begun driven rules apart orde
       first = ap (λ (o : Origin D). o.first) on;
       config = ap (λ (o : Origin D). o.config) on;
       drives = apart job (Some (fires job.plan)) (sight_of begun) (sight_of driven) by_plan;
-      order = ordered bytes job (Some (fires job.plan)) (sight_of begun) (sight_of driven) written by_plan;
+      order = law bytes job (sight_of begun) (sight_of driven) written (ap (λ (c : CoreState V7 D). c.stage) over.over.begun) by_plan;
     }
+
+-- history and fault records stay at the end of a run
+order_stays : {D : Type 0} (threads : Bool) (job : Job) (driven ended : CoreState V7 D) → ended.journal.history ≡ driven.journal.history → ended.journal.records ≡ driven.journal.records
+    → KeepsOrderIfAlone threads job driven → KeepsOrderIfAlone threads job ended
+order_stays true job driven ended history records order = tt
+order_stays false job driven ended history records order =
+    subst (λ (h : List Entry). KeepsOrder job h ended.journal.records) (sym history) (subst (KeepsOrder job driven.journal.history) (sym records) order)
 
 module _ {D : Type 0} (told : D → Option Image) (faults : D → ℕ) (threads : Bool) (job : Job) (disk : D) (fs : V7) (driven ended : CoreState V7 D)
     (drives : IsDrivenFor told faults threads fs job disk driven) (ended_on : origin_of ended ≡ origin_of driven)
@@ -99,8 +107,8 @@ module _ {D : Type 0} (told : D → Option Image) (faults : D → ℕ) (threads 
     right = right;
   }
 
-  order : KeepsOrderIfAlone threads job ended.journal.history
-  order = subst (KeepsOrderIfAlone threads job) (sym keeps.history) drives.order
+  order : KeepsOrderIfAlone threads job ended
+  order = order_stays threads job driven ended keeps.history keeps.records drives.order
 
   pub comes_settled : (bytes : List ℕ) (outcome : Outcome) → PathsAreRuns V7 D told faults → PathsEnd V7 D told faults → job_in bytes ≡ Ok job → IsSettled (sight_of driven) (sight_of ended)
       → (ended.stage ≡ stage.Failed → Says GivenUp (ended_text failed_text job ended) outcome)

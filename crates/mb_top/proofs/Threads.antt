@@ -1,6 +1,6 @@
 -- A core that threads drove, each with a fault injector that goes by the job's plan.
-use Rattle.std.proofs.Common.{Bool, true, List, [], ◌∷◌, ℕ, zero, suc, ◌<◌, ◌≡◌, Option, Some, length, ap, arith, sym, subst, ◌∙◌, refl}
-use Rattle.std.specs.Prelude.{IfSome, replicate}
+use Rattle.std.proofs.Common.{Bool, true, List, [], ◌∷◌, ℕ, zero, suc, ◌<◌, ◌≡◌, Option, Some, length, ap, arith, subst, ◌∙◌, refl}
+use Rattle.std.specs.Prelude.{IfSome, map, replicate}
 use Rattle.std.specs.List.{AllByRecursion}
 use Rattle.mb_core_spec.specs.Right.{Right}
 use Rattle.mb_core_spec.specs.State.{CoreState}
@@ -16,11 +16,9 @@ use Rattle.mb_plan.specs.declared.rules.Rule.{Rule}
 use Rattle.mb_run.specs.CoreSight.{sight_of}
 use Rattle.mb_run.specs.Drives.{IsBegun, IsDrivenApart}
 use Rattle.mb_run.specs.Recovering.{crossing_of}
-use Rattle.mb_run.specs.Served.{AreSoundBy}
 use Rattle.mb_run.specs.Sights.{Sight}
-use Rattle.mb_threads.specs.Tests.{test_in}
-use Rattle.mb_volume_core.proofs.Origins.{origin_of}
-use Rattle.mb_volume_core.specs.declared.volume_core.Origin.{Origin}
+use Rattle.mb_threads.specs.Driven.{test_of}
+use Rattle.mb_core_spec.specs.declared.config.Config.{Config}
 use Rattle.mb_top.specs.Outcomes.{IsDrivenFor}
 
 -- the test of a plan's fault injector
@@ -28,7 +26,7 @@ abbrev plan_test : Hooked → Option (Crossing → Bool)
 plan_test hook = Some (fires hook.rules)
 
 -- each caller's fault injector has the plan's test
-alike : (count caller : ℕ) (hook : Hooked) → caller < count → test_in plan_test (replicate count hook) caller ≡ Some (fires hook.rules)
+alike : (count caller : ℕ) (hook : Hooked) → caller < count → test_of (map plan_test (replicate count hook)) caller ≡ Some (fires hook.rules)
 alike zero caller hook low = absurd (omega (arith, low))
 alike (suc count) zero hook low = refl
 alike (suc count) (suc caller) hook low = alike count caller hook (omega (arith, low))
@@ -56,18 +54,18 @@ by_plan job tests count old new same low drives = record {
 }
 
 pub driven_by_threads : {D : Type 0} (told : D → Option Image) (faults : D → ℕ) (fs : V7) (job : Job) (disk : D) (begun driven : CoreState V7 D) (hooks : List Hooked) (hook : Hooked)
-    → hooks ≡ replicate (length job.callers) hook → hook.rules ≡ job.plan → IsBegun job (sight_of begun) → Right told faults driven → IsBegunFor told faults fs job disk begun → origin_of driven ≡ origin_of begun
-    → IsDrivenApart job (test_in plan_test hooks) (sight_of begun) (sight_of driven) → IsDrivenFor told faults true fs job disk driven
-driven_by_threads {D = D} told faults fs job disk begun driven hooks hook all rules start right over on drives =
-    let same : (caller : ℕ) → caller < length job.callers → test_in plan_test hooks caller ≡ Some (fires job.plan) =
-    λ caller low. ap (λ (h : List Hooked). test_in plan_test h caller) all ∙ alike (length job.callers) caller hook low ∙ ap (λ (r : List Rule). Some (fires r)) rules in
-    let declared : length driven.config.callers ≡ length job.callers = ap (λ (o : Origin D). length o.config.callers) on ∙ start.callers in
+    → hooks ≡ replicate (length job.callers) hook → hook.rules ≡ job.plan → IsBegun job (sight_of begun) → Right told faults driven → IsBegunFor told faults fs job disk begun → driven.first ≡ begun.first → driven.config ≡ begun.config
+    → IsDrivenApart job (test_of (map plan_test hooks)) (sight_of begun) (sight_of driven) → IsDrivenFor told faults true fs job disk driven
+driven_by_threads {D = D} told faults fs job disk begun driven hooks hook all rules start right over first config drives =
+    let same : (caller : ℕ) → caller < length job.callers → test_of (map plan_test hooks) caller ≡ Some (fires job.plan) =
+    λ caller low. ap (λ (h : List Hooked). test_of (map plan_test h) caller) all ∙ alike (length job.callers) caller hook low ∙ ap (λ (r : List Rule). Some (fires r)) rules in
+    let declared : length driven.config.callers ≡ length job.callers = ap (λ (c : Config). length c.callers) config ∙ start.callers in
     let low = subst (λ n. AllByRecursion (λ (fault : FaultRecord). fault.caller < n) driven.journal.records) declared right.orderly.numbered.recorded in
     record {
       begun = begun;
       over = over;
-      first = ap (λ (o : Origin D). o.first) on;
-      config = ap (λ (o : Origin D). o.config) on;
-      drives = by_plan job (test_in plan_test hooks) (length job.callers) (sight_of begun) (sight_of driven) same low drives;
+      first = first;
+      config = config;
+      drives = by_plan job (test_of (map plan_test hooks)) (length job.callers) (sight_of begun) (sight_of driven) same low drives;
       order = tt;
     }

@@ -1,5 +1,5 @@
 -- How the program ends: the order of the causes, and for each of them its status and its text.
-use Rattle.std.specs.Prelude.{List, ◌++◌, ℕ, ◌≡◌, ◌≢◌, ◌≤◌, ◌⊎◌, codes, Bool, true, false, length, take, Option, Some, None, Result, Ok, Err, IfSome}
+use Rattle.std.specs.Prelude.{List, ◌++◌, ℕ, ◌≡◌, ◌≢◌, ◌≤◌, ◌⊎◌, codes, Bool, true, false, length, Option, Some, None, Result, Ok, Err, IfSome}
 use Rattle.std.specs.Io.KnownBytes.{Appends}
 use Rattle.mb_edge.specs.Causes.{Rose}
 use Rattle.mb_edge.specs.Transfers.{AreFirst, TakesFront}
@@ -21,7 +21,6 @@ use Rattle.mb_jobs.specs.Job.{job_in}
 use Rattle.mb_jobs.specs.declared.jobs.Job.{Job}
 use Rattle.mb_jobs.specs.declared.jobs.JobFault.{JobFault}
 use Rattle.mb_kinds.specs.Image.{Image}
-use Rattle.mb_kinds.specs.declared.entries.Entry.{Entry}
 use Rattle.mb_mkfs.specs.Sizes.{AreSizes}
 use Rattle.mb_plan.specs.Fires.{fires}
 use Rattle.mb_print.specs.Causes.{refused_text}
@@ -73,15 +72,15 @@ ended_text line job core = transcript_text job core.journal.history ++ line (len
 abbrev pub unsettled_text : {D : Type 0} → Job → CoreState V7 D → List ℕ
 unsettled_text job core = transcript_text job core.journal.history ++ codes "disk fault\n"
 
--- where one thread runs the job, the history keeps the job's order; by threads it keeps each caller's own alone
-abbrev pub KeepsOrderIfAlone : Bool → Job → List Entry → Type 0
-KeepsOrderIfAlone true job history = Unit {0}
-KeepsOrderIfAlone false job history = KeepsOrder job history
+-- where one thread runs the job, the history keeps the job's order, and in list order the plan's faults were taken
+abbrev pub KeepsOrderIfAlone : {D : Type 0} → Bool → Job → CoreState V7 D → Type 0
+KeepsOrderIfAlone true job core = Unit {0}
+KeepsOrderIfAlone false job core = KeepsOrder job core.journal.history core.journal.records
 
 -- a job that was run over a disk to its end, by threads or not: the volume runs, all is checkpointed, and the image left is that of the history's tree
 pub record IsRunToEnd {D : Type 0} (told : D → Option Image) (faults : D → ℕ) (threads : Bool) (job : Job) (disk : D) (text : List ℕ) (core : CoreState V7 D) : Type 0 where
   pub run : IsRun told faults job disk core
-  pub order : KeepsOrderIfAlone threads job core.journal.history
+  pub order : KeepsOrderIfAlone threads job core
   pub done : IsDone job core
   pub left : LeavesImage told job disk core
   pub printed : text ≡ ended_text end_text job core
@@ -89,7 +88,7 @@ pub record IsRunToEnd {D : Type 0} (told : D → Option Image) (faults : D → �
 -- a job with more faults than the volume survives: the image left is that of the tree at the last checkpoint
 pub record IsRunToFailure {D : Type 0} (told : D → Option Image) (faults : D → ℕ) (threads : Bool) (job : Job) (disk : D) (text : List ℕ) (core : CoreState V7 D) : Type 0 where
   pub run : IsRun told faults job disk core
-  pub order : KeepsOrderIfAlone threads job core.journal.history
+  pub order : KeepsOrderIfAlone threads job core
   pub given_up : IsGivenUp job core
   pub left : LeavesImage told job disk core
   pub printed : text ≡ ended_text failed_text job core
@@ -97,7 +96,7 @@ pub record IsRunToFailure {D : Type 0} (told : D → Option Image) (faults : D �
 -- a job that was run, where the disk failed in the end of the run: fewer calls than its faults were ended by the disk
 pub record IsRunShort {D : Type 0} (told : D → Option Image) (faults : D → ℕ) (threads : Bool) (job : Job) (disk : D) (text : List ℕ) (core : CoreState V7 D) : Type 0 where
   pub run : IsRun told faults job disk core
-  pub order : KeepsOrderIfAlone threads job core.journal.history
+  pub order : KeepsOrderIfAlone threads job core
   pub fewer : FewerDevices (faults disk) (faults core.cache.disk) core.journal.history
   pub rose : Rose (faults disk) (faults core.cache.disk)
   pub printed : text ≡ unsettled_text job core
@@ -118,7 +117,7 @@ pub record IsDrivenFor {D : Type 0} (told : D → Option Image) (faults : D → 
   pub first : driven.first ≡ begun.first
   pub config : driven.config ≡ begun.config
   pub drives : IsDrivenApart job (λ (caller : ℕ). Some (fires job.plan)) (sight_of begun) (sight_of driven)
-  pub order : KeepsOrderIfAlone threads job driven.journal.history
+  pub order : KeepsOrderIfAlone threads job driven
 
 -- the line has the first broken rule and its block, and the image is a volume of no tree
 pub record IsUnsoundBy (told : Option Image) (line : List ℕ) : Type 0 where

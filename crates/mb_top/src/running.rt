@@ -1,4 +1,4 @@
-ghost use Rattle.std.specs.Prelude.{◌≡◌, ◌≢◌, ◌≤◌, ◌++◌, [], ℕ, Bool, true, false, List, length, replicate, None, Ok, IfOk};
+ghost use Rattle.std.specs.Prelude.{◌≡◌, ◌≢◌, ◌≤◌, ◌++◌, ℕ, Bool, true, false, List, Ok, IfOk};
 ghost use Rattle.mb_core_events.specs.Beginning.{IsRefused};
 ghost use Rattle.mb_core_spec.specs.Right.{Right};
 ghost use Rattle.mb_headline.specs.Laws.{IsBegunFor};
@@ -20,10 +20,10 @@ use mb_core_events::{Core, Refusal, State};
 use mb_edge::Disk;
 use mb_fsops::V7;
 use mb_headline::{
-    begin_for, drives_apart, drives_keep_order, jobs_are_fit, paths_are_runs, paths_end, paths_fail,
+    begin_for, drives_apart, drives_keep_order, injectors_for, jobs_are_fit, paths_are_runs,
+    paths_end, paths_fail,
 };
 use mb_jobs::{Job, Text};
-use mb_plan::PlanHook;
 use mb_print::{failed_line, last_line, transcript};
 use mb_run::{DriveEnd, Driven, SettleEnd, Settled, drive, settle};
 use mb_threads::drive_threads;
@@ -103,23 +103,12 @@ fn run_begun_by_threads<D: Disk + Send, R: Threads + Wait + Sync>(
 {
     jobs_are_fit();
     let core = VolumeCore { core };
-    let Ok(hooks) = hooks_of(alloc, job) else {
+    let Ok(hooks) = injectors_for(alloc, job) else {
         return held(core, Outcome::OutOfMemory);
     };
     let Driven { core, end } = drive_threads(rt, alloc, core, job, hooks);
     in_order(&core.core);
     end_run(alloc, core, end, job)
-}
-
-// A fault injector for each caller of a job, over its whole plan.
-fn hooks_of<'a>(alloc: Global, job: &'a Job) -> Result<Vec<PlanHook<'a>>, AllocError>
-    ensures { IfOk result (λ hooks. hooks.items ≡ replicate (length job.now.callers) (record { rules = job.now.plan; struck = None; strokes = []; faults = 0 })) }
-{
-    let mut hooks = Vec::with_capacity(alloc, job.callers.len())?;
-    for _caller in job.callers.as_slice() {
-        hooks.push(job.plan.hook())?;
-    }
-    Ok(hooks)
 }
 
 // Ends a run that a driver left: a recovery in progress is made, and the pages are written back.

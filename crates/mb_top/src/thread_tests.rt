@@ -1,3 +1,4 @@
+use crate::example_files::{THREADS_JOB, THREADS_OWN};
 use crate::example_tests::{HI_JOB, HI_TEXT};
 use crate::finish::Finish;
 use crate::membrane::membrane;
@@ -131,6 +132,23 @@ fn two_threads(rt: HostRuntime) -> Result<(), Fail> {
 
     let end = program(&rt, &["check", "v"], end.image, "")?;
     printed(&rt, &end, 0, "sound nodes 63 held 2486 free 1544\n")
+}
+
+// The example of four callers.
+#[test]
+fn four_threads(rt: HostRuntime) -> Result<(), Fail> {
+    let alloc: Global = rt.alloc();
+    let made = program(&rt, &["mkfs", "v", "100", "16"], Vec::new(alloc), "")?;
+    let end = program(&rt, &["run", "--threads", "v"], made.image, THREADS_JOB)?;
+    assert_eq!(rt; end.status, 0);
+    let mut own = String::new(alloc);
+    for caller in ["a ", "b ", "c ", "d "] {
+        let lines = own_lines(alloc, str::from_utf8(&end.printed)?, caller)?;
+        own.push_str(lines.as_str())?;
+    }
+    assert_eq!(rt; own.as_str(), THREADS_OWN);
+    let end = program(&rt, &["check", "v"], end.image, "")?;
+    printed(&rt, &end, 0, "sound nodes 9 held 57 free 39\n")
 }
 
 // Where there is one caller its transcript is that of one thread, whatever strikes it.

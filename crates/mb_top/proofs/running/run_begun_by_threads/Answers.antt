@@ -9,4 +9,4 @@ pub returns-clause-core : goal.returns-clause-core
 returns-clause-core g c = λ disk fs over.
     c.end_run.ensures.core true disk fs (λ going.
     driven_by_threads g.D.Disk.told g.D.Disk.faults fs c.args.job.now disk c.args.core c.drive_threads-core.result.core.core c.in-Ok.hooks.items _ c.in-Ok.ensures refl c.requires.begun c.in_order.ensures over
-    c.drive_threads-core.ensures.origin (c.drive_threads-core.ensures.driven going))
+    c.drive_threads-core.ensures.first c.drive_threads-core.ensures.config (c.drive_threads-core.ensures.driven going))

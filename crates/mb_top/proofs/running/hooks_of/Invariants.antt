@@ -1,9 +1,0 @@
-use Rattle.std.proofs.Common.{◌≡◌, [], None}
-use Rattle.std.specs.Prelude.{replicate}
-use Rattle.mb_plan.specs.Hooked.{Hooked}
-use Rattle.mb_top.proofs.running.hooks_of.Given as goal
-
-abbrev pub invariant-loop-caller : goal.invariant-loop-caller
-invariant-loop-caller l = record {
-  hooks : l.hooks.items ≡ replicate l._caller-index (record { rules = l.job.plan; struck = None; strokes = []; faults = 0 });
-}
