@@ -1,3 +1,4 @@
 pub mod Filling
 pub mod Listings
+pub mod Opened
 pub mod Sweeping

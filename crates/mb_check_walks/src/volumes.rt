@@ -64,8 +64,8 @@ fn patch(disk: &mut MemDisk, block: u32, place: usize, byte: u8) -> Result<(), F
     Ok(())
 }
 
-/// What the scan says of the fresh volume of 100 blocks and 16 inodes with these bytes changed.
-pub fn changed(alloc: Global, patches: &[Patch]) -> Result<Result<Figures, OpenFault>, Fail> {
+/// The fresh volume of 100 blocks and 16 inodes with these bytes changed.
+pub fn patched(alloc: Global, patches: &[Patch]) -> Result<MemDisk, Fail> {
     let mut disk = empty(alloc, Fails::new(alloc), Fails::new(alloc))?;
     if make(&mut disk, 100, 16).is_err() {
         return Err("no volume was made".into());
@@ -73,6 +73,12 @@ pub fn changed(alloc: Global, patches: &[Patch]) -> Result<Result<Figures, OpenF
     for (block, place, byte) in patches {
         patch(&mut disk, *block, *place, *byte)?;
     }
+    Ok(disk)
+}
+
+/// What the scan says of that volume.
+pub fn changed(alloc: Global, patches: &[Patch]) -> Result<Result<Figures, OpenFault>, Fail> {
+    let mut disk = patched(alloc, patches)?;
     Ok(scanned(alloc, &mut disk))
 }
 

@@ -4,6 +4,7 @@ pub mod Entering
 pub mod Fields
 pub mod Growth
 pub mod Making
+pub mod PickNeeds
 pub mod Rewriting
 pub mod SlotBlocks
 pub mod Steps

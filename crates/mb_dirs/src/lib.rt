@@ -7,7 +7,8 @@
 //! What a step does is said of every volume of which the view is a part, also between two steps, where
 //! a child still lacks its name or a name its link (`IsStored` of `mb_nodes`): under the changes the
 //! next tree is stored, and what a volume keeps is kept (`AdvancesTo` of `mb_moves`). `specs/Fields.antt`
-//! says it of fields, `specs/Entering.antt` of names, `specs/Making.antt` of new inodes.
+//! says it of fields, `specs/Entering.antt` of names, `specs/Making.antt` of new inodes, and
+//! `specs/PickNeeds.antt` what is asked for before a number is picked.
 #![tactic(auto)]
 
 mod choices;
@@ -16,6 +17,7 @@ mod enters;
 mod fields;
 mod grows;
 mod makes;
+mod pick_needs;
 mod rewrites;
 mod slot_writes;
 mod steps;
@@ -25,4 +27,5 @@ pub use creates::{create_in, make_directory_in};
 pub use enters::{Entered, Gap, clear_slot, enter};
 pub use fields::{FieldChange, set_fields};
 pub use makes::{NewInode, make_directory, make_file};
+pub use pick_needs::lacking_number;
 pub use steps::Advanced;

@@ -1,18 +1,21 @@
 -- A file made under a new name, on a volume.
-use Rattle.std.proofs.Common.{ℕ, ◌≡◌, inl, true, List, [], Option, Some, None, Err, IfSome, refl, sym, ap, subst, ◌∙◌}
+use Rattle.std.proofs.Common.{ℕ, ◌≡◌, ◌≤◌, ◌<◌, ◌⊎◌, inl, true, List, [], Option, Some, None, Err, IfSome, refl, sym, ap, subst, ◌∙◌}
 use Rattle.std.specs.FinMap as fin
+use Rattle.mb_word.specs.Fields.{isize_of}
 use Rattle.mb_kinds.specs.declared.errors.Errno.TheVariants.{EEXIST, ENOSPC}
 use Rattle.mb_tree.specs.Effect.{fitting, tree_after, with_name}
 use Rattle.mb_tree.specs.Fits.{FitsNew}
 use Rattle.mb_tree.specs.Maps.{Numbered}
+use Rattle.mb_tree.specs.Views.{over, IsPart}
 use Rattle.mb_tree.specs.declared.nodes.Node.{Node}
 use Rattle.mb_tree.specs.declared.operations.FsOp.{FsOp}
 use Rattle.mb_tree.specs.declared.operations.FsOp.TheVariants.{Create}
 use Rattle.mb_tree.specs.declared.trees.Tree.{Tree}
 use Rattle.mb_blocks.proofs.Rearranged.{own}
 use Rattle.mb_iface.specs.Acting.{with_changes}
-use Rattle.mb_iface.specs.Changed.{ChangeList}
+use Rattle.mb_iface.specs.Changed.{ChangeList, changed}
 use Rattle.mb_iface.specs.Near.{IsTouched}
+use Rattle.mb_iface.specs.Needs.{IsNeed}
 use Rattle.mb_iface.specs.OpenCounts.{count_of}
 use Rattle.mb_iface.specs.declared.replies.Acted.{Acted}
 use Rattle.mb_iface.specs.declared.replies.Acted.TheVariants as acted
@@ -33,7 +36,7 @@ use Rattle.mb_fsops.specs.declared.places.NamePlace.TheVariants as place
 use Rattle.mb_fsops.proofs.FreeNumbers.{v7_pick}
 use Rattle.mb_fsops.proofs.Linking.{room_there}
 use Rattle.mb_fsops.proofs.Names.{near_one, number_there}
-use Rattle.mb_fsops.proofs.Steps.{acts_fitting, changed_there, none_within, stored_first}
+use Rattle.mb_fsops.proofs.Steps.{acts_fitting, asked_first, changed_there, none_within, stored_first}
 
 module _ (dir : ℕ) (name : List ℕ) (new : NewInode) where
   abbrev op : FsOp
@@ -98,6 +101,14 @@ module _ (dir : ℕ) (name : List ℕ) (new : NewInode) where
         }
 
   module _ (shown : ℕ → Option (List ℕ)) (demanded : Option ℕ) where
+    pub number_asked : (none : ChangeList) → none ≡ [] → (need : Need) → IsNeed shown need × ((blocks : ℕ → List ℕ) → IsPart shown blocks → (need.first ≡ 1) ⊎ ((2 ≤ need.first) × (need.first < isize_of (over blocks (changed none) 1))))
+        → PerformsWith shown op demanded (acted.Need need)
+    number_asked none is need was opens = record {
+      need = was.0;
+      answer = λ image tree part volume fits. asked_first image (IsTouched tree op) tree need.first
+          (subst (λ xs. (need.first ≡ 1) ⊎ ((2 ≤ need.first) × (need.first < isize_of (over image.at (changed xs) 1)))) is (was.1 image.at part));
+    }
+
     pub name_asked : (need : Need) → FindsName shown dir name (place.Need need) → PerformsWith shown op demanded (acted.Need need)
     name_asked need was opens = record {
       need = was.0;

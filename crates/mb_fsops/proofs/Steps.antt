@@ -1,8 +1,9 @@
 -- The first steps of an operation on a volume, its last, and what it asks for.
-use Rattle.std.proofs.Common.{ℕ, ◌≡◌, ◌≢◌, ◌≤◌, true, false, ◌==◌, ◌||◌, List, [], Option, Some, None, Ok, Err, option_map, unwrap_or, refl, sym, ap, subst, ◌∙◌, arith}
+use Rattle.std.proofs.Common.{ℕ, ◌≡◌, ◌≢◌, ◌≤◌, ◌<◌, ◌⊎◌, inl, inr, true, false, ◌==◌, ◌||◌, List, [], Option, Some, None, Ok, Err, option_map, unwrap_or, refl, sym, ap, subst, ◌∙◌, arith}
 use Rattle.std.specs.FinMap as fin
 use Rattle.mb_kinds.specs.Image.{Image}
 use Rattle.mb_kinds.specs.declared.errors.Errno.{Errno}
+use Rattle.mb_word.specs.Fields.{isize_of}
 use Rattle.mb_tree.specs.Effect.{tree_after}
 use Rattle.mb_tree.specs.Fits.{Fits}
 use Rattle.mb_tree.specs.Inodes.{kind_of}
@@ -10,7 +11,7 @@ use Rattle.mb_tree.specs.Maps.{Numbered, changed_at}
 use Rattle.mb_tree.specs.PickLaws.{makes_inode}
 use Rattle.mb_tree.specs.Sessions.{Counts}
 use Rattle.mb_tree.specs.Trees.{HasKind}
-use Rattle.mb_tree.specs.Views.{IsPart}
+use Rattle.mb_tree.specs.Views.{over, IsPart}
 use Rattle.mb_tree.specs.Volume.{IsVolume}
 use Rattle.mb_tree.specs.declared.nodes.Body.{Body}
 use Rattle.mb_tree.specs.declared.nodes.Body.TheVariants.{Regular, Directory, Special}
@@ -21,6 +22,7 @@ use Rattle.mb_tree.proofs.FiniteMaps.{none_there}
 use Rattle.mb_iface.specs.Acting.{Acts, HasDone, HasRefused, Picks, PicksIf, with_changes}
 use Rattle.mb_iface.specs.Changed.{ChangeList, IsWithinView, changed}
 use Rattle.mb_iface.specs.Near.{IsNear, IsTouched}
+use Rattle.mb_iface.specs.Near.IsNear.{super_block, inode_list}
 use Rattle.mb_iface.specs.OpenCounts.{count_of}
 use Rattle.mb_iface.specs.declared.replies.Acted.{Acted}
 use Rattle.mb_iface.specs.declared.replies.Acted.TheVariants as acted
@@ -35,6 +37,12 @@ use Rattle.mb_moves.proofs.Touching.{near_touched}
 
 pub none_within : (shown : ℕ → Option (List ℕ)) → IsWithinView shown []
 none_within shown block there = absurd (none_there (changed [] block) refl there)
+
+-- block 1, and a block of the i-list
+pub asked_first : (image : Image) (Looks : ℕ → Type 0) (tree : Tree) (block : ℕ) → (block ≡ 1) ⊎ ((2 ≤ block) × (block < isize_of (over image.at (changed []) 1))) → IsNear image tree Looks block
+unfolding over
+asked_first image Looks tree block (inl one) = super_block one
+asked_first image Looks tree block (inr listed) = inode_list listed.0 listed.1
 
 -- ---- kinds
 

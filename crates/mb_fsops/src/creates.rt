@@ -2,7 +2,7 @@ ghost use Rattle.mb_tree.specs.declared.operations.FsOp.TheVariants.{Create};
 ghost use Rattle.mb_fsops.specs.Creating.{CreatesAt, PerformsWith, PicksAsV7};
 
 use crate::places::{NamePlace, find_name};
-use mb_dirs::{Chosen, Gap, NewInode, create_in};
+use mb_dirs::{Chosen, Gap, NewInode, create_in, lacking_number};
 use mb_iface::{Acted, Changes, View};
 use mb_kinds::{Errno, Name};
 use std::alloc::Global;
@@ -21,6 +21,9 @@ pub fn create<V: View>(
     ensures performs { PerformsWith (V.shown view.now) (Create dir name.now new.now.mode new.now.uid new.now.gid new.now.moment) demanded result }
     ensures picks { PicksAsV7 (V.shown view.now) demanded result }
 {
+    if let Some(need) = lacking_number(view, &Changes::new(alloc), demanded) {
+        return Acted::Need(need);
+    }
     match find_name(alloc, view, dir, name) {
         NamePlace::Open { links, gap } => {
             create_at(alloc, view, dir, links, gap, name, new, demanded)

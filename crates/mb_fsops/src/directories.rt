@@ -3,7 +3,7 @@ ghost use Rattle.mb_fsops.specs.Creating.{PerformsWith, PicksAsV7};
 ghost use Rattle.mb_fsops.specs.MakingDirs.{MakesDirAt};
 
 use crate::places::{NamePlace, find_name};
-use mb_dirs::{Chosen, Gap, NewInode, make_directory_in};
+use mb_dirs::{Chosen, Gap, NewInode, lacking_number, make_directory_in};
 use mb_iface::{Acted, Changes, View};
 use mb_kinds::{Errno, Name};
 use std::alloc::Global;
@@ -25,6 +25,9 @@ pub fn make_dir<V: View>(
     ensures performs { PerformsWith (V.shown view.now) (MakeDir dir name.now new.now.mode new.now.uid new.now.gid new.now.moment) demanded result }
     ensures picks { PicksAsV7 (V.shown view.now) demanded result }
 {
+    if let Some(need) = lacking_number(view, &Changes::new(alloc), demanded) {
+        return Acted::Need(need);
+    }
     match find_name(alloc, view, dir, name) {
         NamePlace::Open { links, gap } => {
             if links >= MOST_LINKS {

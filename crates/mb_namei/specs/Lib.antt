@@ -1,5 +1,6 @@
 pub mod Components
 pub mod Directories
+pub mod Frontiers
 pub mod Inodes
 pub mod InodeLaws
 pub mod Lookups

@@ -10,6 +10,7 @@
 #![tactic(auto)]
 
 mod components;
+mod frontiers;
 mod inodes;
 mod laws;
 mod lookups;

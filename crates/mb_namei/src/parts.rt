@@ -5,6 +5,7 @@ use mb_bmap::{Located, address};
 use mb_iface::{Changes, Need, View, seen};
 
 /// A part of a file, read from its block.
+#[derive(Drop)]
 pub(crate) enum Fetched<'a> {
     /// Its bytes.
     Bytes(&'a [u8; 512]),

@@ -2,6 +2,7 @@ ghost use Rattle.std.specs.Prelude.{◌≤◌, ◌<◌, ◌*◌};
 ghost use Rattle.mb_namei.specs.Searching.{Seeks, CountsUsed};
 ghost use Rattle.mb_namei.specs.PartSearches.{SeeksInPart, CountsInPart};
 
+use crate::frontiers::lacking_part;
 use crate::parts::{Fetched, fetch};
 use crate::slots::{Glimpse, count_slots, scan_slots};
 use mb_iface::{Changes, Need, View};
@@ -32,7 +33,7 @@ pub enum Counted {
 
 /// What a part of a directory says of a name.
 #[derive(Clone, Copy, Debug, PartialEq, Drop)]
-enum PartSought {
+pub(crate) enum PartSought {
     /// The first used slot with the name, and its number.
     Found { at: u32, ino: u16 },
     /// None has the name; the first empty slot so far, or the number of slots where none is.
@@ -62,6 +63,9 @@ pub fn search<V: View>(view: &V, changes: &Changes, dir: u16, size: u32, name: &
 {
     let count = size / 16;
     let parts = count.div_ceil(32).min(2_113_674);
+    if let Some(need) = lacking_part(view, changes, dir, parts, count, name) {
+        return Sought::Need(need);
+    }
     let mut empty = count;
     for part in 0..parts {
         match search_part(view, changes, dir, part, count, empty, name) {
@@ -96,7 +100,7 @@ pub fn count_used<V: View>(view: &V, changes: &Changes, dir: u16, size: u32) -> 
 }
 
 /// Searches the slots of one part, where the first empty slot before it is `empty`.
-fn search_part<V: View>(
+pub(crate) fn search_part<V: View>(
     view: &V,
     changes: &Changes,
     dir: u16,

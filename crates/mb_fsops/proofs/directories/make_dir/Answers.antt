@@ -1,5 +1,5 @@
 use Rattle.std.proofs.Common.{◌+◌, refl, arith}
-use Rattle.mb_fsops.proofs.MakingDirs.{dir_made_at, links_full, name_asked, name_there}
+use Rattle.mb_fsops.proofs.MakingDirs.{dir_made_at, links_full, name_asked, name_there, number_asked}
 use Rattle.mb_fsops.proofs.directories.make_dir.Goals as goal
 
 pub returns-in-Slot-clause-performs : goal.returns-in-Slot-clause-performs
@@ -15,3 +15,6 @@ pub returns-else-links-ge-MOST_LINKS-clause-performs : goal.returns-else-links-g
 returns-else-links-ge-MOST_LINKS-clause-performs g c =
     dir_made_at c.args.dir c.args.name.now c.args.new.now (g.V.View.shown c.args.view.now) c.args.demanded c.in-Open.links (c.in-Open.links + 1) c.in-Open.gap (omega (arith, c.if-links-ge-MOST_LINKS.false)) refl
     c.in-Open.ensures c.make_dir_at.result c.make_dir_at.ensures
+
+pub returns-in-Some-clause-performs : goal.returns-in-Some-clause-performs
+returns-in-Some-clause-performs g c = number_asked c.args.dir c.args.name.now c.args.new.now (g.V.View.shown c.args.view.now) c.args.demanded c.new.result c.new.ensures c.in-Some.need c.in-Some.ensures

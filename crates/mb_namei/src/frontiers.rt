@@ -1,0 +1,105 @@
+ghost use Rattle.std.specs.Prelude.{◌≤◌, ◌<◌, ◌+◌, ◌*◌};
+ghost use Rattle.mb_namei.specs.Frontiers.{LacksPart};
+
+use crate::parts::{Fetched, fetch};
+use crate::searches::{PartSought, search_part};
+use mb_bmap::{Located, address};
+use mb_iface::{Changes, Need, View, seen};
+use mb_kinds::Name;
+
+/// The next run of blocks that the view lacks of a directory's parts, as long as the parts that it got
+/// last do not have the name: so a search that begins anew with more blocks goes through each block about
+/// twice in all. The parts are got in a row, so the last one is there only where all are.
+pub(crate) fn lacking_part<V: View>(
+    view: &V,
+    changes: &Changes,
+    dir: u16,
+    parts: u32,
+    count: u32,
+    name: &Name,
+) -> Option<Need>
+    requires few { parts ≤ 2113674 }
+    requires filled { 32 * parts < count + 32 }
+    requires slots { count ≤ 268435455 }
+    ensures { LacksPart (V.shown view.now) changes.now dir result }
+{
+    if parts < 2 || is_there(view, changes, dir, parts - 1) {
+        return None;
+    }
+    let part = parts_there(view, changes, dir, parts);
+    if has_name_before(view, changes, dir, part, count, name) {
+        return None;
+    }
+    match fetch(view, changes, dir, part, parts) {
+        Fetched::Need(need) => Some(need),
+        _ => None,
+    }
+}
+
+/// Whether the block of a part is there. A part without a block is not.
+fn is_there<V: View>(view: &V, changes: &Changes, dir: u16, part: u32) -> bool
+    requires { part < 2113674 }
+{
+    match address(view, changes, dir, part) {
+        Located::At(block) => block < 262_144 && seen(view, changes, block).is_some(),
+        _ => false,
+    }
+}
+
+/// How many parts are there, where they are got in a row and the last one is not.
+fn parts_there<V: View>(view: &V, changes: &Changes, dir: u16, parts: u32) -> u32
+    requires some { 1 ≤ parts }
+    requires few { parts ≤ 2113674 }
+    ensures { result < parts }
+{
+    let mut there = 0;
+    let mut lacking = parts - 1;
+    while there < lacking {
+        let middle = there + (lacking - there) / 2;
+        if is_there(view, changes, dir, middle) {
+            there = middle + 1;
+        } else {
+            lacking = middle;
+        }
+    }
+    there
+}
+
+/// Whether a name stands in the parts that were got last before one: those from its half on where they
+/// stand at neighbouring blocks, else the one before it.
+fn has_name_before<V: View>(
+    view: &V,
+    changes: &Changes,
+    dir: u16,
+    part: u32,
+    count: u32,
+    name: &Name,
+) -> bool
+    requires few { part < 2113674 }
+    requires slots { count ≤ 268435455 }
+    requires filled { 32 * part < count }
+{
+    for before in run_before(view, changes, dir, part)..part {
+        match search_part(view, changes, dir, before, count, count, name) {
+            PartSought::Found { .. } => return true,
+            _ => {}
+        }
+    }
+    false
+}
+
+/// The first of the parts that were got last before one.
+fn run_before<V: View>(view: &V, changes: &Changes, dir: u16, part: u32) -> u32
+    requires { part < 2113674 }
+{
+    if part < 2 {
+        return 0;
+    }
+    let first = address(view, changes, dir, part / 2);
+    let last = address(view, changes, dir, part - 1);
+    match (first, last) {
+        (Located::At(begin), Located::At(end))
+            if end > begin && end - begin == part - 1 - part / 2 => part / 2,
+        _ => part - 1,
+    }
+}

@@ -1,0 +1,13 @@
+pub mod Changing
+pub mod Standing
+pub mod Struck
+pub mod Entered
+pub mod Inside
+pub mod Faulted
+pub mod Rolled
+pub mod Replies
+pub mod Pairs
+pub mod Telling
+pub mod Holding
+pub mod Quitting
+pub mod Calling

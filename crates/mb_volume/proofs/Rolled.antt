@@ -1,0 +1,109 @@
+-- A step of a recovery, run by a call that waits for it.
+use Rattle.std.proofs.Common.{◌≡◌, ◌⊎◌, List, [], ◌∷◌, ◌++◌, ℕ, ◌+◌, Bool, true, false, inl, inr, refl, ap, sym, subst, ◌∙◌, Option, None, Some}
+use Rattle.std.proofs.lemmas.List.{append-nil}
+use Rattle.mb_edge.specs.declared.crossings.Crossing.{Crossing}
+use Rattle.mb_edge.specs.declared.crossings.Crossings.{Crossings}
+use Rattle.mb_kinds.specs.Own.{own}
+use Rattle.mb_kinds.specs.declared.calls.Call.{Call}
+use Rattle.mb_kinds.specs.declared.entries.Flight.{Flight}
+use Rattle.mb_kinds.specs.declared.replies.Reply.TheVariants as reply
+use Rattle.mb_run.specs.Events.{Answers, entry_of}
+use Rattle.mb_run.specs.Recovering.{GoOn, GoesOn, Rolls, RunsFor, Steps, StrikesBy, Strikes, Waits}
+use Rattle.mb_run.specs.Sights.{IsWaiting, Seat, Sight}
+use Rattle.mb_run.specs.declared.answers.Stepped.{Stepped}
+use Rattle.mb_run.specs.declared.answers.Stepped.TheVariants as stepped
+use Rattle.mb_volume.specs.Attempts.{KeepsCrossings}
+use Rattle.mb_volume.specs.Parts.{Moves, Part, part_of}
+use Rattle.mb_volume.specs.Underway.{AddsEntryIf, Comes, IsFlying, IsUnderway, LacksEntry, rolled}
+use Rattle.mb_volume.specs.declared.attempt.Attempt.{Attempt}
+use Rattle.mb_volume.specs.declared.events.Came.TheVariants as came
+use Rattle.mb_volume.proofs.Changing.{moves_entry, moves_records}
+use Rattle.mb_volume.proofs.Entered.{answered_by, moves_nothing}
+use Rattle.mb_volume.proofs.Faulted.{underway_on, underway_struck}
+use Rattle.mb_volume.proofs.Inside.{part_still}
+use Rattle.mb_volume.proofs.Standing.{IsFlight, flying}
+
+module _ (call : Call) (test : Option (Crossing → Bool)) (from : Part) (old : Sight) (attempt : Attempt) (u : IsUnderway call test from (part_of old attempt.crossings.caller) attempt) (waiting : IsWaiting (old.seats attempt.crossings.caller)) where
+  flies : IsFlying attempt.crossings.caller call from (part_of old attempt.crossings.caller) waiting.0
+  flies = flying call test from old attempt u waiting.0 waiting.1
+
+  pub runs_for : RunsFor old attempt.crossings
+  runs_for = (waiting.0, waiting.1, waiting.2, u.ordinal ∙ sym flies.ordinal)
+
+  is_flight : IsFlight call from (part_of old attempt.crossings.caller) waiting.0
+  is_flight = record {
+    call_is = flies.call_is;
+    ordinal = flies.ordinal;
+    lacks = λ lacks. subst (λ b. AddsEntryIf b attempt.crossings.caller (from.seat.begun + 1) call from.entries (own old.history attempt.crossings.caller)) lacks flies.entered;
+  }
+
+  waits_still : (new : Sight) → Waits old new → IsWaiting (new.seats attempt.crossings.caller)
+  waits_still new waits = subst IsWaiting (sym (waits.seats attempt.crossings.caller)) waiting
+
+  module _ (crossings : Crossings) (on : GoesOn attempt.crossings crossings) where
+    -- nobody was struck
+    underway_waits : (new : Sight) → Waits old new → new.records ≡ old.records → IsUnderway call test from (part_of new attempt.crossings.caller) (record attempt { crossings = crossings })
+    underway_waits new waits records =
+        subst (λ (p : Part). IsUnderway call test from p (record attempt { crossings = crossings })) (sym (part_still attempt.crossings.caller old new waits.config waits.counts.history (waits.seats attempt.crossings.caller) records))
+        (underway_on call test from (part_of old attempt.crossings.caller) attempt u crossings on)
+
+    underway_strikes : (new : Sight) → Strikes test attempt.crossings crossings old new → IsUnderway call test from (part_of new attempt.crossings.caller) (record attempt { crossings = crossings })
+    underway_strikes new strikes =
+        underway_struck call test from old attempt u new crossings strikes.fault waiting.0 waiting.1 on strikes.taken strikes.waits.config strikes.waits.counts.history (strikes.waits.seats attempt.crossings.caller) strikes.records
+
+    comes_rolled : (new : Sight) (answer : Stepped) → Steps test (Some attempt.crossings) (Some crossings) old new answer
+        → Comes call test attempt.crossings.caller from (part_of new attempt.crossings.caller) (record attempt { crossings = crossings }) (rolled answer)
+    comes_rolled new stepped.Idle steps = subst (λ (s : Sight). IsUnderway call test from (part_of s attempt.crossings.caller) (record attempt { crossings = crossings })) (sym steps.1) (underway_on call test from (part_of old attempt.crossings.caller) attempt u crossings on)
+    comes_rolled new (stepped.Unwound ticket) steps = (underway_waits new steps.1.waits steps.1.records, waits_still new steps.1.waits)
+    comes_rolled new (stepped.Failed faults) steps = elim steps.1 [ inl plain ↦ underway_waits new plain.1 plain.0 | inr strikes ↦ underway_strikes new strikes ]
+    comes_rolled new stepped.Dropped steps = (underway_waits new steps.1.waits steps.1.records, waits_still new steps.1.waits)
+    comes_rolled new stepped.Remounted steps = (underway_waits new steps.2.waits steps.2.records, waits_still new steps.2.waits)
+    comes_rolled new stepped.Reopened steps = (underway_waits new steps.1.waits steps.1.records, waits_still new steps.1.waits)
+    comes_rolled new (stepped.Replayed number) steps = (underway_waits new steps.1.waits steps.1.records, waits_still new steps.1.waits)
+    comes_rolled new stepped.Resumed steps = underway_waits new steps.2.waits steps.2.records
+    comes_rolled new (stepped.Again faults) steps = (underway_strikes new steps.1, waits_still new steps.1.waits)
+    comes_rolled new stepped.Device steps = answered_by call test from old attempt u new waiting.0 reply.Device is_flight waiting.2 (steps.1 waiting.0 waiting.1)
+    comes_rolled new stepped.NoMemory steps =
+        subst (λ (s : Sight). Comes call test attempt.crossings.caller from (part_of s attempt.crossings.caller) (record attempt { crossings = crossings }) came.NoMemory) (sym steps)
+        (underway_on call test from (part_of old attempt.crossings.caller) attempt u crossings on, subst LacksEntry (sym waiting.1) waiting.2)
+
+  -- ---- with the crossings that are kept
+
+  pub comes_by : (new : Sight) (by : Option Crossings) (now : Attempt) (answer : Stepped) → GoOn (Some attempt.crossings) by → KeepsCrossings attempt by now → Steps test (Some attempt.crossings) by old new answer
+      → Comes call test attempt.crossings.caller from (part_of new attempt.crossings.caller) now (rolled answer)
+  comes_by new None now answer on keeps steps = absurd on
+  comes_by new (Some crossings) now answer on keeps steps =
+      subst (λ (a : Attempt). Comes call test attempt.crossings.caller from (part_of new attempt.crossings.caller) a (rolled answer)) (sym keeps) (comes_rolled crossings on new answer steps)
+
+-- ---- what it leaves to the others
+
+module _ (test : Option (Crossing → Bool)) (old : Sight) (attempt : Attempt) (waiting : IsWaiting (old.seats attempt.crossings.caller)) where
+  module _ (crossings : Crossings) (on : GoesOn attempt.crossings crossings) where
+    moves_strikes : (new : Sight) → Strikes test attempt.crossings crossings old new → Moves attempt.crossings.caller old new
+    moves_strikes new strikes = moves_records attempt.crossings.caller old new (strikes.fault ∷ []) strikes.waits.config strikes.waits.seats strikes.waits.counts.history strikes.records (strikes.taken.caller, tt)
+
+    moves_waits : (new : Sight) → Waits old new → new.records ≡ old.records → Moves attempt.crossings.caller old new
+    moves_waits new waits records = moves_records attempt.crossings.caller old new [] waits.config waits.seats waits.counts.history (records ∙ sym (append-nil old.records)) tt
+
+    moves_rolled : (new : Sight) (answer : Stepped) → Steps test (Some attempt.crossings) (Some crossings) old new answer → Moves attempt.crossings.caller old new
+    moves_rolled new stepped.Idle steps = moves_nothing old new attempt.crossings.caller steps.1
+    moves_rolled new (stepped.Unwound ticket) steps = moves_waits new steps.1.waits steps.1.records
+    moves_rolled new (stepped.Failed faults) steps = elim steps.1 [ inl plain ↦ moves_waits new plain.1 plain.0 | inr strikes ↦ moves_strikes new strikes ]
+    moves_rolled new stepped.Dropped steps = moves_waits new steps.1.waits steps.1.records
+    moves_rolled new stepped.Remounted steps = moves_waits new steps.2.waits steps.2.records
+    moves_rolled new stepped.Reopened steps = moves_waits new steps.1.waits steps.1.records
+    moves_rolled new (stepped.Replayed number) steps = moves_waits new steps.1.waits steps.1.records
+    moves_rolled new stepped.Resumed steps = moves_waits new steps.2.waits steps.2.records
+    moves_rolled new (stepped.Again faults) steps = moves_strikes new steps.1
+    moves_rolled new stepped.Device steps =
+        let made : Answers attempt.crossings.caller waiting.0 reply.Device old new = steps.1 waiting.0 waiting.1 in
+        moves_entry attempt.crossings.caller old new (entry_of attempt.crossings.caller waiting.0 None reply.Device) made.stays refl made.history
+    moves_rolled new stepped.NoMemory steps = moves_nothing old new attempt.crossings.caller steps
+
+  pub same_caller : (by : Option Crossings) (now : Attempt) → GoOn (Some attempt.crossings) by → KeepsCrossings attempt by now → now.crossings.caller ≡ attempt.crossings.caller
+  same_caller None now on keeps = absurd on
+  same_caller (Some crossings) now on keeps = ap (λ (a : Attempt). a.crossings.caller) keeps ∙ on.caller
+
+  pub moves_by : (new : Sight) (by : Option Crossings) (answer : Stepped) → GoOn (Some attempt.crossings) by → Steps test (Some attempt.crossings) by old new answer → Moves attempt.crossings.caller old new
+  moves_by new None answer on steps = absurd on
+  moves_by new (Some crossings) answer on steps = moves_rolled crossings on new answer steps

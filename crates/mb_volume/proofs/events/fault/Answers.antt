@@ -1,0 +1,14 @@
+use Rattle.mb_volume.proofs.Faulted.{comes_faulted, moves_faults, struck_here, ticket_of}
+use Rattle.mb_volume.proofs.events.fault.Goals as goal
+
+pub fault-requires-clause-ticket : goal.fault-requires-clause-ticket
+fault-requires-clause-ticket g c = ticket_of _ _ _ (g.C.EventCore.sight c.args.core.now) _ c.requires.on.2 _ c.requires.holds
+
+pub fault-requires-clause-struck : goal.fault-requires-clause-struck
+fault-requires-clause-struck g c = struck_here _ _ _ (g.C.EventCore.sight c.args.core.now) _ c.requires.on.2 _ c.requires.holds _ _ _ _ c.requires.met
+
+pub returns-clause-goes : goal.returns-clause-goes
+returns-clause-goes g c = λ from u. rw c.back.ensures (comes_faulted _ _ _ _ _ u _ c.requires.holds _ _ _ c.requires.met _ _ c.fault.ensures.faults)
+
+pub returns-clause-moves : goal.returns-clause-moves
+returns-clause-moves g c = moves_faults _ _ _ _ _ c.requires.on.2 _ c.requires.holds _ _ _ _ c.requires.met _ _ c.fault.ensures.faults

@@ -1,0 +1,18 @@
+use Rattle.mb_volume.proofs.Entered.{moves_nothing}
+use Rattle.mb_volume.proofs.Inside.{comes_back, comes_left, has_logged, moves_left, own_logged}
+use Rattle.mb_volume.proofs.events.leave.Goals as goal
+
+pub leave-requires-clause-ticket : goal.leave-requires-clause-ticket
+leave-requires-clause-ticket g c = has_logged _ _ _ (g.C.EventCore.sight c.args.core.now) _ c.requires.on.2 _ c.requires.logged
+
+pub returns-in-Skip-clause-goes : goal.returns-in-Skip-clause-goes
+returns-in-Skip-clause-goes g c = λ test from u. rw c.back.ensures (comes_back _ _ _ _ _ u _ c.in-Skip.ensures.leaves.1)
+
+pub returns-in-Skip-clause-moves : goal.returns-in-Skip-clause-moves
+returns-in-Skip-clause-moves g c = moves_nothing _ _ _ c.in-Skip.ensures.leaves.1
+
+pub returns-in-Left-clause-goes : goal.returns-in-Left-clause-goes
+returns-in-Left-clause-goes g c = λ test from u. comes_left _ _ _ _ _ u _ c.requires.logged _ c.args.attempt.now _ c.in-Left.ensures.leaves
+
+pub returns-in-Left-clause-moves : goal.returns-in-Left-clause-moves
+returns-in-Left-clause-moves g c = moves_left _ _ c.args.ticket.now _ (own_logged _ _ _ (g.C.EventCore.sight c.args.core.now) _ c.requires.on.2 _ c.requires.logged) c.in-Left.reply c.in-Left.ensures.leaves

@@ -1,0 +1,78 @@
+use Rattle.std.proofs.Common.{◌≡◌, true, false, refl, ap, sym, ◌∙◌}
+use Rattle.mb_volume.proofs.Calling.{call_answered, call_begins, call_given_up, call_waits}
+use Rattle.mb_volume.proofs.Holding.{later_then}
+use Rattle.mb_volume.specs.Passing.{part_in}
+use Rattle.mb_volume.specs.declared.attempt.Attempt.{Attempt}
+use Rattle.mb_volume.proofs.volume.Volume.call.Goals as goal
+
+pub loop-init : goal.loop-init
+loop-init g c = record {
+  can_next = tt;
+  is_finite = tt;
+  later = c.begin-attempt.ensures.later;
+  underway = call_begins c.args.call.now (g.H.Hook.test c.args.hook.now) c.args.pass.now c.begin-attempt.new.pass c.begin-attempt.result c.begin-attempt.ensures.part c.begin-attempt.ensures.declared c.requires.most c.requires.free c.begin-attempt.ensures.attempt;
+  caller = ap (λ (a : Attempt). a.crossings.caller) c.begin-attempt.ensures.attempt ∙ sym c.begin-attempt.ensures.later.caller;
+  waits = λ wrong. absurd (let both : false ≡ true = wrong in cc);
+  test = refl;
+}
+
+pub returns-in-Answered-clause-ok : goal.returns-in-Answered-clause-ok
+returns-in-Answered-clause-ok g c =
+    call_answered c.args.call.now (g.H.Hook.test c.args.hook.now) c.args.pass.now c.loop.pass c.step.new.pass c.loop.attempt c.step.new.attempt c.loop.invariant.underway (c.loop.invariant.caller ∙ c.loop.invariant.later.caller) c.in-Answered.reply
+    (rw c.loop.invariant.test at c.in-Answered.ensures.leads)
+
+pub give_up-requires-clause-waits : goal.give_up-requires-clause-waits
+give_up-requires-clause-waits g c =
+    call_waits c.args.call.now (g.H.Hook.test c.args.hook.now) c.args.pass.now c.loop.pass c.step.new.pass c.loop.attempt c.step.new.attempt c.loop.invariant.underway (c.loop.invariant.caller ∙ c.loop.invariant.later.caller)
+    (rw c.loop.invariant.test at c.in-NoMemory.ensures.leads)
+
+pub returns-in-NoMemory-clause-err : goal.returns-in-NoMemory-clause-err
+returns-in-NoMemory-clause-err g c =
+    call_given_up c.args.call.now (g.H.Hook.test c.args.hook.now) c.args.pass.now c.loop.pass c.step.new.pass c.loop.attempt c.step.new.attempt c.loop.invariant.underway (c.loop.invariant.caller ∙ c.loop.invariant.later.caller) c.give_up.new.pass
+    c.step.ensures.same (rw c.loop.invariant.test at c.in-NoMemory.ensures.leads) c.give_up.ensures.quits
+
+pub loop-preserved-in-Shut : goal.loop-preserved-in-Shut
+loop-preserved-in-Shut g c =
+    let is = (rw c.loop.invariant.test at c.in-Shut.ensures.leads) (part_in c.args.pass.now) c.loop.invariant.underway in
+    record {
+      can_next = tt;
+      is_finite = tt;
+      later = later_then _ _ _ _ c.loop.invariant.later c.step.ensures.later;
+      underway = is.0;
+      caller = c.step.ensures.same ∙ c.loop.invariant.caller ∙ sym c.step.ensures.later.caller;
+      waits = λ shut. is.1;
+      test = c.step.ensures.test ∙ c.loop.invariant.test;
+    }
+
+pub loop-preserved-in-Busy : goal.loop-preserved-in-Busy
+loop-preserved-in-Busy g c = record {
+  can_next = tt;
+  is_finite = tt;
+  later = later_then _ _ _ _ c.loop.invariant.later c.step.ensures.later;
+  underway = (rw c.loop.invariant.test at c.in-Busy.ensures.leads) (part_in c.args.pass.now) c.loop.invariant.underway;
+  caller = c.step.ensures.same ∙ c.loop.invariant.caller ∙ sym c.step.ensures.later.caller;
+  waits = λ wrong. absurd (let both : false ≡ true = wrong in cc);
+  test = c.step.ensures.test ∙ c.loop.invariant.test;
+}
+
+pub loop-preserved-in-Inside : goal.loop-preserved-in-Inside
+loop-preserved-in-Inside g c = record {
+  can_next = tt;
+  is_finite = tt;
+  later = later_then _ _ _ _ c.loop.invariant.later c.step.ensures.later;
+  underway = ((rw c.loop.invariant.test at c.in-Inside.ensures.leads) (part_in c.args.pass.now) c.loop.invariant.underway).0;
+  caller = c.step.ensures.same ∙ c.loop.invariant.caller ∙ sym c.step.ensures.later.caller;
+  waits = λ wrong. absurd (let both : false ≡ true = wrong in cc);
+  test = c.step.ensures.test ∙ c.loop.invariant.test;
+}
+
+pub loop-preserved : goal.loop-preserved
+loop-preserved g c = record {
+  can_next = tt;
+  is_finite = tt;
+  later = later_then _ _ _ _ c.loop.invariant.later c.step.ensures.later;
+  underway = (rw c.loop.invariant.test at c.in-On.ensures.leads) (part_in c.args.pass.now) c.loop.invariant.underway;
+  caller = c.step.ensures.same ∙ c.loop.invariant.caller ∙ sym c.step.ensures.later.caller;
+  waits = λ wrong. absurd (let both : false ≡ true = wrong in cc);
+  test = c.step.ensures.test ∙ c.loop.invariant.test;
+}

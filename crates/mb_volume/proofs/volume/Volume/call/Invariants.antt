@@ -1,0 +1,17 @@
+-- The call is under way, as it began.
+use Rattle.std.proofs.Common.{◌≡◌, true}
+use Rattle.mb_run.specs.Sights.{IsWaiting}
+use Rattle.mb_volume.specs.Passing.{IsLater, part_in}
+use Rattle.mb_volume.specs.Underway.{IsUnderway}
+use Rattle.mb_volume.proofs.volume.Volume.call.Given as goal
+
+abbrev pub invariant-loop : goal.invariant-loop
+invariant-loop g l = record {
+  can_next : (goal.iterator-loop g).can_next l.iterator';
+  is_finite : (goal.iterator-loop g).is_finite l.iterator';
+  later : IsLater l.self.table l.fn.pass l.pass;
+  underway : IsUnderway l.call (g.H.Hook.test l.fn.hook) (part_in l.fn.pass) (part_in l.pass) l.attempt;
+  caller : l.attempt.crossings.caller ≡ l.pass.caller;
+  waits : l.shut ≡ true → IsWaiting (part_in l.pass).seat;
+  test : g.H.Hook.test l.hook ≡ g.H.Hook.test l.fn.hook;
+}

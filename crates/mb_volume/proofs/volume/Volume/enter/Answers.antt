@@ -1,0 +1,23 @@
+use Rattle.mb_kinds.specs.declared.faults.Kind.TheVariants as kind
+use Rattle.mb_volume.specs.declared.events.Came.TheVariants as came
+use Rattle.mb_volume.proofs.Holding.{counted_on, holds_inside, inside_then, making_inside}
+use Rattle.mb_volume.proofs.volume.Volume.enter.Goals as goal
+
+pub hold-came-requires-clause-may : goal.hold-came-requires-clause-may
+hold-came-requires-clause-may g c = c.requires.outside
+
+pub ask-requires-clause-making : goal.ask-requires-clause-making
+ask-requires-clause-making g c =
+    rw c.hold-came.ensures.test (making_inside _ _ c.args.pass.now c.hold-came.new.pass _ _ _ _ c.hold-came.ensures.later.caller c.hold-came.ensures.same c.requires.making c.in-Inside.is c.hold-came.ensures.leads)
+
+pub ask-requires-clause-holds : goal.ask-requires-clause-holds
+ask-requires-clause-holds g c = holds_inside _ _ c.args.pass.now c.hold-came.new.pass _ _ _ _ c.requires.making c.in-Inside.is c.hold-came.ensures.leads
+
+pub returns-in-Some-clause-leads : goal.returns-in-Some-clause-leads
+returns-in-Some-clause-leads g c =
+    inside_then _ _ c.args.pass.now c.hold-came.new.pass c.ask.new.pass _ _ _ _ _ _ c.hold-came.ensures.same c.in-Inside.is c.hold-came.ensures.leads (rw c.hold-came.ensures.test at c.in-Some.ensures.leads)
+
+pub returns-in-None-clause-leads : goal.returns-in-None-clause-leads
+returns-in-None-clause-leads g c =
+    inside_then _ _ c.args.pass.now c.hold-came.new.pass c.ask.new.pass c.args.attempt.now c.hold-came.new.attempt c.ask.new.attempt _ came.On _ c.hold-came.ensures.same c.in-Inside.is c.hold-came.ensures.leads
+    (counted_on _ _ c.hold-came.new.pass c.ask.new.pass c.hold-came.new.attempt c.ask.new.attempt kind.Enter c.in-None.ensures.unasked.0 c.in-None.ensures.unasked.1)

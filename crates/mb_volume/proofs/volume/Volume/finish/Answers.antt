@@ -1,0 +1,10 @@
+use Rattle.mb_kinds.specs.declared.faults.Kind.TheVariants as kind
+use Rattle.mb_volume.proofs.Holding.{counted_leads, making_counted}
+use Rattle.mb_volume.proofs.volume.Volume.finish.Goals as goal
+
+pub hold-requires-clause-making : goal.hold-requires-clause-making
+hold-requires-clause-making g c = rw c.ask.ensures.test (making_counted _ _ _ _ _ _ kind.Finish c.in-None.ensures.unasked.0 c.in-None.ensures.unasked.1 c.requires.making)
+
+pub returns-then-not-attempt-clause-leads : goal.returns-then-not-attempt-clause-leads
+returns-then-not-attempt-clause-leads g c =
+    counted_leads _ _ c.args.pass.now c.ask.new.pass c.hold.new.pass _ _ _ kind.Finish _ c.in-None.ensures.unasked.0 c.in-None.ensures.unasked.1 (rw c.ask.ensures.test at c.hold.ensures.leads)

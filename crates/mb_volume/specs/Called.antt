@@ -1,0 +1,67 @@
+-- What a call by a shared volume leaves of its caller's part of the core, as the caller saw it before and as it sees it then.
+use Rattle.std.specs.Prelude.{ℕ, ◌+◌, ◌≤◌, ◌≡◌, ◌++◌, ◌∷◌, List, [], length, filter, Bool, true, false, Option, None}
+use Rattle.std.specs.List.{AllByRecursion}
+use Rattle.mb_edge.specs.declared.crossings.Crossing.{Crossing}
+use Rattle.mb_kinds.specs.declared.calls.Call.{Call}
+use Rattle.mb_kinds.specs.declared.entries.Entry.{Entry}
+use Rattle.mb_kinds.specs.declared.faults.FaultRecord.{FaultRecord}
+use Rattle.mb_kinds.specs.declared.faults.Kind.{Kind}
+use Rattle.mb_kinds.specs.declared.faults.Kind.TheVariants as kind
+use Rattle.mb_kinds.specs.declared.replies.Reply.{Reply}
+use Rattle.mb_kinds.specs.declared.replies.Reply.TheVariants as reply
+use Rattle.mb_run.specs.Served.{AreSound}
+use Rattle.mb_volume.specs.Parts.{Part}
+
+-- a fault that counts as its call's own
+abbrev pub is_own : Kind → Bool
+is_own kind.Enter = true
+is_own kind.Gather = true
+is_own kind.Finish = true
+is_own _ = false
+
+abbrev pub own_faults : List FaultRecord → List FaultRecord
+own_faults records = filter (λ (fault : FaultRecord). is_own fault.kind) records
+
+-- the records are of the first calls of their caller, so many
+abbrev pub AreOfFirst : ℕ → List FaultRecord → Type 0
+AreOfFirst begun records = AllByRecursion (λ (fault : FaultRecord). fault.ordinal ≤ begun) records
+
+-- what a reply says of the fault records that came, where those before are of earlier calls
+abbrev pub SaysOfFaults : ℕ → List FaultRecord → List FaultRecord → Reply → Type 0
+SaysOfFaults begun before more (reply.Restart first second) = AreOfFirst begun before → 2 ≤ length (own_faults more)
+SaysOfFaults begun before more _ = Unit {0}
+
+-- and of the limit
+abbrev pub SaysOfLimit : ℕ → Reply → Type 0
+SaysOfLimit limit (reply.Failed faults) = faults ≡ limit + 1
+SaysOfLimit limit _ = Unit {0}
+
+-- the fault records that came are of this call, at crossings where the test holds, no two alike where their numbers tell
+pub record Suffers (test : Option (Crossing → Bool)) (caller : ℕ) (old now : Part) : Type 0 where
+  pub more : List FaultRecord
+  pub whole : now.struck ≡ old.struck ++ more
+  pub theirs : AllByRecursion (λ (fault : FaultRecord). (fault.caller ≡ caller) × (fault.ordinal ≡ old.seat.begun + 1)) more
+  pub sound : AreSound test more
+
+-- the call was answered with that reply: it has one entry more, its own
+pub record IsAnsweredWith (call : Call) (test : Option (Crossing → Bool)) (caller : ℕ) (old now : Part) (answer : Reply) : Type 0 where
+  pub seat : now.seat ≡ record { begun = old.seat.begun + 1; flight = None }
+  pub entry : Entry
+  pub whole : now.entries ≡ old.entries ++ entry ∷ []
+  pub caller_is : entry.caller ≡ caller
+  pub ordinal : entry.ordinal ≡ old.seat.begun + 1
+  pub call_is : entry.call ≡ call
+  pub reply_is : entry.reply ≡ answer
+  pub suffers : Suffers test caller old now
+  pub faults : SaysOfFaults old.seat.begun old.struck suffers.more answer
+  pub limit : SaysOfLimit old.config.limit answer
+
+-- the call met want of memory: it has no entry, and began once at most
+pub record IsGivenUp (test : Option (Crossing → Bool)) (caller : ℕ) (old now : Part) : Type 0 where
+  pub entries : now.entries ≡ old.entries
+  pub free : now.seat.flight ≡ None
+  pub begun : old.seat.begun ≤ now.seat.begun
+  pub once : now.seat.begun ≤ old.seat.begun + 1
+  pub suffers : Suffers test caller old now
+  -- a call that did not begin met no fault
+  pub calm : now.seat.begun ≡ old.seat.begun → now.struck ≡ old.struck

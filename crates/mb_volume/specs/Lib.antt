@@ -1,0 +1,5 @@
+pub mod Attempts
+pub mod Parts
+pub mod Called
+pub mod Underway
+pub mod Passing

@@ -1,0 +1,193 @@
+-- A call under way: how it stands, by what its caller knows from one hold of the turn to the next.
+use Rattle.std.specs.Prelude.{ℕ, ◌+◌, ◌<◌, ◌≤◌, ◌≡◌, ◌≢◌, ◌++◌, ◌∷◌, List, [], length, filter, nat_eq, Bool, true, false, Option, Some, None, IfSome}
+use Rattle.std.specs.List.{AllByRecursion, Contains}
+use Rattle.mb_edge.specs.Crossings.{next_nth}
+use Rattle.mb_edge.specs.declared.crossings.Crossing.{Crossing}
+use Rattle.mb_edge.specs.declared.crossings.Crossings.{Crossings}
+use Rattle.mb_kinds.specs.declared.calls.Call.{Call}
+use Rattle.mb_kinds.specs.declared.entries.Entry.{Entry}
+use Rattle.mb_kinds.specs.declared.entries.Flight.{Flight}
+use Rattle.mb_kinds.specs.declared.faults.FaultRecord.{FaultRecord}
+use Rattle.mb_kinds.specs.declared.faults.Ticket.{Ticket}
+use Rattle.mb_kinds.specs.declared.replies.Reply.{Reply}
+use Rattle.mb_kinds.specs.declared.replies.Reply.TheVariants as reply
+use Rattle.mb_calls.specs.declared.performing.Performed.TheVariants as performed
+use Rattle.mb_core_spec.specs.Copies.{no_pages}
+use Rattle.mb_core_spec.specs.declared.stages.Stage.TheVariants as stage
+use Rattle.mb_run.specs.Pages.{HasTablesFor, Performs, has}
+use Rattle.mb_run.specs.Served.{AreCounts, AreSound, IsCounted, counted}
+use Rattle.mb_run.specs.Sights.{HasTicket, IsTicketOf, IsWaiting, Seat, Sight}
+use Rattle.mb_run.specs.declared.answers.Stepped.{Stepped}
+use Rattle.mb_run.specs.declared.answers.Stepped.TheVariants as stepped
+use Rattle.mb_run.specs.declared.runner.At.{At}
+use Rattle.mb_run.specs.declared.runner.At.TheVariants as at
+use Rattle.mb_volume.specs.Called.{IsAnsweredWith, SaysOfLimit, Suffers, own_faults}
+use Rattle.mb_volume.specs.Parts.{Part}
+use Rattle.mb_volume.specs.declared.attempt.Attempt.{Attempt}
+use Rattle.mb_volume.specs.declared.events.Came.{Came}
+use Rattle.mb_volume.specs.declared.events.Came.TheVariants as came
+use Rattle.mb_volume.specs.declared.events.Event.{Event}
+use Rattle.mb_volume.specs.declared.events.Event.TheVariants as event
+
+-- one entry came: that call's
+pub record AddsEntry (caller ordinal : ℕ) (call : Call) (from now : List Entry) : Type 0 where
+  pub entry : Entry
+  pub whole : now ≡ from ++ entry ∷ []
+  pub caller_is : entry.caller ≡ caller
+  pub ordinal_is : entry.ordinal ≡ ordinal
+  pub call_is : entry.call ≡ call
+
+abbrev pub AddsEntryIf : Bool → ℕ → ℕ → Call → List Entry → List Entry → Type 0
+AddsEntryIf true caller ordinal call from now = AddsEntry caller ordinal call from now
+AddsEntryIf false caller ordinal call from now = now ≡ from
+
+-- the fault records of the call so far: each at a crossing that was counted
+pub record IsStruck (test : Option (Crossing → Bool)) (crossings : Crossings) (from now : List FaultRecord) : Type 0 where
+  pub more : List FaultRecord
+  pub whole : now ≡ from ++ more
+  pub theirs : AllByRecursion (λ (fault : FaultRecord). (fault.caller ≡ crossings.caller) × (fault.ordinal ≡ crossings.ordinal)) more
+  pub counted : AllByRecursion (IsCounted crossings) more
+  pub sound : AreSound test more
+
+-- the call in flight is this one
+pub record IsFlying (caller : ℕ) (call : Call) (from now : Part) (flight : Flight) : Type 0 where
+  pub call_is : flight.call ≡ call
+  pub ordinal : flight.ordinal ≡ from.seat.begun + 1
+  pub begun : now.seat.begun ≡ from.seat.begun + 1
+  pub entered : AddsEntryIf flight.answered caller (from.seat.begun + 1) call from.entries now.entries
+
+-- the call did not begin, or is in flight
+abbrev pub IsBegunIf : ℕ → Call → Part → Part → Option Flight → Type 0
+IsBegunIf caller call from now None = (now.seat.begun ≡ from.seat.begun) × (now.entries ≡ from.entries) × (now.struck ≡ from.struck)
+IsBegunIf caller call from now (Some flight) = IsFlying caller call from now flight
+
+-- the ticket that the caller has
+abbrev pub StandsAt : ℕ → Seat → At → Type 0
+StandsAt caller seat at.Outside = Unit {0}
+StandsAt caller seat (at.Inside ticket) = HasTicket false seat ticket × (ticket.caller ≡ caller)
+StandsAt caller seat (at.Logged ticket) = HasTicket true seat ticket × (ticket.caller ≡ caller)
+
+-- from the part as it was before the call, and as it is now
+pub record IsUnderway (call : Call) (test : Option (Crossing → Bool)) (from now : Part) (attempt : Attempt) : Type 0 where
+  pub config : now.config ≡ from.config
+  pub within : attempt.crossings.caller < from.config.callers
+  pub most : from.seat.begun < from.config.most
+  pub ordinal : attempt.crossings.ordinal ≡ from.seat.begun + 1
+  pub counts : AreCounts attempt.crossings
+  pub begun : IsBegunIf attempt.crossings.caller call from now now.seat.flight
+  pub stands : StandsAt attempt.crossings.caller now.seat attempt.at
+  pub tables : HasTablesFor now.config.callers attempt.pages
+  pub struck : IsStruck test attempt.crossings from.struck now.struck
+
+abbrev pub IsOn : Call → Part → Attempt → Type 0
+IsOn call now attempt = (test : Option (Crossing → Bool)) × (from : Part) × IsUnderway call test from now attempt
+
+-- a call that is given up met two faults of its own
+abbrev pub SaysOfTwice : ℕ → List FaultRecord → Reply → Type 0
+SaysOfTwice ordinal struck (reply.Restart first second) = 2 ≤ length (own_faults (filter (λ (fault : FaultRecord). nat_eq fault.ordinal ordinal) struck))
+SaysOfTwice ordinal struck _ = Unit {0}
+
+-- each entry has a greater ordinal than those before it
+abbrev pub AreRising : List Entry → Type 0
+AreRising [] = Unit {0}
+AreRising (entry ∷ later) = AllByRecursion (λ (next : Entry). entry.ordinal < next.ordinal) later × AreRising later
+
+-- an entry of that call has this reply
+pub record IsReplyIn (entries : List Entry) (ordinal : ℕ) (answer : Reply) : Type 0 where
+  pub entry : Entry
+  pub there : Contains entries entry
+  pub ordinal_is : entry.ordinal ≡ ordinal
+  pub reply_is : entry.reply ≡ answer
+
+-- the call was answered, as the core has it
+pub record IsAnswered (call : Call) (test : Option (Crossing → Bool)) (caller : ℕ) (from now : Part) (answer : Reply) : Type 0 where
+  pub config : now.config ≡ from.config
+  pub seat : now.seat ≡ record { begun = from.seat.begun + 1; flight = None }
+  pub entry : AddsEntry caller (from.seat.begun + 1) call from.entries now.entries
+  pub reply : IsReplyIn now.entries (from.seat.begun + 1) answer
+  pub suffers : Suffers test caller from now
+
+-- it has no entry
+abbrev pub LacksEntry : Option Flight → Type 0
+LacksEntry None = Unit {0}
+LacksEntry (Some flight) = flight.answered ≡ false
+
+-- a call in flight without an entry was ended, where it began
+pub record IsLeftOff (ordinal : ℕ) (old now : Part) : Type 0 where
+  pub entries : now.entries ≡ old.entries
+  pub struck : now.struck ≡ old.struck
+  pub config : now.config ≡ old.config
+  pub begun : now.seat.begun ≡ old.seat.begun
+  pub free : old.seat.begun ≡ ordinal → now.seat.flight ≡ None
+  pub still : old.seat.begun ≢ ordinal → now.seat.flight ≡ old.seat.flight
+
+-- what a step of a recovery comes to for the call that ran it
+abbrev pub rolled : Stepped → Came
+rolled stepped.Idle = came.On
+rolled (stepped.Failed faults) = came.On
+rolled stepped.Resumed = came.On
+rolled stepped.Device = came.Answered reply.Device
+rolled stepped.NoMemory = came.NoMemory
+rolled _ = came.Shut
+
+-- what a hold of the turn came to
+abbrev pub Comes : Call → Option (Crossing → Bool) → ℕ → Part → Part → Attempt → Came → Type 0
+Comes call test caller from now attempt (came.Answered reply) = IsAnswered call test caller from now reply
+Comes call test caller from now attempt (came.Inside ticket) = IsUnderway call test from now attempt × (attempt.at ≡ at.Inside ticket)
+Comes call test caller from now attempt came.On = IsUnderway call test from now attempt
+Comes call test caller from now attempt came.Shut = IsUnderway call test from now attempt × IsWaiting now.seat
+Comes call test caller from now attempt came.Busy = IsUnderway call test from now attempt
+Comes call test caller from now attempt came.NoMemory = IsUnderway call test from now attempt × LacksEntry now.seat.flight
+
+-- whatever it was before the call
+abbrev pub Goes : Call → Option (Crossing → Bool) → Part → Part → Attempt → Attempt → Came → Type 0
+Goes call test old new before now came = (from : Part) → IsUnderway call test from old before → Comes call test before.crossings.caller from new now came
+
+-- a hold of the turn makes of the core's answer what the caller is told
+abbrev pub Brings : Call → Option (Crossing → Bool) → ℕ → Part → Part → Attempt → Came → Type 0
+Brings call test caller from now attempt (came.Answered reply) = IsAnsweredWith call test caller from now reply
+Brings call test caller from now attempt (came.Inside ticket) = IsUnderway call test from now attempt × (attempt.at ≡ at.Inside ticket)
+Brings call test caller from now attempt came.On = IsUnderway call test from now attempt
+Brings call test caller from now attempt came.Shut = IsUnderway call test from now attempt × IsWaiting now.seat
+Brings call test caller from now attempt came.Busy = IsUnderway call test from now attempt
+Brings call test caller from now attempt came.NoMemory = IsUnderway call test from now attempt × LacksEntry now.seat.flight
+
+abbrev pub Leads : Call → Option (Crossing → Bool) → Part → Part → Attempt → Attempt → Came → Type 0
+Leads call test old new before now came = (from : Part) → IsUnderway call test from old before → Brings call test before.crossings.caller from new now came
+
+-- what a core in order says of a caller's entries: their ordinals rise, and the replies fit the limit and the fault records
+pub record IsTold (now : Part) : Type 0 where
+  pub rises : AreRising now.entries
+  pub limit : AllByRecursion (λ (entry : Entry). SaysOfLimit now.config.limit entry.reply) now.entries
+  pub twice : AllByRecursion (λ (entry : Entry). SaysOfTwice entry.ordinal now.struck entry.reply) now.entries
+
+-- and whatever the hook's test is, which was not asked
+abbrev pub GoesUnasked : Call → Part → Part → Attempt → Attempt → Came → Type 0
+GoesUnasked call old new before now came = (test : Option (Crossing → Bool)) → Goes call test old new before now came
+
+-- the place has that ticket
+abbrev pub HoldsTicket : At → Ticket → Type 0
+HoldsTicket at.Outside ticket = ⊥
+HoldsTicket (at.Inside mine) ticket = mine ≡ ticket
+HoldsTicket (at.Logged mine) ticket = mine ≡ ticket
+
+-- the crossing is the next one of its kind, and the hook faulted there
+pub record IsMet (test : Option (Crossing → Bool)) (struck : Option Crossing) (attempt : Attempt) (crossing : Crossing) (passed : Crossings) : Type 0 where
+  pub next : crossing ≡ record { caller = attempt.crossings.caller; ordinal = attempt.crossings.ordinal; kind = crossing.kind; nth = next_nth attempt.crossings.counts crossing.kind }
+  pub passed_is : passed ≡ counted attempt.crossings crossing.kind
+  pub struck_is : struck ≡ Some crossing
+  pub holds : IfSome test (λ fires. fires crossing ≡ true)
+
+-- when an event may come
+abbrev pub MayCome : Call → Option (Crossing → Bool) → Option Crossing → Seat → Attempt → Event → Type 0
+MayCome call test struck seat attempt event.Enter = attempt.at ≡ at.Outside
+MayCome call test struck seat attempt (event.Gather ticket need) = (attempt.at ≡ at.Inside ticket) × (need.first < 262144) × (1 ≤ need.count) × (need.count ≤ 32)
+MayCome call test struck seat attempt (event.Finish ticket ready) =
+    (attempt.at ≡ at.Inside ticket) × (has attempt.pages 0 ≡ true) × Performs attempt.pages ticket.caller call ticket.moment (performed.Ready ready)
+MayCome call test struck seat attempt (event.Leave ticket) = attempt.at ≡ at.Logged ticket
+MayCome call test struck seat attempt (event.Fault ticket crossing passed) = HoldsTicket attempt.at ticket × IsMet test struck attempt crossing passed
+MayCome call test struck seat attempt event.Recover = IsWaiting seat
+
+-- the volume runs while a call in flight has a ticket of the present incarnation
+abbrev pub RunsInside : Sight → Type 0
+RunsInside sight = (caller : ℕ) (ticket : Ticket) → IsTicketOf (sight.seats caller) ticket → ticket.incarnation ≡ sight.incarnation → sight.stage ≡ stage.Running

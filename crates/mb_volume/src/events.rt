@@ -1,0 +1,286 @@
+ghost use Rattle.std.specs.Prelude.{◌≡◌, ◌<◌, ◌≤◌, true};
+ghost use Rattle.mb_calls.specs.declared.performing.Performed.TheVariants as performed;
+ghost use Rattle.mb_core_spec.specs.declared.stages.Stage.TheVariants as stage;
+ghost use Rattle.mb_run.specs.Pages.{Performs, has};
+ghost use Rattle.mb_run.specs.Served.{SealsIf, is_due};
+ghost use Rattle.mb_run.specs.Sights.{IsOrderly, IsWaiting};
+ghost use Rattle.mb_run.specs.declared.runner.At.TheVariants as at;
+ghost use Rattle.mb_volume.specs.Parts.{Moves, part_of};
+ghost use Rattle.mb_volume.specs.Underway.{Goes, GoesUnasked, HoldsTicket, IsMet, IsOn, MayCome, RunsInside, rolled};
+
+use crate::attempt::Attempt;
+use mb_calls::Ready;
+use mb_core_state::{Finished, Gathered, Left};
+use mb_edge::{Crossing, Crossings, Hook};
+use mb_iface::Need;
+use mb_kinds::{Call, Reply, Ticket};
+use mb_run::{At, Enter, EventCore, Stepped};
+use std::alloc::Global;
+
+/// What a caller does with the core in one hold of the turn.
+#[derive(Drop)]
+pub(crate) enum Event {
+    /// The call enters.
+    Enter,
+    /// It gathers blocks.
+    Gather(Ticket, Need),
+    /// It finishes with what it performed, and the checkpoint that is due is taken.
+    Finish(Ticket, Ready),
+    /// It leaves.
+    Leave(Ticket),
+    /// It is struck at that crossing; the crossings with that one counted.
+    Fault(Ticket, Crossing, Crossings),
+    /// It makes one step of a recovery.
+    Recover,
+}
+
+/// What a hold of the turn came to.
+#[derive(Drop)]
+pub(crate) enum Came {
+    /// The call was answered.
+    Answered(Reply),
+    /// The call entered, with this ticket.
+    Inside(Ticket),
+    /// The call goes on where it stands.
+    On,
+    /// A recovery is in progress; the call waits for it.
+    Shut,
+    /// Another call has the right to commit alone.
+    Busy,
+    /// There was no memory. The call has no entry.
+    NoMemory,
+}
+
+/// The call enters.
+fn enter<C: EventCore>(alloc: Global, core: &mut C, attempt: &mut Attempt, call: &Call) -> Came
+    requires on { IsOn call.now (part_of (C.sight core.old) attempt.old.crossings.caller) attempt.old }
+    requires outside { attempt.old.at ≡ at.Outside }
+    requires right { IsOrderly (C.sight core.old) }
+    ensures goes { GoesUnasked call.now (part_of (C.sight core.old) attempt.old.crossings.caller) (part_of (C.sight core.new) attempt.old.crossings.caller) attempt.old attempt.new result }
+    ensures same { attempt.new.crossings.caller ≡ attempt.old.crossings.caller }
+    ensures moves { Moves attempt.old.crossings.caller (C.sight core.old) (C.sight core.new) }
+    ensures origin { C.origin core.new ≡ C.origin core.old }
+    ensures right { IsOrderly (C.sight core.new) }
+{
+    match core.enter(alloc, attempt.crossings.caller, call) {
+        Enter::Done(reply) => Came::Answered(reply),
+        Enter::Shut => Came::Shut,
+        Enter::NoMemory => Came::NoMemory,
+        Enter::Inside(ticket) => {
+            attempt.go_in(ticket);
+            Came::Inside(ticket)
+        }
+    }
+}
+
+/// The call gathers blocks, or at block 0 the tables.
+fn gather<C: EventCore>(
+    alloc: Global,
+    core: &mut C,
+    attempt: &mut Attempt,
+    call: &Call,
+    ticket: &Ticket,
+    need: Need,
+) -> Came
+    requires on { IsOn call.now (part_of (C.sight core.old) attempt.old.crossings.caller) attempt.old }
+    requires inside { attempt.old.at ≡ at.Inside ticket.now }
+    requires first { need.first < 262144 }
+    requires some { 1 ≤ need.count }
+    requires count { need.count ≤ 32 }
+    requires right { IsOrderly (C.sight core.old) }
+    ensures goes { GoesUnasked call.now (part_of (C.sight core.old) attempt.old.crossings.caller) (part_of (C.sight core.new) attempt.old.crossings.caller) attempt.old attempt.new result }
+    ensures same { attempt.new.crossings.caller ≡ attempt.old.crossings.caller }
+    ensures moves { Moves attempt.old.crossings.caller (C.sight core.old) (C.sight core.new) }
+    ensures origin { C.origin core.new ≡ C.origin core.old }
+    ensures right { IsOrderly (C.sight core.new) }
+{
+    let _ = call;
+    match core.gather(alloc, ticket, need, &mut attempt.pages) {
+        Gathered::Skip { .. } => {
+            attempt.back();
+            Came::On
+        }
+        Gathered::Device => Came::Answered(Reply::Device),
+        Gathered::NoMemory => Came::NoMemory,
+        Gathered::Done => Came::On,
+    }
+}
+
+/// Takes a checkpoint where one is due after a call was logged.
+fn seal_if_due<C: EventCore>(core: &mut C, call: &Call)
+    requires runs { (C.sight core.old).stage ≡ stage.Running }
+    requires may_seal { C.may_seal core.old ≡ true }
+    requires right { IsOrderly (C.sight core.old) }
+    ensures seals { SealsIf (is_due (C.sight core.old) call.now) (C.sight core.old) (C.sight core.new) }
+    ensures origin { C.origin core.new ≡ C.origin core.old }
+    ensures right { IsOrderly (C.sight core.new) }
+{
+    let threshold = core.config().threshold;
+    if core.logged() >= threshold || matches!(call, Call::Sync) {
+        match core.seal() {
+            Ok(()) => {}
+            Err(_) => unreachable!(),
+        }
+    }
+}
+
+/// The call finishes with what it performed; the checkpoint that is then due is taken at once.
+fn finish<C: EventCore>(
+    alloc: Global,
+    core: &mut C,
+    attempt: &mut Attempt,
+    call: &Call,
+    ticket: &Ticket,
+    ready: Ready,
+) -> Came
+    requires on { IsOn call.now (part_of (C.sight core.old) attempt.old.crossings.caller) attempt.old }
+    requires inside { attempt.old.at ≡ at.Inside ticket.now }
+    requires there { has attempt.old.pages 0 ≡ true }
+    requires ready { Performs attempt.old.pages ticket.now.caller call.now ticket.now.moment (performed.Ready ready) }
+    requires runs { RunsInside (C.sight core.old) }
+    requires right { IsOrderly (C.sight core.old) }
+    ensures goes { GoesUnasked call.now (part_of (C.sight core.old) attempt.old.crossings.caller) (part_of (C.sight core.new) attempt.old.crossings.caller) attempt.old attempt.new result }
+    ensures same { attempt.new.crossings.caller ≡ attempt.old.crossings.caller }
+    ensures moves { Moves attempt.old.crossings.caller (C.sight core.old) (C.sight core.new) }
+    ensures origin { C.origin core.new ≡ C.origin core.old }
+    ensures right { IsOrderly (C.sight core.new) }
+{
+    let finished = core.finish(alloc, ticket, &attempt.pages, ready);
+    match finished {
+        Finished::Skip { .. } => {
+            attempt.back();
+            return Came::On;
+        }
+        Finished::Busy { .. } => {
+            attempt.asked = true;
+            return Came::Busy;
+        }
+        Finished::Stale { .. } => {
+            attempt.go_in(*ticket);
+            return Came::On;
+        }
+        Finished::NoMemory => return Came::NoMemory,
+        Finished::Logged => {
+            attempt.at = At::Logged(*ticket);
+            seal_if_due(core, call);
+            return Came::On;
+        }
+    }
+}
+
+/// The call, which has its entry, leaves.
+fn leave<C: EventCore>(core: &mut C, attempt: &mut Attempt, call: &Call, ticket: &Ticket) -> Came
+    requires on { IsOn call.now (part_of (C.sight core.old) attempt.old.crossings.caller) attempt.old }
+    requires logged { attempt.old.at ≡ at.Logged ticket.now }
+    requires right { IsOrderly (C.sight core.old) }
+    ensures goes { GoesUnasked call.now (part_of (C.sight core.old) attempt.old.crossings.caller) (part_of (C.sight core.new) attempt.old.crossings.caller) attempt.old attempt.new result }
+    ensures same { attempt.new.crossings.caller ≡ attempt.old.crossings.caller }
+    ensures moves { Moves attempt.old.crossings.caller (C.sight core.old) (C.sight core.new) }
+    ensures origin { C.origin core.new ≡ C.origin core.old }
+    ensures right { IsOrderly (C.sight core.new) }
+{
+    let _ = call;
+    match core.leave(ticket) {
+        Left::Skip { .. } => {
+            attempt.back();
+            Came::On
+        }
+        Left::Left(reply) => Came::Answered(reply),
+    }
+}
+
+/// The call is struck at a crossing at which the fault injector answered a fault.
+fn fault<C: EventCore, H: Hook>(
+    core: &mut C,
+    hook: &H,
+    attempt: &mut Attempt,
+    call: &Call,
+    ticket: &Ticket,
+    crossing: &Crossing,
+    passed: &Crossings,
+) -> Came
+    requires on { IsOn call.now (part_of (C.sight core.old) attempt.old.crossings.caller) attempt.old }
+    requires holds { HoldsTicket attempt.old.at ticket.now }
+    requires met { IsMet (H.test hook.now) (H.struck hook.now) attempt.old crossing.now passed.now }
+    requires right { IsOrderly (C.sight core.old) }
+    ensures goes { Goes call.now (H.test hook.now) (part_of (C.sight core.old) attempt.old.crossings.caller) (part_of (C.sight core.new) attempt.old.crossings.caller) attempt.old attempt.new result }
+    ensures same { attempt.new.crossings.caller ≡ attempt.old.crossings.caller }
+    ensures moves { Moves attempt.old.crossings.caller (C.sight core.old) (C.sight core.new) }
+    ensures origin { C.origin core.new ≡ C.origin core.old }
+    ensures right { IsOrderly (C.sight core.new) }
+{
+    let _ = call;
+    let _ = core.fault(ticket, crossing.kind, crossing.nth, hook);
+    attempt.crossings = *passed;
+    attempt.back();
+    Came::On
+}
+
+/// What a step of a recovery comes to for the call that ran it.
+fn rolled(stepped: Stepped) -> Came
+    ensures { result ≡ rolled stepped }
+{
+    match stepped {
+        Stepped::Device => Came::Answered(Reply::Device),
+        Stepped::NoMemory => Came::NoMemory,
+        Stepped::Idle | Stepped::Failed { .. } | Stepped::Resumed => Came::On,
+        _ => Came::Shut,
+    }
+}
+
+/// One step of a recovery, run by the call, which waits for it.
+fn recover<C: EventCore, H: Hook>(
+    alloc: Global,
+    core: &mut C,
+    hook: &mut H,
+    attempt: &mut Attempt,
+    call: &Call,
+) -> Came
+    requires on { IsOn call.now (part_of (C.sight core.old) attempt.old.crossings.caller) attempt.old }
+    requires waits { IsWaiting ((C.sight core.old).seats attempt.old.crossings.caller) }
+    requires right { IsOrderly (C.sight core.old) }
+    ensures goes { Goes call.now (H.test hook.old) (part_of (C.sight core.old) attempt.old.crossings.caller) (part_of (C.sight core.new) attempt.old.crossings.caller) attempt.old attempt.new result }
+    ensures same { attempt.new.crossings.caller ≡ attempt.old.crossings.caller }
+    ensures moves { Moves attempt.old.crossings.caller (C.sight core.old) (C.sight core.new) }
+    ensures test { H.test hook.new ≡ H.test hook.old }
+    ensures origin { C.origin core.new ≡ C.origin core.old }
+    ensures right { IsOrderly (C.sight core.new) }
+{
+    let _ = call;
+    let mut by = Some(attempt.crossings);
+    let stepped = core.recover_step(alloc, &mut by, hook);
+    attempt.keep(&by);
+    rolled(stepped)
+}
+
+/// One event of a caller's call.
+pub(crate) fn act<C: EventCore, H: Hook>(
+    alloc: Global,
+    core: &mut C,
+    hook: &mut H,
+    attempt: &mut Attempt,
+    call: &Call,
+    event: Event,
+) -> Came
+    requires on { IsOn call.now (part_of (C.sight core.old) attempt.old.crossings.caller) attempt.old }
+    requires may { MayCome call.now (H.test hook.old) (H.struck hook.old) ((C.sight core.old).seats attempt.old.crossings.caller) attempt.old event }
+    requires runs { RunsInside (C.sight core.old) }
+    requires right { IsOrderly (C.sight core.old) }
+    ensures goes { Goes call.now (H.test hook.old) (part_of (C.sight core.old) attempt.old.crossings.caller) (part_of (C.sight core.new) attempt.old.crossings.caller) attempt.old attempt.new result }
+    ensures same { attempt.new.crossings.caller ≡ attempt.old.crossings.caller }
+    ensures moves { Moves attempt.old.crossings.caller (C.sight core.old) (C.sight core.new) }
+    ensures test { H.test hook.new ≡ H.test hook.old }
+    ensures origin { C.origin core.new ≡ C.origin core.old }
+    ensures right { IsOrderly (C.sight core.new) }
+{
+    match event {
+        Event::Enter => enter(alloc, core, attempt, call),
+        Event::Gather(ticket, need) => gather(alloc, core, attempt, call, &ticket, need),
+        Event::Finish(ticket, ready) => finish(alloc, core, attempt, call, &ticket, ready),
+        Event::Leave(ticket) => leave(core, attempt, call, &ticket),
+        Event::Fault(ticket, crossing, passed) => {
+            fault(core, hook, attempt, call, &ticket, &crossing, &passed)
+        }
+        Event::Recover => recover(alloc, core, hook, attempt, call),
+    }
+}

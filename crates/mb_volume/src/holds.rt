@@ -1,0 +1,345 @@
+ghost use Rattle.std.specs.Prelude.{◌≡◌, ◌<◌, ◌≤◌, true, false, IfNone, IfSome};
+ghost use Rattle.mb_calls.specs.declared.performing.Performed.TheVariants as performed;
+ghost use Rattle.mb_run.specs.Pages.{Performs, has};
+ghost use Rattle.mb_run.specs.Served.{counted};
+ghost use Rattle.mb_run.specs.Sights.{IsWaiting};
+ghost use Rattle.mb_run.specs.declared.runner.At.TheVariants as at;
+ghost use Rattle.mb_turn.specs.Passes.{IsIdle};
+ghost use Rattle.mb_volume.specs.Attempts.{new_attempt};
+ghost use Rattle.mb_volume.specs.Passing.{IsLater, IsMaking, part_in};
+ghost use Rattle.mb_volume.specs.Underway.{HoldsTicket, IsLeftOff, Leads, MayCome};
+ghost use Rattle.mb_core_spec.specs.Right.{Right};
+
+use crate::attempt::Attempt;
+use crate::events::{Came, Event, act};
+use crate::performing::{has_tables, perform};
+use crate::shared::SharedCore;
+use crate::volume::Volume;
+use mb_calls::{Performed, Ready};
+use mb_core_events::Core;
+use mb_edge::{Disk, Hook, Word};
+use mb_iface::{FileSys, Need};
+use mb_kinds::{Call, Kind, Ticket};
+use mb_run::At;
+use mb_turn::Pass;
+use std::alloc::Global;
+use std::sync::Wait;
+
+/// A core is always in order. It does nothing, and shows this to whoever calls it.
+pub(crate) fn in_order<F: FileSys, D: Disk>(core: &Core<F, D>)
+    ensures { Right D.told D.faults core.now }
+{
+    core.history();
+}
+
+/// The file system's code in a core, which is in order.
+fn code_of<F: FileSys, D: Disk>(core: &Core<F, D>) -> F
+    ensures { Right D.told D.faults core.now }
+{
+    in_order(core);
+    core.fs()
+}
+
+impl<F: FileSys, D: Disk> Volume<F, D> {
+    /// What the caller keeps of its next call, whose number it reads in a hold of its own: a core bounds how many there are.
+    pub(crate) fn begin<R: Wait>(
+        &self,
+        rt: &R,
+        alloc: Global,
+        pass: &mut Pass<SharedCore<F, D>>,
+    ) -> Attempt
+        requires idle { IsIdle self.now.table pass.old }
+        requires most { (part_in pass.old).seat.begun < (part_in pass.old).config.most }
+        ensures later { IsLater self.now.table pass.old pass.new }
+        ensures part { part_in pass.new ≡ part_in pass.old }
+        ensures declared { pass.old.caller < (part_in pass.old).config.callers }
+        ensures attempt { result ≡ new_attempt pass.old.caller (part_in pass.old).seat.begun }
+    {
+        let begun = pass.begun();
+        let shared = self.turn.take(rt, pass);
+        in_order(&shared.core.core);
+        let attempt = Attempt::new(alloc, pass.caller(), begun);
+        self.turn.give(pass, shared);
+        attempt
+    }
+
+    /// One event of the caller's call, in one hold of the turn. It also gives the file system's code as it is then.
+    fn hold<H: Hook, R: Wait>(
+        &self,
+        rt: &R,
+        alloc: Global,
+        pass: &mut Pass<SharedCore<F, D>>,
+        hook: &mut H,
+        attempt: &mut Attempt,
+        call: &Call,
+        event: Event,
+    ) -> (Came, F)
+        requires idle { IsIdle self.now.table pass.old }
+        requires making { IsMaking call.now (H.test hook.old) pass.old attempt.old false }
+        requires may { MayCome call.now (H.test hook.old) (H.struck hook.old) (part_in pass.old).seat attempt.old event }
+        ensures later { IsLater self.now.table pass.old pass.new }
+        ensures leads { Leads call.now (H.test hook.old) (part_in pass.old) (part_in pass.new) attempt.old attempt.new result.0 }
+        ensures same { attempt.new.crossings.caller ≡ attempt.old.crossings.caller }
+        ensures test { H.test hook.new ≡ H.test hook.old }
+    {
+        let mut shared = self.turn.take(rt, pass);
+        in_order(&shared.core.core);
+        let came = act(alloc, &mut shared.core, hook, attempt, call, event);
+        let code = code_of(&shared.core.core);
+        self.turn.give(pass, shared);
+        (came, code)
+    }
+
+    /// Asks the fault injector at the next crossing of a kind, outside the turn, and strikes the call where it says so;
+    /// `None` exactly where the call goes on.
+    fn ask<H: Hook, R: Wait>(
+        &self,
+        rt: &R,
+        alloc: Global,
+        pass: &mut Pass<SharedCore<F, D>>,
+        hook: &mut H,
+        attempt: &mut Attempt,
+        call: &Call,
+        ticket: &Ticket,
+        kind: Kind,
+    ) -> Option<Came>
+        requires idle { IsIdle self.now.table pass.old }
+        requires making { IsMaking call.now (H.test hook.old) pass.old attempt.old false }
+        requires holds { HoldsTicket attempt.old.at ticket.now }
+        ensures unasked { IfNone result ((pass.new ≡ pass.old) × (attempt.new ≡ record attempt.old { crossings = counted attempt.old.crossings kind })) }
+        ensures later { IsLater self.now.table pass.old pass.new }
+        ensures leads { IfSome result (Leads call.now (H.test hook.old) (part_in pass.old) (part_in pass.new) attempt.old attempt.new) }
+        ensures same { attempt.new.crossings.caller ≡ attempt.old.crossings.caller }
+        ensures test { H.test hook.new ≡ H.test hook.old }
+    {
+        let mut passed = attempt.crossings;
+        let crossing = passed.next(kind);
+        match hook.cross(&crossing) {
+            Word::Go => {
+                attempt.crossings = passed;
+                None
+            }
+            Word::Fault => {
+                let event = Event::Fault(*ticket, crossing, passed);
+                let (came, _) = self.hold(rt, alloc, pass, hook, attempt, call, event);
+                Some(came)
+            }
+        }
+    }
+
+    /// The call enters; where it is inside, the fault injector is asked.
+    fn enter<H: Hook, R: Wait>(
+        &self,
+        rt: &R,
+        alloc: Global,
+        pass: &mut Pass<SharedCore<F, D>>,
+        hook: &mut H,
+        attempt: &mut Attempt,
+        call: &Call,
+    ) -> Came
+        requires idle { IsIdle self.now.table pass.old }
+        requires making { IsMaking call.now (H.test hook.old) pass.old attempt.old false }
+        requires outside { attempt.old.at ≡ at.Outside }
+        ensures later { IsLater self.now.table pass.old pass.new }
+        ensures leads { Leads call.now (H.test hook.old) (part_in pass.old) (part_in pass.new) attempt.old attempt.new result }
+        ensures same { attempt.new.crossings.caller ≡ attempt.old.crossings.caller }
+        ensures test { H.test hook.new ≡ H.test hook.old }
+    {
+        let (came, _) = self.hold(rt, alloc, pass, hook, attempt, call, Event::Enter);
+        match came {
+            Came::Inside(ticket) => {
+                match self.ask(rt, alloc, pass, hook, attempt, call, &ticket, Kind::Enter) {
+                    Some(came) => came,
+                    None => Came::On,
+                }
+            }
+            other => other,
+        }
+    }
+
+    /// The fault injector is asked, and blocks are gathered, or at block 0 the tables, and with them the file system's
+    /// code.
+    fn gather<H: Hook, R: Wait>(
+        &self,
+        rt: &R,
+        alloc: Global,
+        pass: &mut Pass<SharedCore<F, D>>,
+        hook: &mut H,
+        attempt: &mut Attempt,
+        call: &Call,
+        ticket: &Ticket,
+        need: Need,
+    ) -> (Came, Option<F>)
+        requires idle { IsIdle self.now.table pass.old }
+        requires making { IsMaking call.now (H.test hook.old) pass.old attempt.old false }
+        requires inside { attempt.old.at ≡ at.Inside ticket.now }
+        requires need { (need.first < 262144) × (1 ≤ need.count) × (need.count ≤ 32) }
+        ensures later { IsLater self.now.table pass.old pass.new }
+        ensures leads { Leads call.now (H.test hook.old) (part_in pass.old) (part_in pass.new) attempt.old attempt.new result.0 }
+        ensures same { attempt.new.crossings.caller ≡ attempt.old.crossings.caller }
+        ensures test { H.test hook.new ≡ H.test hook.old }
+    {
+        match self.ask(rt, alloc, pass, hook, attempt, call, ticket, Kind::Gather) {
+            Some(came) => return (came, None),
+            None => {}
+        }
+        let event = Event::Gather(*ticket, need);
+        let (came, code) = self.hold(rt, alloc, pass, hook, attempt, call, event);
+        (came, Some(code))
+    }
+
+    /// The fault injector is asked, unless it was at this finish, and the call finishes.
+    fn finish<H: Hook, R: Wait>(
+        &self,
+        rt: &R,
+        alloc: Global,
+        pass: &mut Pass<SharedCore<F, D>>,
+        hook: &mut H,
+        attempt: &mut Attempt,
+        call: &Call,
+        ticket: &Ticket,
+        ready: Ready,
+    ) -> Came
+        requires idle { IsIdle self.now.table pass.old }
+        requires making { IsMaking call.now (H.test hook.old) pass.old attempt.old false }
+        requires inside { attempt.old.at ≡ at.Inside ticket.now }
+        requires there { has attempt.old.pages 0 ≡ true }
+        requires ready { Performs attempt.old.pages ticket.now.caller call.now ticket.now.moment (performed.Ready ready) }
+        ensures later { IsLater self.now.table pass.old pass.new }
+        ensures leads { Leads call.now (H.test hook.old) (part_in pass.old) (part_in pass.new) attempt.old attempt.new result }
+        ensures same { attempt.new.crossings.caller ≡ attempt.old.crossings.caller }
+        ensures test { H.test hook.new ≡ H.test hook.old }
+    {
+        if !attempt.asked {
+            match self.ask(rt, alloc, pass, hook, attempt, call, ticket, Kind::Finish) {
+                Some(came) => return came,
+                None => {}
+            }
+            let event = Event::Finish(*ticket, ready);
+            return self.hold(rt, alloc, pass, hook, attempt, call, event).0;
+        }
+        let event = Event::Finish(*ticket, ready);
+        self.hold(rt, alloc, pass, hook, attempt, call, event).0
+    }
+
+    /// The fault injector is asked, and the call leaves.
+    fn leave<H: Hook, R: Wait>(
+        &self,
+        rt: &R,
+        alloc: Global,
+        pass: &mut Pass<SharedCore<F, D>>,
+        hook: &mut H,
+        attempt: &mut Attempt,
+        call: &Call,
+        ticket: &Ticket,
+    ) -> Came
+        requires idle { IsIdle self.now.table pass.old }
+        requires making { IsMaking call.now (H.test hook.old) pass.old attempt.old false }
+        requires logged { attempt.old.at ≡ at.Logged ticket.now }
+        ensures later { IsLater self.now.table pass.old pass.new }
+        ensures leads { Leads call.now (H.test hook.old) (part_in pass.old) (part_in pass.new) attempt.old attempt.new result }
+        ensures same { attempt.new.crossings.caller ≡ attempt.old.crossings.caller }
+        ensures test { H.test hook.new ≡ H.test hook.old }
+    {
+        match self.ask(rt, alloc, pass, hook, attempt, call, ticket, Kind::Leave) {
+            Some(came) => return came,
+            None => {}
+        }
+        let event = Event::Leave(*ticket);
+        self.hold(rt, alloc, pass, hook, attempt, call, event).0
+    }
+
+    /// The call, which is inside, is performed over what it gathered, outside the turn, and finishes, or it gathers what
+    /// is not there yet.
+    fn go_on<H: Hook, R: Wait>(
+        &self,
+        rt: &R,
+        alloc: Global,
+        pass: &mut Pass<SharedCore<F, D>>,
+        hook: &mut H,
+        attempt: &mut Attempt,
+        code: &mut Option<F>,
+        call: &Call,
+        ticket: &Ticket,
+    ) -> Came
+        requires idle { IsIdle self.now.table pass.old }
+        requires making { IsMaking call.now (H.test hook.old) pass.old attempt.old false }
+        requires inside { attempt.old.at ≡ at.Inside ticket.now }
+        ensures later { IsLater self.now.table pass.old pass.new }
+        ensures leads { Leads call.now (H.test hook.old) (part_in pass.old) (part_in pass.new) attempt.old attempt.new result }
+        ensures same { attempt.new.crossings.caller ≡ attempt.old.crossings.caller }
+        ensures test { H.test hook.new ≡ H.test hook.old }
+    {
+        if has_tables(&attempt.pages) {
+            if let Some(fs) = *code {
+                match perform(alloc, &fs, &attempt.pages, ticket, call) {
+                    Performed::Need(need) => {
+                        return self
+                            .gather(rt, alloc, pass, hook, attempt, call, ticket, need)
+                            .0;
+                    }
+                    Performed::NoMemory => return Came::NoMemory,
+                    Performed::Ready(ready) => {
+                        return self.finish(rt, alloc, pass, hook, attempt, call, ticket, ready);
+                    }
+                }
+            }
+        }
+        let tables = Need { first: 0, count: 1 };
+        let (came, gathered) = self.gather(rt, alloc, pass, hook, attempt, call, ticket, tables);
+        *code = gathered;
+        came
+    }
+
+    /// The next step of the caller's call, where it waits for a recovery a step of that.
+    pub(crate) fn step<H: Hook, R: Wait>(
+        &self,
+        rt: &R,
+        alloc: Global,
+        pass: &mut Pass<SharedCore<F, D>>,
+        hook: &mut H,
+        attempt: &mut Attempt,
+        code: &mut Option<F>,
+        shut: bool,
+        call: &Call,
+    ) -> Came
+        requires idle { IsIdle self.now.table pass.old }
+        requires making { IsMaking call.now (H.test hook.old) pass.old attempt.old shut }
+        ensures later { IsLater self.now.table pass.old pass.new }
+        ensures leads { Leads call.now (H.test hook.old) (part_in pass.old) (part_in pass.new) attempt.old attempt.new result }
+        ensures same { attempt.new.crossings.caller ≡ attempt.old.crossings.caller }
+        ensures test { H.test hook.new ≡ H.test hook.old }
+    {
+        if shut {
+            return self
+                .hold(rt, alloc, pass, hook, attempt, call, Event::Recover)
+                .0;
+        }
+        match attempt.at {
+            At::Outside => self.enter(rt, alloc, pass, hook, attempt, call),
+            At::Inside(ticket) => {
+                self.go_on(rt, alloc, pass, hook, attempt, code, call, &ticket)
+            }
+            At::Logged(ticket) => self.leave(rt, alloc, pass, hook, attempt, call, &ticket),
+        }
+    }
+
+    /// Ends the caller's call, which has no entry, where it began: it gets none.
+    pub(crate) fn give_up<R: Wait>(
+        &self,
+        rt: &R,
+        pass: &mut Pass<SharedCore<F, D>>,
+        attempt: &Attempt,
+    )
+        requires idle { IsIdle self.now.table pass.old }
+        requires waits { (part_in pass.old).seat.begun ≡ attempt.now.crossings.ordinal → IsWaiting (part_in pass.old).seat }
+        ensures later { IsLater self.now.table pass.old pass.new }
+        ensures quits { IsLeftOff attempt.now.crossings.ordinal (part_in pass.old) (part_in pass.new) }
+    {
+        if pass.begun() == attempt.crossings.ordinal {
+            let mut shared = self.turn.take(rt, pass);
+            shared.core.core.quit(pass.caller());
+            self.turn.give(pass, shared);
+        }
+    }
+}

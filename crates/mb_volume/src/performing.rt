@@ -1,0 +1,48 @@
+ghost use Rattle.std.specs.Prelude.{◌≡◌, ◌<◌, IfSome, length, true};
+ghost use Rattle.mb_core_spec.specs.Copies.{TableCopy};
+ghost use Rattle.mb_run.specs.Events.{IsAsked};
+ghost use Rattle.mb_run.specs.Pages.{HasTablesFor, Performs, has};
+
+use mb_callers::Pages;
+use mb_calls::Performed;
+use mb_iface::FileSys;
+use mb_kinds::{Call, Ticket};
+use std::alloc::Global;
+
+/// Performs the call of a ticket over its pages, which have the tables of all callers, with the file system's code.
+pub(crate) fn perform<F: FileSys>(
+    alloc: Global,
+    fs: &F,
+    pages: &Pages,
+    ticket: &Ticket,
+    call: &Call,
+) -> Performed
+    requires there { has pages.now 0 ≡ true }
+    requires declared { IfSome pages.now.tables (λ (given : TableCopy). ticket.now.caller < length given.sessions) }
+    ensures performs { Performs pages.now ticket.now.caller call.now ticket.now.moment result }
+    ensures asked { IsAsked pages.now result }
+{
+    let Some(sessions) = pages.sessions() else {
+        unreachable!()
+    };
+    let Some(opens) = pages.opens() else {
+        unreachable!()
+    };
+    mb_calls::perform(
+        alloc,
+        fs,
+        pages,
+        sessions.as_slice(),
+        opens,
+        ticket.caller,
+        call,
+        ticket.moment,
+    )
+}
+
+/// Whether the tables were gathered.
+pub(crate) fn has_tables(pages: &Pages) -> bool
+    ensures { result ≡ has pages.now 0 }
+{
+    pages.opens().is_some()
+}

@@ -1,0 +1,112 @@
+ghost use Rattle.std.specs.Prelude.{◌≡◌, ◌<◌, length, None, IfOk, IfErr, OnErr};
+ghost use Rattle.std.specs.List.{AllByRecursion};
+ghost use mathlib.Core.List.{IsPrefix};
+ghost use Rattle.mb_kinds.specs.Own.{own};
+ghost use Rattle.mb_run.specs.CoreSight.{sight_of};
+ghost use Rattle.mb_run.specs.Sights.{IsOrderly};
+ghost use Rattle.mb_turn.specs.Passes.{IsIdle, dealt};
+ghost use Rattle.mb_volume.specs.Called.{IsAnsweredWith, IsGivenUp};
+ghost use Rattle.mb_volume.specs.Parts.{stand_in};
+ghost use Rattle.mb_volume.specs.Passing.{IsLater, IsMaking, part_in, seen_by};
+
+use crate::events::Came;
+use crate::holds::in_order;
+use crate::shared::SharedCore;
+use mb_edge::{Disk, Hook, NoMemory};
+use mb_iface::FileSys;
+use mb_kinds::{Call, Reply};
+use mb_run::EventCore;
+use mb_turn::{Pass, Passes, Turn};
+use mb_volume_core::VolumeCore;
+use std::alloc::Global;
+use std::marker::Model;
+use std::sync::Wait;
+use std::thread;
+
+/// A volume that several callers use at once, each by its pass.
+pub struct Volume<F: FileSys, D: Disk> {
+    pub(crate) turn: Turn<SharedCore<F, D>>,
+}
+
+impl<F: FileSys, D: Disk> Model for Volume<F, D> {
+    ghost use Rattle.mb_turn.specs.Passes.{Room};
+
+    ghost Value = { Room };
+
+    ghost view = { λ v. v.turn };
+}
+
+impl<F: FileSys, D: Disk> Volume<F, D> {
+    /// Shares a core: one pass for each caller that it was begun for, in their order. Without memory the core comes back.
+    pub fn start(
+        alloc: Global,
+        core: VolumeCore<F, D>,
+    ) -> Result<(Volume<F, D>, Passes<SharedCore<F, D>>), VolumeCore<F, D>>
+        ensures callers { IfOk result (λ started. started.0.callers ≡ (sight_of core.core).config.callers) }
+        ensures passes { IfOk result (λ started. started.1.items ≡ dealt started.0.table (sight_of core.core).config.callers (record { core = core })) }
+        ensures core { IfErr result (λ back. back ≡ core) }
+    {
+        let callers = core.config().callers.as_slice().len() as u8;
+        match Turn::start(alloc, SharedCore { core }, callers) {
+            Ok((turn, passes)) => Ok((Volume { turn }, passes)),
+            Err(SharedCore { core }) => Err(core),
+        }
+    }
+
+    /// Makes one call of the pass's caller, which has none in flight and may begin one more. It may wait for other
+    /// callers. The reply stands in the core's history. After `NoMemory` the call has no entry there.
+    pub fn call<H: Hook, R: Wait>(
+        &self,
+        rt: &R,
+        alloc: Global,
+        pass: &mut Pass<SharedCore<F, D>>,
+        hook: &mut H,
+        call: &Call,
+    ) -> Result<Reply, NoMemory>
+        requires idle { IsIdle self.now.table pass.old }
+        requires free { (part_in pass.old).seat.flight ≡ None }
+        requires most { (part_in pass.old).seat.begun < (part_in pass.old).config.most }
+        ensures later { IsLater self.now.table pass.old pass.new }
+        ensures ok { IfOk result (IsAnsweredWith call.now (H.test hook.old) pass.old.caller (part_in pass.old) (part_in pass.new)) }
+        ensures err { OnErr result (IsGivenUp (H.test hook.old) pass.old.caller (part_in pass.old) (part_in pass.new)) }
+        ensures test { H.test hook.new ≡ H.test hook.old }
+    {
+        let mut attempt = self.begin(rt, alloc, pass);
+        let mut code = None;
+        let mut shut = false;
+        for _ in rt.forever() {
+            match self.step(rt, alloc, pass, hook, &mut attempt, &mut code, shut, call) {
+                Came::Answered(reply) => return Ok(reply),
+                Came::NoMemory => {
+                    self.give_up(rt, pass, &attempt);
+                    return Err(NoMemory);
+                }
+                Came::Shut => shut = true,
+                Came::Busy => {
+                    shut = false;
+                    thread::yield_now();
+                }
+                Came::Inside(_) => shut = false,
+                Came::On => shut = false,
+            }
+        }
+        unreachable!()
+    }
+
+    /// Ends the sharing, with all passes, and gives the core back.
+    pub fn close(self, passes: Passes<SharedCore<F, D>>) -> VolumeCore<F, D>
+        requires all { length passes.items ≡ self.callers }
+        requires idle { AllByRecursion (IsIdle self.table) passes.items }
+        ensures first { AllByRecursion (λ pass. result.core.first ≡ pass.value.core.core.first) passes.items }
+        ensures config { AllByRecursion (λ pass. result.core.config ≡ pass.value.core.core.config) passes.items }
+        ensures seen { AllByRecursion (λ pass. IsPrefix (seen_by pass).history (sight_of result.core).history) passes.items }
+        ensures mine { AllByRecursion (λ pass. own (sight_of result.core).history pass.caller ≡ (part_in pass).entries) passes.items }
+        ensures stand { AllByRecursion (λ pass. stand_in (sight_of result.core) pass.caller ≡ stand_in (seen_by pass) pass.caller) passes.items }
+        ensures right { IsOrderly (sight_of result.core) }
+    {
+        let Volume { turn } = self;
+        let SharedCore { core } = turn.close(passes);
+        in_order(&core.core);
+        core
+    }
+}
