@@ -71,6 +71,11 @@ command_of (verb ∷ words) =
     else if bytes_eq verb (codes "soak") then soak_of words
     else None
 
+-- a `run` whose callers have a thread each
+abbrev pub is_threaded : Option Command → Bool
+is_threaded (Some (Run threads)) = threads
+is_threaded command = false
+
 -- the second word, or the third where the second is `--threads`: of a command its image
 abbrev pub image_in : List (List ℕ) → List ℕ
 image_in (verb ∷ image ∷ []) = image

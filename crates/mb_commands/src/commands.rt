@@ -1,5 +1,5 @@
 ghost use Rattle.std.specs.Prelude.{◌≡◌, bytes_eq, codes};
-ghost use Rattle.mb_commands.specs.Words.{check_of, command_of, image_in, is_image_name, mkfs_of, mkfs_with, run_of, soak_of, soak_with, threads_of};
+ghost use Rattle.mb_commands.specs.Words.{check_of, command_of, image_in, is_image_name, is_threaded, mkfs_of, mkfs_with, run_of, soak_of, soak_with, threads_of};
 
 use crate::numbers::number_of;
 use mb_host::{Word8, Words};
@@ -52,6 +52,16 @@ pub fn command_of(words: &Words) -> Option<Command>
         return soak_of(rest);
     }
     None
+}
+
+/// Whether the words are a `run` with `--threads`.
+pub fn asks_threads(words: &Words) -> bool
+    ensures { result ≡ is_threaded (command_of words.now) }
+{
+    match command_of(words) {
+        Some(Command::Run { threads }) => threads,
+        _ => false,
+    }
 }
 
 /// The word that names a command's image: the second one, or the third where the second is

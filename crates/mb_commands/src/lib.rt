@@ -13,7 +13,7 @@ mod numbers;
 #[cfg(test)]
 mod tests;
 
-pub use commands::{Command, command_of, image_name};
+pub use commands::{Command, asks_threads, command_of, image_name};
 pub use laws::worked_words;
 pub use lines::{Line, made_line, refused_line, sound_line};
 pub use making::{Made, make_volume};

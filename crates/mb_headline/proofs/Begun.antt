@@ -1,5 +1,5 @@
 -- A core that begins over a disk, as the driver sees it.
-use Rattle.std.proofs.Common.{◌≡◌, ℕ, zero, suc, Option, None, length, slice_get, refl, ap, sym, subst, ◌∙◌, arith}
+use Rattle.std.proofs.Common.{◌≡◌, ℕ, zero, suc, Option, None, Result, Ok, Err, IfOk, length, slice_get, refl, ap, sym, subst, ◌∙◌, arith}
 use Rattle.std.specs.Prelude.{replicate}
 use Rattle.std.specs.FinMap as fin
 use Rattle.std.proofs.lemmas.List.{length-map}
@@ -21,7 +21,7 @@ use Rattle.mb_run.specs.Drives.{IsBegun}
 use Rattle.mb_run.specs.Sights.{IsOrderly}
 use Rattle.mb_run.proofs.Completing.{calls_few}
 use Rattle.mb_headline.specs.Headline.{IsConfigOf}
-use Rattle.mb_headline.specs.Laws.{MayBeginAll}
+use Rattle.mb_headline.specs.Laws.{IsBegunFor, MayBeginAll}
 use Rattle.mb_headline.proofs.Reading.{no_some}
 
 idle_seat : (n caller : ℕ) → seat_of (slice_get (replicate n idle) caller) ≡ record { begun = 0; flight = None }
@@ -73,3 +73,12 @@ pub begins_for : {F D : Type 0} (told : D → Option Image) (faults : D → ℕ)
 begins_for {F = F} {D = D} told faults fs disk job config core over right is may =
     let good : IsConfig config = subst IsConfig (ap (λ (c : CoreState F D). c.config) over.begun) right.orderly.bounds in
     subst (λ (c : CoreState F D). IsBegun job (sight_of c)) (sym over.begun) (begun_for fs core.first config core.cache fin.empty core.journal.room good job is may)
+
+-- where it begins at all
+pub begins_if : {F D R : Type 0} (told : D → Option Image) (faults : D → ℕ) (fs : F) (disk : D) (job : Job) (config : Config) (found : Result (CoreState F D) R)
+    → IfOk found (IsBegunOver told faults fs disk config) → IfOk found (Right told faults) → IsConfigOf job config → MayBeginAll job config → IfOk found (λ core. IsBegun job (sight_of core))
+begins_if told faults fs disk job config (Ok core) over right is may = begins_for told faults fs disk job config core over right is may
+begins_if told faults fs disk job config (Err why) over right is may = tt
+
+pub runs_begun : {F D : Type 0} (told : D → Option Image) (faults : D → ℕ) (fs : F) (job : Job) (disk : D) (made : CoreState F D) → IsBegunFor told faults fs job disk made → made.stage ≡ stage.Running
+runs_begun {F} {D} told faults fs job disk made begun = ap (λ (state : CoreState F D). state.stage) begun.over.begun

@@ -88,7 +88,7 @@ module _ {F D : Type 0} (fs : F) (told : D → Option Image) (faults : D → ℕ
 
   pub path_fewer : Right told faults driven → driven.first ≡ begun.first → Rose (faults driven.cache.disk) (faults ended.cache.disk) → FewerDevices (faults disk) (faults ended.cache.disk) ended.journal.history
   path_fewer right first rose low =
-      let scanned : faults disk ≤ faults driven.first = subst (λ d. faults disk ≤ faults d) (sym first) path.over.scanned in
+      let scanned : faults disk ≤ faults driven.first = subst (λ d. faults disk ≤ faults d) (sym first) path.over.over.scanned in
       let same : count_by (λ (entry : Entry). is_device entry.reply) ended.journal.history ≡ count_by (λ (entry : Entry). is_device entry.reply) driven.journal.history =
       ap (count_by (λ (entry : Entry). is_device entry.reply)) (path_history fs told faults job disk begun driven ended path) in
       let before = rose_past (count_by (λ (entry : Entry). is_device entry.reply) driven.journal.history) (faults driven.first) (faults driven.cache.disk) (faults ended.cache.disk) right.devices rose low in

@@ -7,3 +7,4 @@ pub mod Fitting
 pub mod Begun
 pub mod Running
 pub mod Ended
+pub mod Orders

@@ -4,7 +4,6 @@ use Rattle.std.specs.List.{AllByRecursion}
 use Rattle.mb_core_spec.specs.Faults.{FewDevices, MayNumber, Says}
 use Rattle.mb_core_spec.specs.State.{CoreState}
 use Rattle.mb_core_spec.specs.declared.stages.Stage.{Stage}
-use Rattle.mb_jobs.specs.declared.jobs.Caller.{Caller}
 use Rattle.mb_jobs.specs.declared.jobs.Job.{Job}
 use Rattle.mb_kinds.specs.Image.{Image}
 use Rattle.mb_kinds.specs.declared.entries.Entry.{Entry}
@@ -13,15 +12,14 @@ use Rattle.mb_kinds.specs.declared.replies.Reply.{Reply}
 use Rattle.mb_kinds.specs.declared.replies.Reply.TheVariants as reply
 use Rattle.mb_plan.specs.Fires.{fires}
 use Rattle.mb_plan.specs.declared.rules.Rule.{Rule}
-use Rattle.mb_run.specs.Drives.{HasEachMoment, IsLinedUp, RisesByOrder}
-use Rattle.mb_run.specs.Letters.{AreLetters, letters_of}
+use Rattle.mb_run.specs.Drives.{HasEachMoment}
 use Rattle.mb_run.specs.Recovering.{crossing_of}
 use Rattle.mb_run.specs.Runs.{AreDistinct, HasFailed, HasRecords, NamesTwo}
-use Rattle.mb_run.specs.Served.{AreApart, AreSound, IsApart, calls_in}
+use Rattle.mb_run.specs.Served.{AreApart, AreSoundBy, IsApart, calls_in}
 use Rattle.mb_tree.specs.History.{Legal}
 use Rattle.mb_tree.specs.Opening.{opening}
 use Rattle.mb_tree.specs.declared.trees.Tree.{Tree}
-use Rattle.mb_headline.specs.Headline.{HasHistory, HasOwnCalls, IsConfigOf, IsRun, RiseAsOrdered, opened}
+use Rattle.mb_headline.specs.Headline.{HasHistory, HasOwnCalls, IsConfigOf, IsRun, opened}
 use Rattle.mb_headline.specs.Laws.{IsPath}
 use Rattle.mb_headline.proofs.Planned.{IsEarly, fires_early}
 
@@ -81,21 +79,14 @@ all_failed : (records : List FaultRecord) (limit : ℕ) (now : Stage) (history :
 all_failed records limit now [] few says = tt
 all_failed records limit now (entry ∷ history) few says = (says_failed records limit now entry.caller entry.ordinal entry.reply few says.0, all_failed records limit now history few says.1)
 
--- ---- the order
-
--- the letters of a job are as an order wants them
-rise_as_ordered : (order : Option (List ℕ)) (callers : List Caller) (history : List Entry) → AreLetters (letters_of callers) → RisesByOrder order callers history → RiseAsOrdered order callers history
-rise_as_ordered None callers history letters rises = tt
-rise_as_ordered (Some order) callers history letters rises = rises letters
-
 -- ---- the path
 
 module _ {F D : Type 0} (fs : F) (told : D → Option Image) (faults : D → ℕ) (job : Job) (disk : D) (begun driven ended : CoreState F D) (path : IsPath fs told faults job disk begun driven ended) where
   pub path_first : told ended.first ≡ told disk
-  path_first = ap told path.first ∙ path.over.first
+  path_first = ap told path.first ∙ path.over.over.first
 
   pub path_config : IsConfigOf job ended.config
-  path_config = subst (IsConfigOf job) (sym (path.same_config ∙ ap (λ (core : CoreState F D). core.config) path.over.begun)) path.config_is
+  path_config = subst (IsConfigOf job) (sym (path.same_config ∙ ap (λ (core : CoreState F D). core.config) path.over.over.begun)) path.over.config_is
 
   pub path_opened : (tree : Tree) → opening tree ended.config.callers ≡ opened job tree
   path_opened tree = ap (opening tree) path_config.callers
@@ -108,7 +99,7 @@ module _ {F D : Type 0} (fs : F) (told : D → Option Image) (faults : D → ℕ
   path_records = path.keeps.records
 
   pub path_scanned : faults disk ≤ faults ended.first
-  path_scanned = subst (λ d. faults disk ≤ faults d) (sym path.first) path.over.scanned
+  path_scanned = subst (λ d. faults disk ≤ faults d) (sym path.first) path.over.over.scanned
 
   path_legal : HasHistory told job disk ended.journal.history
   path_legal image tree is volume =
@@ -119,8 +110,8 @@ module _ {F D : Type 0} (fs : F) (told : D → Option Image) (faults : D → ℕ
   path_calls : HasOwnCalls job ended.journal.history
   path_calls caller low = ap (λ h. calls_in h caller) path_history ∙ path.drives.own_calls caller low
 
-  path_sound : AreSound (Some (fires job.plan)) ended.journal.records
-  path_sound = subst (AreSound (Some (fires job.plan))) (sym path_records) path.drives.sound
+  path_sound : AreSoundBy (λ (caller : ℕ). Some (fires job.plan)) ended.journal.records
+  path_sound = subst (AreSoundBy (λ (caller : ℕ). Some (fires job.plan))) (sym path_records) path.drives.sound
 
   path_says : AllByRecursion (λ (entry : Entry). Says ended.journal.records job.limit ended.stage entry.caller entry.ordinal entry.reply) ended.journal.history
   path_says = subst (λ n. AllByRecursion (λ (entry : Entry). Says ended.journal.records n ended.stage entry.caller entry.ordinal entry.reply) ended.journal.history) path_config.limit path.right.orderly.numbered.says
@@ -140,19 +131,14 @@ module _ {F D : Type 0} (fs : F) (told : D → Option Image) (faults : D → ℕ
       let count = path.right.devices low in
       omega (arith, count, path_scanned)
 
-  path_firsts : AreLetters (letters_of job.callers) → RiseAsOrdered job.order job.callers ended.journal.history
-  path_firsts letters = subst (RiseAsOrdered job.order job.callers) (sym path_history) (rise_as_ordered job.order job.callers driven.journal.history letters path.drives.firsts)
-
-  pub path_run : AllByRecursion IsEarly job.plan → AreLetters (letters_of job.callers) → IsRun told faults job disk ended
-  path_run early letters = record {
+  pub path_run : AllByRecursion IsEarly job.plan → IsRun told faults job disk ended
+  path_run early = record {
     right = path.right;
     first = path_first;
     config = path_config;
     legal = path_legal;
     own_calls = path_calls;
     moments = subst (HasEachMoment job.start) (sym path_history) path.drives.moments;
-    lined = subst (IsLinedUp job.order job.calls job.start) (sym path_history) path.drives.lined;
-    firsts = path_firsts letters;
     records = path_recorded early;
     failures = all_failed ended.journal.records job.limit ended.stage ended.journal.history path_few path_says;
     devices = path_devices;

@@ -11,9 +11,11 @@ use Rattle.mb_jobs.specs.declared.jobs.Caller.{Caller}
 use Rattle.mb_jobs.specs.declared.jobs.Job.{Job}
 use Rattle.mb_kinds.specs.Image.{Image}
 use Rattle.mb_kinds.specs.declared.entries.Entry.{Entry}
+use Rattle.mb_kinds.specs.declared.faults.FaultRecord.{FaultRecord}
 use Rattle.mb_run.specs.Drives.{HasEachMoment, IsLinedUp}
 use Rattle.mb_run.specs.Letters.{letters_of}
-use Rattle.mb_run.specs.Runs.{FirstsRise, HasFailed, HasRecords}
+use Rattle.mb_plan.specs.declared.rules.Rule.{Rule}
+use Rattle.mb_run.specs.Runs.{FirstsRise, HasFailed, HasRecords, HasTakenFaults}
 use Rattle.mb_run.specs.Served.{calls_in, calls_of}
 use Rattle.mb_tree.specs.History.{Legal, after_first}
 use Rattle.mb_tree.specs.Opening.{opening}
@@ -55,10 +57,9 @@ abbrev pub RiseAsOrdered : Option (List ℕ) → List Caller → List Entry → 
 RiseAsOrdered None callers history = Unit {0}
 RiseAsOrdered (Some order) callers history = FirstsRise order (letters_of callers) history
 
--- a job that was run over a disk: the core began over it for the job; its history is a legal one, in which each caller's calls
--- stand once, in its order, each at one of the moments after the start; by an order the first calls begin as the callers'
--- letters first stand in it; its fault records are of faults of the plan; and the disk ended at most as many calls as it had
--- faults
+-- a job that was run over a disk, however its callers were run: the core began over it for the job; its history is a legal one,
+-- in which each caller's calls stand once, in its order, each at one of the moments after the start; its fault records are of
+-- faults of the plan; and the disk ended at most as many calls as it had faults
 pub record IsRun {F D : Type 0} (told : D → Option Image) (faults : D → ℕ) (job : Job) (disk : D) (core : CoreState F D) : Type 0 where
   pub right : Right told faults core
   pub first : told core.first ≡ told disk
@@ -66,11 +67,21 @@ pub record IsRun {F D : Type 0} (told : D → Option Image) (faults : D → ℕ)
   pub legal : HasHistory told job disk core.journal.history
   pub own_calls : HasOwnCalls job core.journal.history
   pub moments : HasEachMoment job.start core.journal.history
-  pub lined : IsLinedUp job.order job.calls job.start core.journal.history
-  pub firsts : RiseAsOrdered job.order job.callers core.journal.history
   pub records : HasRecords job.plan core.journal.history core.journal.records
   pub failures : AllByRecursion (λ (entry : Entry). HasFailed job.limit core.journal.records entry.reply) core.journal.history
   pub devices : FewDevices (faults disk) (faults core.cache.disk) core.journal.history
+
+-- in list order the faults of the plan are taken: a call with a plain reply met each that a rule has at its first fault points
+abbrev pub TakesPlanned : Option (List ℕ) → List Rule → List Entry → List FaultRecord → Type 0
+TakesPlanned None plan history records = HasTakenFaults plan history records
+TakesPlanned (Some order) plan history records = Unit {0}
+
+-- where one thread ran the job: without an order its calls stand in the job's order, entry by entry and moment by moment, and
+-- the faults of its plan were taken; by an order the first calls begin as the callers' letters first stand in it
+pub record KeepsOrder (job : Job) (history : List Entry) (records : List FaultRecord) : Type 0 where
+  pub lined : IsLinedUp job.order job.calls job.start history
+  pub firsts : RiseAsOrdered job.order job.callers history
+  pub taken : TakesPlanned job.order job.plan history records
 
 -- ---- the end of a run
 

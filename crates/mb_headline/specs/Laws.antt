@@ -1,19 +1,22 @@
 -- What a core that was begun for a job, driven and settled comes to.
-use Rattle.std.specs.Prelude.{ℕ, ◌≤◌, ◌≡◌, ◌⊎◌, Option, Some, Ok, List, length}
+use Rattle.std.specs.Prelude.{ℕ, ◌≤◌, ◌≡◌, ◌⊎◌, Bool, Option, Some, Ok, List, length}
 use Rattle.mb_core_events.specs.Beginning.{IsBegunOver}
 use Rattle.mb_core_spec.specs.Right.{Right}
 use Rattle.mb_core_spec.specs.State.{CoreState}
 use Rattle.mb_core_spec.specs.Bounds.{IsConfig}
 use Rattle.mb_edge.specs.Causes.{Rose}
+use Rattle.mb_edge.specs.declared.crossings.Crossing.{Crossing}
 use Rattle.mb_core_spec.specs.declared.config.Config.{Config}
+use Rattle.mb_core_spec.specs.declared.stages.Stage.TheVariants as stage
 use Rattle.mb_jobs.specs.Job.{job_in}
 use Rattle.mb_jobs.specs.declared.jobs.Job.{Job}
 use Rattle.mb_kinds.specs.Image.{Image}
 use Rattle.mb_plan.specs.Fires.{fires}
 use Rattle.mb_run.specs.CoreSight.{sight_of}
-use Rattle.mb_run.specs.Drives.{IsBegun, IsDriven, IsRunnable}
+use Rattle.mb_run.specs.Drives.{IsBegun, IsDriven, IsDrivenApart, IsRunnable}
 use Rattle.mb_run.specs.Settling.{IsSettled, Keeps}
-use Rattle.mb_headline.specs.Headline.{FewerDevices, IsConfigOf, IsDone, IsGivenUp, IsRun, LeavesImage}
+use Rattle.mb_run.specs.Sights.{Sight}
+use Rattle.mb_headline.specs.Headline.{FewerDevices, IsConfigOf, IsDone, IsGivenUp, IsRun, KeepsOrder, LeavesImage}
 
 -- each caller may begin all its calls
 abbrev pub MayBeginAll : Job → Config → Type 0
@@ -32,12 +35,29 @@ abbrev pub BeginsForJob : (F D : Type 0) → (D → Option Image) → (D → ℕ
 BeginsForJob F D told faults = (fs : F) (disk : D) (job : Job) (config : Config) (core : CoreState F D)
     → IsBegunOver told faults fs disk config core → Right told faults core → IsConfigOf job config → MayBeginAll job config → IsBegun job (sight_of core)
 
--- a core that was begun over a disk for a job, the core that the driver left, and the core at the end
-pub record IsPath {F D : Type 0} (fs : F) (told : D → Option Image) (faults : D → ℕ) (job : Job) (disk : D) (begun driven ended : CoreState F D) : Type 0 where
+-- a core that was begun over a disk with what a job asks for
+pub record IsBegunFor {F D : Type 0} (told : D → Option Image) (faults : D → ℕ) (fs : F) (job : Job) (disk : D) (core : CoreState F D) : Type 0 where
   pub config : Config
-  pub over : IsBegunOver told faults fs disk config begun
+  pub over : IsBegunOver told faults fs disk config core
   pub config_is : IsConfigOf job config
-  pub drives : IsDriven job (Some (fires job.plan)) (sight_of begun) (sight_of driven)
+
+-- what one thread leaves of a job is what any driver of its callers leaves; each caller's fault injector is that thread's
+abbrev pub DrivesApart : Type 0
+DrivesApart = (job : Job) (test : Option (Crossing → Bool)) (old new : Sight) → IsDriven job test old new → IsDrivenApart job (λ (caller : ℕ). test) old new
+
+-- what one thread leaves of a job that a text writes keeps the job's order, and the faults of its plan were taken
+abbrev pub DrivesKeepOrder : Type 0
+DrivesKeepOrder = (bytes : List ℕ) (job : Job) (old new : Sight)
+    → job_in bytes ≡ Ok job → old.stage ≡ stage.Running → IsDriven job (Some (fires job.plan)) old new → KeepsOrder job new.history new.records
+
+-- a core that was begun runs
+abbrev pub BegunRuns : (F D : Type 0) → (D → Option Image) → (D → ℕ) → Type 0
+BegunRuns F D told faults = (fs : F) (job : Job) (disk : D) (core : CoreState F D) → IsBegunFor told faults fs job disk core → core.stage ≡ stage.Running
+
+-- a core that was begun over a disk for a job, the core that a driver of its callers left, and the core at the end
+pub record IsPath {F D : Type 0} (fs : F) (told : D → Option Image) (faults : D → ℕ) (job : Job) (disk : D) (begun driven ended : CoreState F D) : Type 0 where
+  pub over : IsBegunFor told faults fs job disk begun
+  pub drives : IsDrivenApart job (λ (caller : ℕ). Some (fires job.plan)) (sight_of begun) (sight_of driven)
   pub first : ended.first ≡ begun.first
   pub same_config : ended.config ≡ begun.config
   pub keeps : Keeps (sight_of driven) (sight_of ended)

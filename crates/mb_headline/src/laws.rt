@@ -1,4 +1,4 @@
-ghost use Rattle.mb_headline.specs.Laws.{BeginsForJob, JobsAreFit, PathsAreRuns, PathsEnd, PathsFail};
+ghost use Rattle.mb_headline.specs.Laws.{BeginsForJob, BegunRuns, DrivesApart, DrivesKeepOrder, JobsAreFit, PathsAreRuns, PathsEnd, PathsFail};
 
 use mb_edge::Disk;
 
@@ -12,7 +12,23 @@ pub fn begins_for_job<F, D: Disk>()
     ensures { BeginsForJob F D D.told D.faults }
 {}
 
-/// What the driver leaves of such a core, and the end of a run after it, is a run of the job: one legal history, in which each
+/// What the driver of `mb_run` leaves is what any driver of a job's callers leaves, whichever of them it runs first.
+pub fn drives_apart()
+    ensures { DrivesApart }
+{}
+
+/// What that driver leaves keeps the job's order: that of its list, or that of its `order` as far as the callers' first calls go.
+/// In list order the faults of the plan were taken.
+pub fn drives_keep_order()
+    ensures { DrivesKeepOrder }
+{}
+
+/// A core that was begun for a job runs.
+pub fn begun_runs<F, D: Disk>()
+    ensures { BegunRuns F D D.told D.faults }
+{}
+
+/// What any driver leaves of such a core, and the end of a run after it, is a run of the job: one legal history, in which each
 /// caller's calls stand once, in its order, and the fault records of the plan.
 pub fn paths_are_runs<F, D: Disk>()
     ensures { PathsAreRuns F D D.told D.faults }

@@ -1,5 +1,5 @@
 -- Which ends a run can have.
-use Rattle.std.proofs.Common.{List, ℕ, ◌+◌, ◌≤◌, ◌≡◌, ◌≢◌, ◌⊎◌, inl, inr, take, ap, arith, sym, subst, ◌∙◌, Option, Some, Result, Ok, refl, IfSome}
+use Rattle.std.proofs.Common.{Bool, List, ℕ, ◌+◌, ◌≤◌, ◌≡◌, ◌≢◌, ◌⊎◌, inl, inr, take, ap, arith, sym, subst, ◌∙◌, Option, Some, Result, Ok, refl, IfSome}
 use Rattle.mb_check.specs.Whole.{IsUnsound}
 use Rattle.mb_commands.specs.declared.commands.Command.{Command}
 use Rattle.mb_jobs.specs.Job.{job_in}
@@ -29,22 +29,22 @@ IsLeftOver status = (status ≡ 0) ⊎ (status ≡ 4) ⊎ (status ≡ 6) ⊎ (st
 told_is : {told : Option Image} {image : Image} (Fact : Image → Type 0) → told ≡ Some image → IfSome told Fact → Fact image
 told_is Fact is fact = subst (λ (t : Option Image). IfSome t Fact) is fact
 
-left_over : {D : Type 0} (told : D → Option Image) (faults : D → ℕ) (bytes : List ℕ) (disk : D) (image : Image) (tree : Tree) (job : Job) (held : Held D) (outcome : Outcome)
-    → ComesOfRunWords told faults (Some bytes) disk held outcome → job_in (take 4194305 bytes) ≡ Ok job → told disk ≡ Some image → IsVolume image tree → IsLeftOver (status_of outcome)
-left_over told faults bytes disk image tree job held WordsRefused is good tells volume = absurd is
-left_over told faults bytes disk image tree job held CommandNotBuilt is good tells volume = absurd is
-left_over told faults bytes disk image tree job held (Made line) is good tells volume = absurd is
-left_over told faults bytes disk image tree job held (Checked line) is good tells volume = absurd is
-left_over told faults bytes disk image tree job held InputFault is good tells volume = inr (inr (inr (inr refl)))
-left_over told faults bytes disk image tree job held (JobRefused line) is good tells volume =
+left_over : {D : Type 0} (told : D → Option Image) (faults : D → ℕ) (threads : Bool) (bytes : List ℕ) (disk : D) (image : Image) (tree : Tree) (job : Job) (held : Held D) (outcome : Outcome)
+    → ComesOfRunWords told faults threads (Some bytes) disk held outcome → job_in (take 4194305 bytes) ≡ Ok job → told disk ≡ Some image → IsVolume image tree → IsLeftOver (status_of outcome)
+left_over told faults threads bytes disk image tree job held WordsRefused is good tells volume = absurd is
+left_over told faults threads bytes disk image tree job held CommandNotBuilt is good tells volume = absurd is
+left_over told faults threads bytes disk image tree job held (Made line) is good tells volume = absurd is
+left_over told faults threads bytes disk image tree job held (Checked line) is good tells volume = absurd is
+left_over told faults threads bytes disk image tree job held InputFault is good tells volume = inr (inr (inr (inr refl)))
+left_over told faults threads bytes disk image tree job held (JobRefused line) is good tells volume =
     absurd (subst (λ (found : Result Job JobFault). SaysWhy found line) good (subst (λ (b : List ℕ). SaysWhy (job_in b) line) is.1.first is.1.fact))
-left_over told faults bytes disk image tree job held (Unsound line) is good tells volume =
+left_over told faults threads bytes disk image tree job held (Unsound line) is good tells volume =
     absurd ((told_is (λ image. IsUnsound image is.fact.over.1.block is.fact.over.1.rule) tells is.fact.over.1.unsound).no_volume tree volume)
-left_over told faults bytes disk image tree job held DiskFault is good tells volume = inr (inr (inr (inl refl)))
-left_over told faults bytes disk image tree job held OutOfMemory is good tells volume = inr (inr (inl refl))
-left_over told faults bytes disk image tree job held (Unsettled text) is good tells volume = inr (inr (inr (inl refl)))
-left_over told faults bytes disk image tree job held (GivenUp text) is good tells volume = inr (inl refl)
-left_over told faults bytes disk image tree job held (Ran text) is good tells volume = inl refl
+left_over told faults threads bytes disk image tree job held DiskFault is good tells volume = inr (inr (inr (inl refl)))
+left_over told faults threads bytes disk image tree job held OutOfMemory is good tells volume = inr (inr (inl refl))
+left_over told faults threads bytes disk image tree job held (Unsettled text) is good tells volume = inr (inr (inr (inl refl)))
+left_over told faults threads bytes disk image tree job held (GivenUp text) is good tells volume = inr (inl refl)
+left_over told faults threads bytes disk image tree job held (Ran text) is good tells volume = inl refl
 
 settle : (status left : ℕ) → (status ≡ left) ⊎ (status ≡ 7) → IsLeftOver left → status ≢ 5 → status ≢ 7 → status ≢ 8 → (status ≡ 0) ⊎ (status ≡ 4) ⊎ (status ≡ 6)
 settle status left ended is no_disk no_output no_input =
@@ -74,15 +74,15 @@ ended_at ended =
 
 pub runs_complete : {D : Type 0} (told : D → Option Image) (faults : D → ℕ) → RunsComplete told faults
 runs_complete told faults words bytes disk job held old new status ended smooth =
-    settle status (status_of ended.outcome) (ended_at ended.printed.ended) (left_over told faults bytes disk smooth.image smooth.tree job held ended.outcome
+    settle status (status_of ended.outcome) (ended_at ended.printed.ended) (left_over told faults smooth.threads bytes disk smooth.image smooth.tree job held ended.outcome
     (subst (λ (c : Option Command). ComesOfCommand told faults c (Some bytes) disk held ended.outcome) smooth.command ended.is) smooth.read smooth.tells smooth.volume)
     smooth.disk_works smooth.output_works smooth.input_works
 
 -- a volume that was given up recorded more faults than the plan has times
-given_up_over : {D : Type 0} (told : D → Option Image) (faults : D → ℕ) (job : Job) (disk : D) (text : List ℕ) (given : Held D) → FiresAtMost
-    → HoldsCore given (IsRunToFailure told faults job disk text) → job.limit + 1 ≤ sum_by (λ (rule : Rule). rule.times) job.plan
-given_up_over told faults job disk text (held.Disk back) law is = absurd is
-given_up_over told faults job disk text (held.Core core) law is =
+given_up_over : {D : Type 0} (told : D → Option Image) (faults : D → ℕ) (threads : Bool) (job : Job) (disk : D) (text : List ℕ) (given : Held D) → FiresAtMost
+    → HoldsCore given (IsRunToFailure told faults threads job disk text) → job.limit + 1 ≤ sum_by (λ (rule : Rule). rule.times) job.plan
+given_up_over told faults threads job disk text (held.Disk back) law is = absurd is
+given_up_over told faults threads job disk text (held.Core core) law is =
     let few = few_records job.plan core.journal.records law is.run.records.planned is.run.records.distinct in
     omega (arith, few, is.given_up.many)
 
@@ -93,28 +93,28 @@ same_ok one other same = cc
 same_job : (bytes read : List ℕ) (one other : Job) → read ≡ take 4194305 bytes → job_in read ≡ Ok one → job_in (take 4194305 bytes) ≡ Ok other → one ≡ other
 same_job bytes read one other first gives good = same_ok one other (sym gives ∙ ap job_in first ∙ good)
 
-no_failure : {D : Type 0} (told : D → Option Image) (faults : D → ℕ) (bytes : List ℕ) (disk : D) (job : Job) (given : Held D) (text : List ℕ) → FiresAtMost
-    → ComesOfRunWords told faults (Some bytes) disk given (GivenUp text) → job_in (take 4194305 bytes) ≡ Ok job → sum_by (λ (rule : Rule). rule.times) job.plan ≤ job.limit → ⊥
-no_failure told faults bytes disk job given text law is good survives =
-    let over = given_up_over told faults is.fact.job disk text given law is.fact.over.1 in
+no_failure : {D : Type 0} (told : D → Option Image) (faults : D → ℕ) (threads : Bool) (bytes : List ℕ) (disk : D) (job : Job) (given : Held D) (text : List ℕ) → FiresAtMost
+    → ComesOfRunWords told faults threads (Some bytes) disk given (GivenUp text) → job_in (take 4194305 bytes) ≡ Ok job → sum_by (λ (rule : Rule). rule.times) job.plan ≤ job.limit → ⊥
+no_failure told faults threads bytes disk job given text law is good survives =
+    let over = given_up_over told faults threads is.fact.job disk text given law is.fact.over.1 in
     let same = same_job bytes is.bytes is.fact.job job is.first is.fact.read good in
     let short = subst (λ (j : Job). j.limit + 1 ≤ sum_by (λ (rule : Rule). rule.times) j.plan) same over in
     omega (arith, short, survives)
 
-no_four : {D : Type 0} (told : D → Option Image) (faults : D → ℕ) (bytes : List ℕ) (disk : D) (job : Job) (given : Held D) (outcome : Outcome) → FiresAtMost
-    → ComesOfRunWords told faults (Some bytes) disk given outcome → job_in (take 4194305 bytes) ≡ Ok job → sum_by (λ (rule : Rule). rule.times) job.plan ≤ job.limit → status_of outcome ≢ 4
-no_four told faults bytes disk job given (GivenUp text) law is good survives = λ four. no_failure told faults bytes disk job given text law is good survives
-no_four told faults bytes disk job given WordsRefused law is good survives = λ four. omega (arith, four)
-no_four told faults bytes disk job given CommandNotBuilt law is good survives = λ four. omega (arith, four)
-no_four told faults bytes disk job given InputFault law is good survives = λ four. omega (arith, four)
-no_four told faults bytes disk job given (JobRefused line) law is good survives = λ four. omega (arith, four)
-no_four told faults bytes disk job given DiskFault law is good survives = λ four. omega (arith, four)
-no_four told faults bytes disk job given OutOfMemory law is good survives = λ four. omega (arith, four)
-no_four told faults bytes disk job given (Made line) law is good survives = λ four. omega (arith, four)
-no_four told faults bytes disk job given (Checked line) law is good survives = λ four. omega (arith, four)
-no_four told faults bytes disk job given (Unsound line) law is good survives = λ four. omega (arith, four)
-no_four told faults bytes disk job given (Unsettled text) law is good survives = λ four. omega (arith, four)
-no_four told faults bytes disk job given (Ran text) law is good survives = λ four. omega (arith, four)
+no_four : {D : Type 0} (told : D → Option Image) (faults : D → ℕ) (threads : Bool) (bytes : List ℕ) (disk : D) (job : Job) (given : Held D) (outcome : Outcome) → FiresAtMost
+    → ComesOfRunWords told faults threads (Some bytes) disk given outcome → job_in (take 4194305 bytes) ≡ Ok job → sum_by (λ (rule : Rule). rule.times) job.plan ≤ job.limit → status_of outcome ≢ 4
+no_four told faults threads bytes disk job given (GivenUp text) law is good survives = λ four. no_failure told faults threads bytes disk job given text law is good survives
+no_four told faults threads bytes disk job given WordsRefused law is good survives = λ four. omega (arith, four)
+no_four told faults threads bytes disk job given CommandNotBuilt law is good survives = λ four. omega (arith, four)
+no_four told faults threads bytes disk job given InputFault law is good survives = λ four. omega (arith, four)
+no_four told faults threads bytes disk job given (JobRefused line) law is good survives = λ four. omega (arith, four)
+no_four told faults threads bytes disk job given DiskFault law is good survives = λ four. omega (arith, four)
+no_four told faults threads bytes disk job given OutOfMemory law is good survives = λ four. omega (arith, four)
+no_four told faults threads bytes disk job given (Made line) law is good survives = λ four. omega (arith, four)
+no_four told faults threads bytes disk job given (Checked line) law is good survives = λ four. omega (arith, four)
+no_four told faults threads bytes disk job given (Unsound line) law is good survives = λ four. omega (arith, four)
+no_four told faults threads bytes disk job given (Unsettled text) law is good survives = λ four. omega (arith, four)
+no_four told faults threads bytes disk job given (Ran text) law is good survives = λ four. omega (arith, four)
 
 -- a status that is neither the output's fault nor 4 for a reason
 not_four : (status left : ℕ) → (status ≡ left) ⊎ (status ≡ 7) → left ≢ 4 → status ≢ 7 → (status ≡ 0) ⊎ (status ≡ 4) ⊎ (status ≡ 6) → (status ≡ 0) ⊎ (status ≡ 6)
@@ -133,7 +133,7 @@ not_four status left ended no_failure no_output ends =
 pub survivors_complete : {D : Type 0} (told : D → Option Image) (faults : D → ℕ) → FiresAtMost → SurvivorsComplete told faults
 survivors_complete told faults law words bytes disk job given old new status ended smooth survives =
     not_four status (status_of ended.outcome) (ended_at ended.printed.ended)
-    (no_four told faults bytes disk job given ended.outcome law
+    (no_four told faults smooth.threads bytes disk job given ended.outcome law
     (subst (λ (c : Option Command). ComesOfCommand told faults c (Some bytes) disk given ended.outcome) smooth.command ended.is) smooth.read survives)
     smooth.output_works (runs_complete told faults words bytes disk job given old new status ended smooth)
 

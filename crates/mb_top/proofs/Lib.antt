@@ -5,3 +5,4 @@ pub mod Refusals
 pub mod Runs
 pub mod Survivors
 pub mod Words
+pub mod Threads

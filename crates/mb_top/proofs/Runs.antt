@@ -1,5 +1,5 @@
 -- What comes of a run, from the laws on its path.
-use Rattle.std.proofs.Common.{List, ℕ, ◌+◌, ◌^◌, ◌-◌, ◌≤◌, ◌≡◌, ◌≢◌, ◌⊎◌, Option, Some, Ok, inl, inr, ap, arith, sym, subst, ◌∙◌, refl}
+use Rattle.std.proofs.Common.{Bool, true, false, List, ℕ, ◌≤◌, ◌≡◌, ◌≢◌, ◌⊎◌, Option, Some, Ok, inl, inr, ap, arith, sym, subst, ◌∙◌, refl}
 use Rattle.mb_core_events.specs.Beginning.{TellsVolume}
 use Rattle.mb_core_spec.specs.Right.{Right}
 use Rattle.mb_core_spec.specs.State.{CoreState}
@@ -7,14 +7,14 @@ use Rattle.mb_core_spec.specs.declared.stages.Stage.{Stage}
 use Rattle.mb_core_spec.specs.declared.stages.Stage.TheVariants as stage
 use Rattle.mb_edge.specs.Causes.{Rose}
 use Rattle.mb_fsops.specs.declared.v7.V7.{V7}
-use Rattle.mb_headline.specs.Headline.{FewerDevices, IsDone, IsGivenUp, IsRun, LeavesImage}
-use Rattle.mb_headline.specs.Laws.{IsPath, PathsAreRuns, PathsEnd, PathsFail}
+use Rattle.mb_headline.specs.Headline.{FewerDevices, IsDone, IsGivenUp, IsRun, KeepsOrder, LeavesImage}
+use Rattle.mb_headline.specs.Laws.{DrivesKeepOrder, DrivesApart, IsBegunFor, IsPath, PathsAreRuns, PathsEnd, PathsFail}
 use Rattle.mb_jobs.specs.Job.{job_in}
 use Rattle.mb_jobs.specs.declared.jobs.Job.{Job}
 use Rattle.mb_kinds.specs.Image.{Image}
+use Rattle.mb_kinds.specs.declared.entries.Entry.{Entry}
 use Rattle.mb_plan.specs.Fires.{fires}
 use Rattle.mb_plan.specs.declared.rules.Rule.{Rule}
-use Rattle.mb_run.specs.Sights.{Sight}
 use Rattle.mb_print.specs.Transcript.{end_text, failed_text}
 use Rattle.mb_run.specs.CoreSight.{sight_of}
 use Rattle.mb_run.specs.Drives.{IsDriven}
@@ -24,24 +24,24 @@ use Rattle.mb_volume_core.specs.declared.volume_core.Origin.{Origin}
 use Rattle.mb_top.specs.Held.{HoldsCore, held_disk}
 use Rattle.mb_top.specs.declared.finish.Held.{Held}
 use Rattle.mb_top.specs.declared.finish.Held.TheVariants as held
-use Rattle.mb_top.specs.Outcomes.{ComesOfCore, ComesOfJob, ComesOfRunWords, IsBegunFor, IsDiskFault, Says, ended_text, unsettled_text}
+use Rattle.mb_top.specs.Outcomes.{ComesOfCore, ComesOfJob, ComesOfRunWords, IsDiskFault, KeepsOrderIfAlone, IsDrivenFor, Says, ended_text, unsettled_text}
 use Rattle.mb_top.specs.declared.outcomes.Outcome.{Outcome}
 use Rattle.mb_top.specs.declared.outcomes.Outcome.TheVariants.{WordsRefused, CommandNotBuilt, InputFault, JobRefused, DiskFault, OutOfMemory, Made, Checked, Unsound, Unsettled, GivenUp, Ran}
 
-comes_done : {D : Type 0} (told : D → Option Image) (faults : D → ℕ) (job : Job) (disk : D) (core : CoreState V7 D) (outcome : Outcome)
-    → IsRun told faults job disk core → IsDone job core → LeavesImage told job disk core → Says Ran (ended_text end_text job core) outcome → ComesOfCore told faults job disk core outcome
-comes_done told faults job disk core outcome run all left said =
+comes_done : {D : Type 0} (told : D → Option Image) (faults : D → ℕ) (threads : Bool) (job : Job) (disk : D) (core : CoreState V7 D) (outcome : Outcome)
+    → IsRun told faults job disk core → KeepsOrderIfAlone threads job core → IsDone job core → LeavesImage told job disk core → Says Ran (ended_text end_text job core) outcome → ComesOfCore told faults threads job disk core outcome
+comes_done told faults threads job disk core outcome run order all left said =
     elim said [
-      | inl is ↦ subst (ComesOfCore told faults job disk core) (sym is) (record { run = run; done = all; left = left; printed = refl })
-      | inr none ↦ subst (ComesOfCore told faults job disk core) (sym none) tt
+      | inl is ↦ subst (ComesOfCore told faults threads job disk core) (sym is) (record { run = run; order = order; done = all; left = left; printed = refl })
+      | inr none ↦ subst (ComesOfCore told faults threads job disk core) (sym none) tt
     ]
 
-comes_given_up : {D : Type 0} (told : D → Option Image) (faults : D → ℕ) (job : Job) (disk : D) (core : CoreState V7 D) (outcome : Outcome)
-    → IsRun told faults job disk core → IsGivenUp job core → LeavesImage told job disk core → Says GivenUp (ended_text failed_text job core) outcome → ComesOfCore told faults job disk core outcome
-comes_given_up told faults job disk core outcome run failed left said =
+comes_given_up : {D : Type 0} (told : D → Option Image) (faults : D → ℕ) (threads : Bool) (job : Job) (disk : D) (core : CoreState V7 D) (outcome : Outcome)
+    → IsRun told faults job disk core → KeepsOrderIfAlone threads job core → IsGivenUp job core → LeavesImage told job disk core → Says GivenUp (ended_text failed_text job core) outcome → ComesOfCore told faults threads job disk core outcome
+comes_given_up told faults threads job disk core outcome run order failed left said =
     elim said [
-      | inl is ↦ subst (ComesOfCore told faults job disk core) (sym is) (record { run = run; given_up = failed; left = left; printed = refl })
-      | inr none ↦ subst (ComesOfCore told faults job disk core) (sym none) tt
+      | inl is ↦ subst (ComesOfCore told faults threads job disk core) (sym is) (record { run = run; order = order; given_up = failed; left = left; printed = refl })
+      | inr none ↦ subst (ComesOfCore told faults threads job disk core) (sym none) tt
     ]
 
 abbrev is_failed : Stage → Type 0
@@ -49,78 +49,96 @@ is_failed stage.Failed = Unit {0}
 is_failed _ = ⊥
 
 -- a run that was settled, by whether the volume failed
-pub settled : {D : Type 0} (told : D → Option Image) (faults : D → ℕ) (job : Job) (disk : D) (core : CoreState V7 D) (outcome : Outcome)
-    → IsRun told faults job disk core → (IsDone job core ⊎ IsGivenUp job core) × LeavesImage told job disk core
+pub settled : {D : Type 0} (told : D → Option Image) (faults : D → ℕ) (threads : Bool) (job : Job) (disk : D) (core : CoreState V7 D) (outcome : Outcome)
+    → IsRun told faults job disk core → KeepsOrderIfAlone threads job core → (IsDone job core ⊎ IsGivenUp job core) × LeavesImage told job disk core
     → (core.stage ≡ stage.Failed → Says GivenUp (ended_text failed_text job core) outcome)
     → (core.stage ≢ stage.Failed → Says Ran (ended_text end_text job core) outcome)
-    → ComesOfCore told faults job disk core outcome
-settled told faults job disk core outcome run ends failed runs =
+    → ComesOfCore told faults threads job disk core outcome
+settled told faults threads job disk core outcome run order ends failed runs =
     elim ends.0 [
-      | inl is ↦ comes_done told faults job disk core outcome run is ends.1 (runs (λ wrong. subst is_failed (sym wrong ∙ is.runs) tt))
-      | inr is ↦ comes_given_up told faults job disk core outcome run is ends.1 (failed is.failed)
+      | inl is ↦ comes_done told faults threads job disk core outcome run order is ends.1 (runs (λ wrong. subst is_failed (sym wrong ∙ is.runs) tt))
+      | inr is ↦ comes_given_up told faults threads job disk core outcome run order is ends.1 (failed is.failed)
     ]
 
 -- a run in whose end the disk failed
-pub unsettled : {D : Type 0} (told : D → Option Image) (faults : D → ℕ) (job : Job) (disk : D) (core : CoreState V7 D) (outcome : Outcome)
-    → IsRun told faults job disk core → FewerDevices (faults disk) (faults core.cache.disk) core.journal.history → Rose (faults disk) (faults core.cache.disk)
-    → Says Unsettled (unsettled_text job core) outcome → ComesOfCore told faults job disk core outcome
-unsettled told faults job disk core outcome run fewer rose said =
+pub unsettled : {D : Type 0} (told : D → Option Image) (faults : D → ℕ) (threads : Bool) (job : Job) (disk : D) (core : CoreState V7 D) (outcome : Outcome)
+    → IsRun told faults job disk core → KeepsOrderIfAlone threads job core → FewerDevices (faults disk) (faults core.cache.disk) core.journal.history → Rose (faults disk) (faults core.cache.disk)
+    → Says Unsettled (unsettled_text job core) outcome → ComesOfCore told faults threads job disk core outcome
+unsettled told faults threads job disk core outcome run order fewer rose said =
     elim said [
-      | inl is ↦ subst (ComesOfCore told faults job disk core) (sym is) (record { run = run; fewer = fewer; rose = rose; printed = refl })
-      | inr none ↦ subst (ComesOfCore told faults job disk core) (sym none) tt
+      | inl is ↦ subst (ComesOfCore told faults threads job disk core) (sym is) (record { run = run; order = order; fewer = fewer; rose = rose; printed = refl })
+      | inr none ↦ subst (ComesOfCore told faults threads job disk core) (sym none) tt
     ]
 
 -- ---- the path of a run
 
--- the fault injector goes by the job's plan
-pub by_plan : (job : Job) (old new : Sight) (rules : List Rule) → rules ≡ job.plan → IsDriven job (Some (fires rules)) old new → IsDriven job (Some (fires job.plan)) old new
-by_plan job old new rules same driven = subst (λ (r : List Rule). IsDriven job (Some (fires r)) old new) same driven
+-- one thread drove a core that was begun for a job, with a fault injector that goes by the job's plan
+pub driven_alone : {D : Type 0} (told : D → Option Image) (faults : D → ℕ) (fs : V7) (bytes : List ℕ) (job : Job) (disk : D) (begun driven : CoreState V7 D) (rules : List Rule)
+    → DrivesApart → DrivesKeepOrder → job_in bytes ≡ Ok job → rules ≡ job.plan → IsBegunFor told faults fs job disk begun → origin_of driven ≡ origin_of begun
+    → IsDriven job (Some (fires rules)) (sight_of begun) (sight_of driven) → IsDrivenFor told faults false fs job disk driven
+driven_alone {D = D} told faults fs bytes job disk begun driven rules apart law written same over on drives =
+    let by_plan : IsDriven job (Some (fires job.plan)) (sight_of begun) (sight_of driven) = subst (λ (r : List Rule). IsDriven job (Some (fires r)) (sight_of begun) (sight_of driven)) same drives in
+    record {
+      begun = begun;
+      over = over;
+      first = ap (λ (o : Origin D). o.first) on;
+      config = ap (λ (o : Origin D). o.config) on;
+      drives = apart job (Some (fires job.plan)) (sight_of begun) (sight_of driven) by_plan;
+      order = law bytes job (sight_of begun) (sight_of driven) written (ap (λ (c : CoreState V7 D). c.stage) over.over.begun) by_plan;
+    }
 
-module _ {D : Type 0} (told : D → Option Image) (faults : D → ℕ) (job : Job) (disk : D) (fs : V7) (start driven ended : CoreState V7 D)
-    (begun : IsBegunFor told faults fs job disk start) (drives : IsDriven job (Some (fires job.plan)) (sight_of start) (sight_of driven))
-    (driven_on : origin_of driven ≡ origin_of start) (ended_on : origin_of ended ≡ origin_of driven)
+-- history and fault records stay at the end of a run
+order_stays : {D : Type 0} (threads : Bool) (job : Job) (driven ended : CoreState V7 D) → ended.journal.history ≡ driven.journal.history → ended.journal.records ≡ driven.journal.records
+    → KeepsOrderIfAlone threads job driven → KeepsOrderIfAlone threads job ended
+order_stays true job driven ended history records order = tt
+order_stays false job driven ended history records order =
+    subst (λ (h : List Entry). KeepsOrder job h ended.journal.records) (sym history) (subst (KeepsOrder job driven.journal.history) (sym records) order)
+
+module _ {D : Type 0} (told : D → Option Image) (faults : D → ℕ) (threads : Bool) (job : Job) (disk : D) (fs : V7) (driven ended : CoreState V7 D)
+    (drives : IsDrivenFor told faults threads fs job disk driven) (ended_on : origin_of ended ≡ origin_of driven)
     (keeps : Keeps (sight_of driven) (sight_of ended)) (right : Right told faults ended) where
-  path : IsPath fs told faults job disk start driven ended
+  path : IsPath fs told faults job disk drives.begun driven ended
   path = record {
-    config = begun.config;
-    over = begun.over;
-    config_is = begun.config_is;
-    drives = drives;
-    first = ap (λ (o : Origin D). o.first) (ended_on ∙ driven_on);
-    same_config = ap (λ (o : Origin D). o.config) (ended_on ∙ driven_on);
+    over = drives.over;
+    drives = drives.drives;
+    first = ap (λ (o : Origin D). o.first) ended_on ∙ drives.first;
+    same_config = ap (λ (o : Origin D). o.config) ended_on ∙ drives.config;
     keeps = keeps;
     right = right;
   }
 
+  order : KeepsOrderIfAlone threads job ended
+  order = order_stays threads job driven ended keeps.history keeps.records drives.order
+
   pub comes_settled : (bytes : List ℕ) (outcome : Outcome) → PathsAreRuns V7 D told faults → PathsEnd V7 D told faults → job_in bytes ≡ Ok job → IsSettled (sight_of driven) (sight_of ended)
       → (ended.stage ≡ stage.Failed → Says GivenUp (ended_text failed_text job ended) outcome)
       → (ended.stage ≢ stage.Failed → Says Ran (ended_text end_text job ended) outcome)
-      → ComesOfCore told faults job disk ended outcome
+      → ComesOfCore told faults threads job disk ended outcome
   comes_settled bytes outcome runs ends written is failed done =
-      settled told faults job disk ended outcome (runs fs bytes job disk start driven ended written path) (ends fs job disk start driven ended path is) failed done
+      settled told faults threads job disk ended outcome (runs fs bytes job disk drives.begun driven ended written path) order (ends fs job disk drives.begun driven ended path is) failed done
 
   -- the count of faults did not fall before the end
   before : Right told faults driven → faults disk ≤ faults driven.cache.disk
   before right_driven =
-      let scanned = begun.over.scanned in
+      let scanned = drives.over.over.scanned in
       let later = right_driven.later in
-      let same : faults driven.first ≡ faults start.first = ap (λ (o : Origin D). faults o.first) driven_on in
+      let same : faults driven.first ≡ faults drives.begun.first = ap faults drives.first in
       omega (arith, scanned, later, same)
 
   rises : {before now last : ℕ} → before ≤ now → Rose now last → Rose before last
   rises low rose = omega (arith, low, rose)
 
   pub comes_unsettled : (bytes : List ℕ) (outcome : Outcome) → PathsAreRuns V7 D told faults → PathsFail V7 D told faults → job_in bytes ≡ Ok job → Right told faults driven
-      → Rose (faults driven.cache.disk) (faults ended.cache.disk) → Says Unsettled (unsettled_text job ended) outcome → ComesOfCore told faults job disk ended outcome
+      → Rose (faults driven.cache.disk) (faults ended.cache.disk) → Says Unsettled (unsettled_text job ended) outcome → ComesOfCore told faults threads job disk ended outcome
   comes_unsettled bytes outcome runs fails written right_driven rose said =
-      unsettled told faults job disk ended outcome (runs fs bytes job disk start driven ended written path)
-      (fails fs job disk start driven ended path right_driven (ap (λ (o : Origin D). o.first) driven_on) rose) (rises (before right_driven) rose) said
+      unsettled told faults threads job disk ended outcome (runs fs bytes job disk drives.begun driven ended written path) order
+      (fails fs job disk drives.begun driven ended path right_driven drives.first rose) (rises (before right_driven) rose) said
 
 -- the core that is held, with its outcome
-pub holds : {D : Type 0} (told : D → Option Image) (faults : D → ℕ) (job : Job) (disk : D) (core : CoreState V7 D) (given : Held D) (outcome made : Outcome)
-    → given ≡ held.Core core → made ≡ outcome → ComesOfCore told faults job disk core outcome → HoldsCore given (λ now. ComesOfCore told faults job disk now made)
-holds {D = D} told faults job disk core given outcome made is same comes =
-    subst (λ (h : Held D). HoldsCore h (λ now. ComesOfCore told faults job disk now made)) (sym is) (subst (ComesOfCore told faults job disk core) (sym same) comes)
+pub holds : {D : Type 0} (told : D → Option Image) (faults : D → ℕ) (threads : Bool) (job : Job) (disk : D) (core : CoreState V7 D) (given : Held D) (outcome made : Outcome)
+    → given ≡ held.Core core → made ≡ outcome → ComesOfCore told faults threads job disk core outcome → HoldsCore given (λ now. ComesOfCore told faults threads job disk now made)
+holds {D = D} told faults threads job disk core given outcome made is same comes =
+    subst (λ (h : Held D). HoldsCore h (λ now. ComesOfCore told faults threads job disk now made)) (sym is) (subst (ComesOfCore told faults threads job disk core) (sym same) comes)
 
 -- ---- what comes of a job
 
@@ -128,30 +146,30 @@ pub nobody : {D : Type 0} (given : Held D) → HoldsCore given (λ (core : CoreS
 nobody (held.Disk disk) is = is
 nobody (held.Core core) is = is
 
-pub of_core : {D : Type 0} (told : D → Option Image) (faults : D → ℕ) (job : Job) (disk : D) (given : Held D) (outcome : Outcome)
-    → TellsVolume (told disk) → HoldsCore given (λ core. ComesOfCore told faults job disk core outcome) → ComesOfJob told faults job disk given outcome
-of_core told faults job disk given WordsRefused volume is = (volume, is)
-of_core told faults job disk given CommandNotBuilt volume is = (volume, is)
-of_core told faults job disk given InputFault volume is = (volume, is)
-of_core told faults job disk given (JobRefused line) volume is = (volume, is)
-of_core told faults job disk given DiskFault volume is = absurd (nobody given is)
-of_core told faults job disk given OutOfMemory volume is = tt
-of_core told faults job disk given (Made line) volume is = (volume, is)
-of_core told faults job disk given (Checked line) volume is = (volume, is)
-of_core told faults job disk given (Unsound line) volume is = absurd (nobody given is)
-of_core told faults job disk given (Unsettled text) volume is = (volume, is)
-of_core told faults job disk given (GivenUp text) volume is = (volume, is)
-of_core told faults job disk given (Ran text) volume is = (volume, is)
+pub of_core : {D : Type 0} (told : D → Option Image) (faults : D → ℕ) (threads : Bool) (job : Job) (disk : D) (given : Held D) (outcome : Outcome)
+    → TellsVolume (told disk) → HoldsCore given (λ core. ComesOfCore told faults threads job disk core outcome) → ComesOfJob told faults threads job disk given outcome
+of_core told faults threads job disk given WordsRefused volume is = (volume, is)
+of_core told faults threads job disk given CommandNotBuilt volume is = (volume, is)
+of_core told faults threads job disk given InputFault volume is = (volume, is)
+of_core told faults threads job disk given (JobRefused line) volume is = (volume, is)
+of_core told faults threads job disk given DiskFault volume is = absurd (nobody given is)
+of_core told faults threads job disk given OutOfMemory volume is = tt
+of_core told faults threads job disk given (Made line) volume is = (volume, is)
+of_core told faults threads job disk given (Checked line) volume is = (volume, is)
+of_core told faults threads job disk given (Unsound line) volume is = absurd (nobody given is)
+of_core told faults threads job disk given (Unsettled text) volume is = (volume, is)
+of_core told faults threads job disk given (GivenUp text) volume is = (volume, is)
+of_core told faults threads job disk given (Ran text) volume is = (volume, is)
 
 -- ---- the cause of a disk fault
 
-fault_held : {D : Type 0} (told : D → Option Image) (faults : D → ℕ) (job : Job) (disk : D) (given : Held D) (text : List ℕ)
-    → HoldsCore given (λ core. ComesOfCore told faults job disk core (Unsettled text)) → Rose (faults disk) (faults (held_disk given))
-fault_held told faults job disk (held.Disk back) text is = absurd is
-fault_held told faults job disk (held.Core core) text is = is.rose
+fault_held : {D : Type 0} (told : D → Option Image) (faults : D → ℕ) (threads : Bool) (job : Job) (disk : D) (given : Held D) (text : List ℕ)
+    → HoldsCore given (λ core. ComesOfCore told faults threads job disk core (Unsettled text)) → Rose (faults disk) (faults (held_disk given))
+fault_held told faults threads job disk (held.Disk back) text is = absurd is
+fault_held told faults threads job disk (held.Core core) text is = is.rose
 
-pub fault_of_words : {D : Type 0} (told : D → Option Image) (faults : D → ℕ) (left : Option (List ℕ)) (disk : D) (given : Held D) (outcome : Outcome)
-    → ComesOfRunWords told faults left disk given outcome → IsDiskFault outcome → Rose (faults disk) (faults (held_disk given))
-fault_of_words told faults left disk given DiskFault is failed = is.fact.over.1
-fault_of_words told faults left disk given (Unsettled text) is failed = fault_held told faults is.fact.job disk given text is.fact.over.1
-fault_of_words told faults left disk given _ is failed = absurd failed
+pub fault_of_words : {D : Type 0} (told : D → Option Image) (faults : D → ℕ) (threads : Bool) (left : Option (List ℕ)) (disk : D) (given : Held D) (outcome : Outcome)
+    → ComesOfRunWords told faults threads left disk given outcome → IsDiskFault outcome → Rose (faults disk) (faults (held_disk given))
+fault_of_words told faults threads left disk given DiskFault is failed = is.fact.over.1
+fault_of_words told faults threads left disk given (Unsettled text) is failed = fault_held told faults threads is.fact.job disk given text is.fact.over.1
+fault_of_words told faults threads left disk given _ is failed = absurd failed

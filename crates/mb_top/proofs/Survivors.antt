@@ -1,5 +1,5 @@
 -- Why a volume survives the faults of a plan: it records no more than the plan's rules have times.
-use Rattle.std.proofs.Common.{List, [], ◌∷◌, ℕ, ◌+◌, ◌≤◌, ◌≡◌, ◌≢◌, Bool, true, length, map, cond, refl, ap, arith}
+use Rattle.std.proofs.Common.{List, [], ◌∷◌, ℕ, ◌≤◌, ◌≡◌, ◌≢◌, Bool, true, length, map, cond, refl, ap, arith}
 use Rattle.std.specs.Prelude.{All, sum_by}
 use Rattle.std.specs.List.{AllByRecursion, count_by}
 use Rattle.std.proofs.lemmas.List.Elements.{All-cons, All-nil}

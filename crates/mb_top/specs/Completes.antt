@@ -1,5 +1,5 @@
 -- That a run cannot end for no reason.
-use Rattle.std.specs.Prelude.{List, ℕ, ◌≡◌, ◌≢◌, ◌≤◌, ◌⊎◌, true, false, sum_by, take, Option, Some, Ok}
+use Rattle.std.specs.Prelude.{List, ℕ, ◌≡◌, ◌≢◌, ◌≤◌, ◌⊎◌, Bool, sum_by, take, Option, Some, Ok}
 use Rattle.mb_commands.specs.Words.{command_of}
 use Rattle.mb_commands.specs.declared.commands.Command.TheVariants.{Check, Mkfs, Run}
 use Rattle.mb_jobs.specs.Job.{job_in}
@@ -12,9 +12,10 @@ use Rattle.mb_top.specs.declared.finish.Held.{Held}
 use Rattle.mb_tree.specs.Volume.{IsVolume}
 use Rattle.mb_tree.specs.declared.trees.Tree.{Tree}
 
--- a `run`, a job and a volume, without a fault of the disk, the output or the input
+-- a `run`, by threads or not, a job and a volume, without a fault of the disk, the output or the input
 pub record IsSmoothRun {D : Type 0} (told : D → Option Image) (words : List (List ℕ)) (bytes : List ℕ) (disk : D) (job : Job) (status : ℕ) : Type 0 where
-  pub command : command_of words ≡ Some (Run false)
+  pub threads : Bool
+  pub command : command_of words ≡ Some (Run threads)
   pub read : job_in (take 4194305 bytes) ≡ Ok job
   pub image : Image
   pub tree : Tree

@@ -1,5 +1,5 @@
 -- How the program ends: the order of the causes, and for each of them its status and its text.
-use Rattle.std.specs.Prelude.{List, ◌++◌, ℕ, ◌≡◌, ◌≢◌, ◌≤◌, ◌⊎◌, codes, true, false, length, take, Option, Some, None, Result, Ok, Err, IfSome}
+use Rattle.std.specs.Prelude.{List, ◌++◌, ℕ, ◌≡◌, ◌≢◌, ◌≤◌, ◌⊎◌, codes, Bool, true, false, length, Option, Some, None, Result, Ok, Err, IfSome}
 use Rattle.std.specs.Io.KnownBytes.{Appends}
 use Rattle.mb_edge.specs.Causes.{Rose}
 use Rattle.mb_edge.specs.Transfers.{AreFirst, TakesFront}
@@ -11,19 +11,22 @@ use Rattle.mb_commands.specs.Lines.{refused_line, sound_line}
 use Rattle.mb_commands.specs.Makes.{HasMade}
 use Rattle.mb_commands.specs.Words.{command_of}
 use Rattle.mb_commands.specs.declared.commands.Command.{Command}
-use Rattle.mb_commands.specs.declared.commands.Command.TheVariants.{Check, Mkfs, Run}
-use Rattle.mb_core_events.specs.Beginning.{IsBegunOver, TellsVolume}
+use Rattle.mb_commands.specs.declared.commands.Command.TheVariants.{Check, Mkfs, Run, Soak}
+use Rattle.mb_core_events.specs.Beginning.{TellsVolume}
 use Rattle.mb_core_spec.specs.State.{CoreState}
-use Rattle.mb_core_spec.specs.declared.config.Config.{Config}
 use Rattle.mb_fsops.specs.declared.v7.V7.{V7}
-use Rattle.mb_headline.specs.Headline.{FewerDevices, IsConfigOf, IsDone, IsGivenUp, IsRun, LeavesImage}
+use Rattle.mb_headline.specs.Headline.{FewerDevices, IsDone, IsGivenUp, IsRun, KeepsOrder, LeavesImage}
+use Rattle.mb_headline.specs.Laws.{IsBegunFor}
 use Rattle.mb_jobs.specs.Job.{job_in}
 use Rattle.mb_jobs.specs.declared.jobs.Job.{Job}
 use Rattle.mb_jobs.specs.declared.jobs.JobFault.{JobFault}
 use Rattle.mb_kinds.specs.Image.{Image}
 use Rattle.mb_mkfs.specs.Sizes.{AreSizes}
+use Rattle.mb_plan.specs.Fires.{fires}
 use Rattle.mb_print.specs.Causes.{refused_text}
 use Rattle.mb_print.specs.Transcript.{end_text, failed_text, transcript_text}
+use Rattle.mb_run.specs.CoreSight.{sight_of}
+use Rattle.mb_run.specs.Drives.{IsDrivenApart}
 use Rattle.mb_top.specs.Held.{HoldsCore, HoldsDisk, IsGivenBack, held_disk}
 use Rattle.mb_top.specs.declared.finish.Held.{Held}
 use Rattle.mb_top.specs.declared.outcomes.Outcome.{Outcome}
@@ -69,40 +72,52 @@ ended_text line job core = transcript_text job core.journal.history ++ line (len
 abbrev pub unsettled_text : {D : Type 0} → Job → CoreState V7 D → List ℕ
 unsettled_text job core = transcript_text job core.journal.history ++ codes "disk fault\n"
 
--- a job that was run over a disk to its end: the volume runs, all is checkpointed, and the image left is that of the history's tree
-pub record IsRunToEnd {D : Type 0} (told : D → Option Image) (faults : D → ℕ) (job : Job) (disk : D) (text : List ℕ) (core : CoreState V7 D) : Type 0 where
+-- where one thread runs the job, the history keeps the job's order, and in list order the plan's faults were taken
+abbrev pub KeepsOrderIfAlone : {D : Type 0} → Bool → Job → CoreState V7 D → Type 0
+KeepsOrderIfAlone true job core = Unit {0}
+KeepsOrderIfAlone false job core = KeepsOrder job core.journal.history core.journal.records
+
+-- a job that was run over a disk to its end, by threads or not: the volume runs, all is checkpointed, and the image left is that of the history's tree
+pub record IsRunToEnd {D : Type 0} (told : D → Option Image) (faults : D → ℕ) (threads : Bool) (job : Job) (disk : D) (text : List ℕ) (core : CoreState V7 D) : Type 0 where
   pub run : IsRun told faults job disk core
+  pub order : KeepsOrderIfAlone threads job core
   pub done : IsDone job core
   pub left : LeavesImage told job disk core
   pub printed : text ≡ ended_text end_text job core
 
 -- a job with more faults than the volume survives: the image left is that of the tree at the last checkpoint
-pub record IsRunToFailure {D : Type 0} (told : D → Option Image) (faults : D → ℕ) (job : Job) (disk : D) (text : List ℕ) (core : CoreState V7 D) : Type 0 where
+pub record IsRunToFailure {D : Type 0} (told : D → Option Image) (faults : D → ℕ) (threads : Bool) (job : Job) (disk : D) (text : List ℕ) (core : CoreState V7 D) : Type 0 where
   pub run : IsRun told faults job disk core
+  pub order : KeepsOrderIfAlone threads job core
   pub given_up : IsGivenUp job core
   pub left : LeavesImage told job disk core
   pub printed : text ≡ ended_text failed_text job core
 
 -- a job that was run, where the disk failed in the end of the run: fewer calls than its faults were ended by the disk
-pub record IsRunShort {D : Type 0} (told : D → Option Image) (faults : D → ℕ) (job : Job) (disk : D) (text : List ℕ) (core : CoreState V7 D) : Type 0 where
+pub record IsRunShort {D : Type 0} (told : D → Option Image) (faults : D → ℕ) (threads : Bool) (job : Job) (disk : D) (text : List ℕ) (core : CoreState V7 D) : Type 0 where
   pub run : IsRun told faults job disk core
+  pub order : KeepsOrderIfAlone threads job core
   pub fewer : FewerDevices (faults disk) (faults core.cache.disk) core.journal.history
   pub rose : Rose (faults disk) (faults core.cache.disk)
   pub printed : text ≡ unsettled_text job core
 
 -- what comes of a core that was begun over a disk for a job, by the core at the end
-abbrev pub ComesOfCore : {D : Type 0} → (D → Option Image) → (D → ℕ) → Job → D → CoreState V7 D → Outcome → Type 0
-ComesOfCore told faults job disk core (Ran text) = IsRunToEnd told faults job disk text core
-ComesOfCore told faults job disk core (GivenUp text) = IsRunToFailure told faults job disk text core
-ComesOfCore told faults job disk core (Unsettled text) = IsRunShort told faults job disk text core
-ComesOfCore told faults job disk core OutOfMemory = Unit {0}
-ComesOfCore told faults job disk core _ = ⊥
+abbrev pub ComesOfCore : {D : Type 0} → (D → Option Image) → (D → ℕ) → Bool → Job → D → CoreState V7 D → Outcome → Type 0
+ComesOfCore told faults threads job disk core (Ran text) = IsRunToEnd told faults threads job disk text core
+ComesOfCore told faults threads job disk core (GivenUp text) = IsRunToFailure told faults threads job disk text core
+ComesOfCore told faults threads job disk core (Unsettled text) = IsRunShort told faults threads job disk text core
+ComesOfCore told faults threads job disk core OutOfMemory = Unit {0}
+ComesOfCore told faults threads job disk core _ = ⊥
 
--- a core that was begun over a disk with what a job asks for
-pub record IsBegunFor {D : Type 0} (told : D → Option Image) (faults : D → ℕ) (fs : V7) (job : Job) (disk : D) (core : CoreState V7 D) : Type 0 where
-  pub config : Config
-  pub over : IsBegunOver told faults fs disk config core
-  pub config_is : IsConfigOf job config
+-- a core that a driver left of one that was begun over a disk for a job, at its end but for want of memory: each caller's calls
+-- stand in its history, with the faults of the job's plan
+pub record IsDrivenFor {D : Type 0} (told : D → Option Image) (faults : D → ℕ) (threads : Bool) (fs : V7) (job : Job) (disk : D) (driven : CoreState V7 D) : Type 0 where
+  pub begun : CoreState V7 D
+  pub over : IsBegunFor told faults fs job disk begun
+  pub first : driven.first ≡ begun.first
+  pub config : driven.config ≡ begun.config
+  pub drives : IsDrivenApart job (λ (caller : ℕ). Some (fires job.plan)) (sight_of begun) (sight_of driven)
+  pub order : KeepsOrderIfAlone threads job driven
 
 -- the line has the first broken rule and its block, and the image is a volume of no tree
 pub record IsUnsoundBy (told : Option Image) (line : List ℕ) : Type 0 where
@@ -116,15 +131,15 @@ abbrev pub IsFaulty : {D : Type 0} → (D → Option Image) → (D → ℕ) → 
 IsFaulty told faults disk held = IsGivenBack told disk held × Rose (faults disk) (faults (held_disk held))
 
 -- the image is a volume, and a core was begun over it and driven
-abbrev pub IsDrivenTo : {D : Type 0} → (D → Option Image) → (D → ℕ) → Job → D → Held D → Outcome → Type 0
-IsDrivenTo told faults job disk held outcome = TellsVolume (told disk) × HoldsCore held (λ core. ComesOfCore told faults job disk core outcome)
+abbrev pub IsDrivenTo : {D : Type 0} → (D → Option Image) → (D → ℕ) → Bool → Job → D → Held D → Outcome → Type 0
+IsDrivenTo told faults threads job disk held outcome = TellsVolume (told disk) × HoldsCore held (λ core. ComesOfCore told faults threads job disk core outcome)
 
 -- what comes of a job that is to be run: the image is refused, or the disk fails, or the job is run
-abbrev pub ComesOfJob : {D : Type 0} → (D → Option Image) → (D → ℕ) → Job → D → Held D → Outcome → Type 0
-ComesOfJob told faults job disk held (Unsound line) = IsGivenBack told disk held × IsUnsoundBy (told disk) line
-ComesOfJob told faults job disk held DiskFault = IsFaulty told faults disk held
-ComesOfJob told faults job disk held OutOfMemory = Unit {0}
-ComesOfJob told faults job disk held outcome = IsDrivenTo told faults job disk held outcome
+abbrev pub ComesOfJob : {D : Type 0} → (D → Option Image) → (D → ℕ) → Bool → Job → D → Held D → Outcome → Type 0
+ComesOfJob told faults threads job disk held (Unsound line) = IsGivenBack told disk held × IsUnsoundBy (told disk) line
+ComesOfJob told faults threads job disk held DiskFault = IsFaulty told faults disk held
+ComesOfJob told faults threads job disk held OutOfMemory = Unit {0}
+ComesOfJob told faults threads job disk held outcome = IsDrivenTo told faults threads job disk held outcome
 
 -- a text of a run is this one, or there was no memory
 abbrev pub Says : (List ℕ → Outcome) → List ℕ → Outcome → Type 0
@@ -158,21 +173,21 @@ IsJobRefused left (JobRefused line) = OfBytes left (λ bytes. SaysWhy (job_in by
 IsJobRefused left _ = ⊥
 
 -- the job of some bytes, and what came of it
-pub record IsJobRun {D : Type 0} (told : D → Option Image) (faults : D → ℕ) (bytes : List ℕ) (disk : D) (held : Held D) (outcome : Outcome) : Type 0 where
+pub record IsJobRun {D : Type 0} (told : D → Option Image) (faults : D → ℕ) (threads : Bool) (bytes : List ℕ) (disk : D) (held : Held D) (outcome : Outcome) : Type 0 where
   pub job : Job
   pub read : job_in bytes ≡ Ok job
-  pub over : ComesOfJob told faults job disk held outcome
+  pub over : ComesOfJob told faults threads job disk held outcome
 
 -- what comes of a `run`, by the causes in their order: the input, the job, and then what comes of it
-abbrev pub ComesOfRunWords : {D : Type 0} → (D → Option Image) → (D → ℕ) → Option (List ℕ) → D → Held D → Outcome → Type 0
-ComesOfRunWords told faults left disk held WordsRefused = ⊥
-ComesOfRunWords told faults left disk held CommandNotBuilt = ⊥
-ComesOfRunWords told faults left disk held (Made line) = ⊥
-ComesOfRunWords told faults left disk held (Checked line) = ⊥
-ComesOfRunWords told faults left disk held InputFault = IsGivenBack told disk held
-ComesOfRunWords told faults left disk held OutOfMemory = Unit {0}
-ComesOfRunWords told faults left disk held (JobRefused line) = IsGivenBack told disk held × OfBytes left (λ bytes. SaysWhy (job_in bytes) line)
-ComesOfRunWords told faults left disk held outcome = OfBytes left (λ bytes. IsJobRun told faults bytes disk held outcome)
+abbrev pub ComesOfRunWords : {D : Type 0} → (D → Option Image) → (D → ℕ) → Bool → Option (List ℕ) → D → Held D → Outcome → Type 0
+ComesOfRunWords told faults threads left disk held WordsRefused = ⊥
+ComesOfRunWords told faults threads left disk held CommandNotBuilt = ⊥
+ComesOfRunWords told faults threads left disk held (Made line) = ⊥
+ComesOfRunWords told faults threads left disk held (Checked line) = ⊥
+ComesOfRunWords told faults threads left disk held InputFault = IsGivenBack told disk held
+ComesOfRunWords told faults threads left disk held OutOfMemory = Unit {0}
+ComesOfRunWords told faults threads left disk held (JobRefused line) = IsGivenBack told disk held × OfBytes left (λ bytes. SaysWhy (job_in bytes) line)
+ComesOfRunWords told faults threads left disk held outcome = OfBytes left (λ bytes. IsJobRun told faults threads bytes disk held outcome)
 
 -- ---- the other commands
 
@@ -214,13 +229,13 @@ IsToldAs (Err fault) outcome = IsRefusedAs fault outcome
 
 -- ---- the whole
 
--- what comes of a command, or of words that are none; `soak` and threads are not built yet
+-- what comes of a command, or of words that are none; `soak` is not built yet
 abbrev pub ComesOfCommand : {D : Type 0} → (D → Option Image) → (D → ℕ) → Option Command → Option (List ℕ) → D → Held D → Outcome → Type 0
 ComesOfCommand told faults None left disk held outcome = (outcome ≡ WordsRefused) × IsGivenBack told disk held
 ComesOfCommand told faults (Some (Mkfs blocks inodes)) left disk held outcome = ComesOfMkfs told faults disk blocks inodes held outcome
 ComesOfCommand told faults (Some Check) left disk held outcome = ComesOfCheck told faults disk held outcome
-ComesOfCommand told faults (Some (Run false)) left disk held outcome = ComesOfRunWords told faults left disk held outcome
-ComesOfCommand told faults (Some command) left disk held outcome = (outcome ≡ CommandNotBuilt) × IsGivenBack told disk held
+ComesOfCommand told faults (Some (Run threads)) left disk held outcome = ComesOfRunWords told faults threads left disk held outcome
+ComesOfCommand told faults (Some (Soak number calls faulty)) left disk held outcome = (outcome ≡ CommandNotBuilt) × IsGivenBack told disk held
 
 -- how the program ends
 abbrev pub IsOutcome : {D : Type 0} → (D → Option Image) → (D → ℕ) → List (List ℕ) → Option (List ℕ) → D → Held D → Outcome → Type 0

@@ -1,4 +1,5 @@
 ghost use Rattle.std.specs.Prelude.{◌≡◌, ◌≤◌, ◌≢◌, true, false, Result, Ok, Err, IfOk, IfErr};
+ghost use Rattle.mb_commands.specs.Words.{command_of, is_threaded};
 ghost use Rattle.mb_edge.specs.Causes.{Rose};
 ghost use Rattle.mb_jobs.specs.Job.{Gives, job_in};
 ghost use Rattle.mb_jobs.specs.declared.jobs.Job.{Job};
@@ -8,7 +9,7 @@ ghost use Rattle.mb_top.specs.Outcomes.{ComesOfCheck, ComesOfMkfs, ComesOfRunWor
 
 use crate::finish::Held;
 use crate::outcomes::Outcome;
-use crate::running::run_over;
+use crate::running::{run_by_threads, run_over};
 use mb_check::{OpenFault, Scan, sound};
 use mb_commands::{Command, Made, command_of, make_volume, refused_line, sound_line};
 use mb_edge::{Disk, Source, read_whole};
@@ -16,6 +17,8 @@ use mb_host::Words;
 use mb_jobs::{Job, JobFault, job_of};
 use mb_print::text_of_cause;
 use std::alloc::Global;
+use std::sync::Wait;
+use std::thread::Threads;
 
 /// What came of the words, the job and the disk, and what is held.
 pub struct Decided<D: Disk> {
@@ -23,8 +26,9 @@ pub struct Decided<D: Disk> {
     pub held: Held<D>,
 }
 
-/// Does what the words ask for, up to what is to be printed.
+/// Does what the words ask for, up to what is to be printed, with one thread.
 pub fn decide<S: Source, D: Disk>(alloc: Global, words: &Words, job: &mut S, disk: D) -> Decided<D>
+    requires { is_threaded (command_of words.now) ≡ false }
     ensures outcome { IsOutcome D.told D.faults words.now (S.left job.old) disk result.held result.outcome }
     ensures input { result.outcome ≡ Outcome.InputFault → Rose (S.faults job.old) (S.faults job.new) }
     ensures device { IsDiskFault result.outcome → Rose (D.faults disk) (D.faults (held_disk result.held)) }
@@ -34,8 +38,26 @@ pub fn decide<S: Source, D: Disk>(alloc: Global, words: &Words, job: &mut S, dis
         None => untouched(disk, Outcome::WordsRefused),
         Some(Command::Mkfs { blocks, inodes }) => make_over(alloc, disk, blocks, inodes),
         Some(Command::Check) => check_over(alloc, disk),
-        Some(Command::Run { threads: false }) => run_job(alloc, job, disk),
-        Some(_) => untouched(disk, Outcome::CommandNotBuilt),
+        Some(Command::Run { threads: _ }) => run_job(alloc, job, disk),
+        Some(Command::Soak { .. }) => untouched(disk, Outcome::CommandNotBuilt),
+    }
+}
+
+/// Reads the job and runs it, each caller in a thread of its own, up to what is to be printed.
+pub fn decide_by_threads<S: Source, D: Disk + Send, R: Threads + Wait + Sync>(
+    rt: &R,
+    alloc: Global,
+    job: &mut S,
+    disk: D,
+) -> Decided<D>
+    ensures comes { ComesOfRunWords D.told D.faults true (S.left job.old) disk result.held result.outcome }
+    ensures input { result.outcome ≡ Outcome.InputFault → Rose (S.faults job.old) (S.faults job.new) }
+    ensures device { IsDiskFault result.outcome → Rose (D.faults disk) (D.faults (held_disk result.held)) }
+    ensures later { D.faults disk ≤ D.faults (held_disk result.held) }
+{
+    match read_job(alloc, job) {
+        Ok(job) => run_by_threads(rt, alloc, disk, &job),
+        Err(outcome) => untouched(disk, outcome),
     }
 }
 
@@ -108,9 +130,9 @@ pub fn refused_as(alloc: Global, fault: OpenFault) -> Outcome
     }
 }
 
-// Reads the job and runs it.
+// Reads the job and runs it with one thread.
 fn run_job<S: Source, D: Disk>(alloc: Global, job: &mut S, disk: D) -> Decided<D>
-    ensures comes { ComesOfRunWords D.told D.faults (S.left job.old) disk result.held result.outcome }
+    ensures comes { ComesOfRunWords D.told D.faults false (S.left job.old) disk result.held result.outcome }
     ensures input { result.outcome ≡ Outcome.InputFault → Rose (S.faults job.old) (S.faults job.new) }
     ensures device { IsDiskFault result.outcome → Rose (D.faults disk) (D.faults (held_disk result.held)) }
     ensures later { D.faults disk ≤ D.faults (held_disk result.held) }

@@ -1,10 +1,12 @@
 use crate::example_files::{HELLO_JOB, WIPED_JOB, WIPED_TEXT};
 use crate::example_tests::{HI_JOB, HI_TEXT};
 use crate::finish::Finish;
-use crate::membrane::membrane;
+use crate::membrane::membrane_alone;
 use crate::recovery_tests::FAILED_JOB;
 use crate::slow_sinks::SlowSink;
-use crate::trials::{End, Failing, NOTHING_FAILS, disk, first_read, fresh, printed, run, words};
+use crate::trials::{
+    End, Failing, NOTHING_FAILS, disk, first_read, fresh, printed, run, words_alone,
+};
 use crate::volumes::{changed_volume, hello_volume};
 use mb_edge::{Bytes, SureSource};
 use std::alloc::{AllocError, Global};
@@ -276,11 +278,11 @@ fn slow_run<R: Abort + AllocGlobal>(
     let disk = disk(alloc, fresh(alloc)?, NOTHING_FAILS)?;
     let mut source = SureSource::new(Bytes::from_vec(job.as_bytes().to_vec(alloc)?));
     let mut out = SlowSink::new(alloc, fails_at)?;
-    let words = words(alloc, &["run", "v"])?;
+    let words = words_alone(alloc, &["run", "v"])?;
     let Finish {
         status: found,
         held,
-    } = membrane(alloc, &words, &mut source, disk, &mut out);
+    } = membrane_alone(alloc, &words, &mut source, disk, &mut out);
     let _disk = held.into_disk();
     assert_eq!(rt; found, status, "write {fails_at}");
     Ok(out)

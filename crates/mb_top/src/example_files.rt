@@ -93,6 +93,90 @@ end 14 faults 4 seal 14
 /// What is printed of the volume that it leaves.
 pub const TWO_CALLERS_SOUND: &str = "sound nodes 3 held 3 free 93\n";
 
+/// The text of `examples/threads/job.toml`.
+pub const THREADS_JOB: &str = "\
+# Four callers, each in a thread of its own, make a directory and a file there, read it, and give it a second name in the
+# root, where all four write. Four faults strike, each another caller's call; each wipes what the file system has in memory.
+# The calls are numbered from 1, in the order of this list.
+callers = [\"a 0 0\", \"b 3 3\", \"c 4 4\", \"d 5 5\"]
+calls = [
+    \"a mkdir /a 755\", \"b mkdir /b 755\", \"c mkdir /c 755\", \"d mkdir /d 755\",
+    \"a creat /a/one 644\", \"b creat /b/one 644\", \"c creat /c/one 644\", \"d creat /d/one 644\",
+    \"a text 3 alpha\", \"b text 3 beta\", \"c text 3 gamma\", \"d text 3 delta\",
+    \"a fill 3 6000 46\", \"b fill 3 6000 46\", \"c fill 3 6000 46\", \"d fill 3 6000 46\",
+    \"a close 3\", \"b close 3\", \"c close 3\", \"d close 3\",
+    \"a open /a/one r\", \"b open /b/one r\", \"c open /c/one r\", \"d open /d/one r\",
+    \"a read 3 5\", \"b read 3 4\", \"c read 3 5\", \"d read 3 5\",
+    \"a lseek 3 0 2\", \"b lseek 3 0 2\", \"c lseek 3 0 2\", \"d lseek 3 0 2\",
+    \"a link /a/one /a-one\", \"b link /b/one /b-one\", \"c link /c/one /c-one\", \"d link /d/one /d-one\",
+    \"a chmod /a-one 600\", \"b chmod /b-one 600\", \"c chmod /c-one 600\", \"d chmod /d-one 600\",
+    \"a rmdir /a\", \"b rmdir /b\", \"c rmdir /c\", \"d rmdir /d\",
+    \"a access /a/none 4\", \"b access /b/none 4\", \"c access /c/none 4\", \"d access /d/none 4\",
+]
+faults = [
+    \"9 finish 0 1 wipe 255\",
+    \"14 gather 1 1 wipe 0 count 4 7\",
+    \"23 enter 0 1 wipe 85\",
+    \"36 leave 0 1 wipe 170\",
+]
+";
+
+/// The lines of that job's callers, one caller after another, without their numbers.
+pub const THREADS_OWN: &str = "\
+a mkdir /a 755 = 0
+a creat /a/one 644 = 3
+a text 3 alpha = 5
+a fill 3 6000 46 = 6000
+a close 3 = 0
+a open /a/one r = 3
+a read 3 5 = 5 616c706861
+a lseek 3 0 2 = 6005
+a link /a/one /a-one = 0
+a chmod /a-one 600 = 0
+a rmdir /a = EEXIST
+a access /a/none 4 = ENOENT
+a exit = 0
+b mkdir /b 755 = 0
+b creat /b/one 644 = 3
+b text 3 beta = 4
+b fill 3 6000 46 = 6000
+b close 3 = 0
+b open /b/one r = 3
+b read 3 4 = 4 62657461
+b lseek 3 0 2 = 6004
+b link /b/one /b-one = 0
+b chmod /b-one 600 = 0
+b rmdir /b = EEXIST
+b access /b/none 4 = ENOENT
+b exit = 0
+c mkdir /c 755 = 0
+c creat /c/one 644 = 3
+c text 3 gamma = 5
+c fill 3 6000 46 = 6000
+c close 3 = 0
+c open /c/one r = 3
+c read 3 5 = 5 67616d6d61
+c lseek 3 0 2 = 6005
+c link /c/one /c-one = 0
+c chmod /c-one 600 = 0
+c rmdir /c = EEXIST
+c access /c/none 4 = ENOENT
+c exit = 0
+d mkdir /d 755 = 0
+d creat /d/one 644 = 3
+d text 3 delta = 5
+d fill 3 6000 46 = 6000
+d close 3 = 0
+d open /d/one r = 3
+d read 3 5 = 5 64656c7461
+d lseek 3 0 2 = 6005
+d link /d/one /d-one = 0
+d chmod /d-one 600 = 0
+d rmdir /d = EEXIST
+d access /d/none 4 = ENOENT
+d exit = 0
+";
+
 // One byte more of a checksum, its highest bit first.
 fn fed(sum: u32, byte: u8) -> u32 {
     let mut sum = sum ^ (u32::from(byte) << 24);
@@ -141,6 +225,8 @@ fn the_files_of_the_examples_are_those_of_the_tests(rt: HostRuntime) -> Result<(
             TWO_CALLERS_JOB.as_bytes(),
         ),
         ("1427719782 467 two-callers/session.out", session.as_bytes()),
+        ("2525395326 1442 threads/job.toml", THREADS_JOB.as_bytes()),
+        ("1705368960 1089 threads/own.out", THREADS_OWN.as_bytes()),
     ] {
         let sum = cksum(bytes);
         let length = bytes.len();

@@ -1,7 +1,7 @@
 use crate::example_files::{HELLO_JOB, HELLO_TEXT};
 use crate::finish::Finish;
-use crate::membrane::membrane;
-use crate::trials::{NOTHING_FAILS, checked, expect, fresh, printed, run, words};
+use crate::membrane::membrane_alone;
+use crate::trials::{NOTHING_FAILS, checked, expect, fresh, printed, run, words_alone};
 use crate::volumes::{fresh_volume, hello_volume, put, volume_with};
 use mb_edge::{Bytes, Fails, MemSink, SureDisk, SureSource};
 use std::alloc::{AllocError, Global};
@@ -46,8 +46,8 @@ fn write_hi_over_a_sure_disk(rt: HostRuntime) -> Result<(), Fail> {
     let disk = SureDisk::new(alloc, Bytes::from_vec(image))?;
     let mut job = SureSource::new(Bytes::from_vec(HI_JOB.as_bytes().to_vec(alloc)?));
     let mut out = MemSink::new(alloc, 4096, Fails::new(alloc))?;
-    let words = words(alloc, &["run", "v"])?;
-    let Finish { status, held } = membrane(alloc, &words, &mut job, disk, &mut out);
+    let words = words_alone(alloc, &["run", "v"])?;
+    let Finish { status, held } = membrane_alone(alloc, &words, &mut job, disk, &mut out);
     let _disk = held.into_disk();
     assert_eq!(rt; str::from_utf8(out.taken())?, HI_TEXT);
     assert_eq!(rt; status, 0);

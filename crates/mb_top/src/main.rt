@@ -24,6 +24,8 @@ mod running;
 #[cfg(test)]
 mod slow_sinks;
 #[cfg(test)]
+mod thread_tests;
+#[cfg(test)]
 mod trials;
 #[cfg(test)]
 mod volumes;
@@ -80,7 +82,7 @@ fn main(rt: HostRuntime) -> ExitCode {
         })
     );
     let disk = FileDisk::new(&rt, Word8::from_vec(path), makes);
-    let Finish { status, held } = membrane(rt.alloc(), &words, &mut job, disk, &mut out);
+    let Finish { status, held } = membrane(&rt, rt.alloc(), &words, &mut job, disk, &mut out);
     let _disk = held.into_disk();
     ExitCode::from(status)
 }

@@ -4,7 +4,7 @@ use std::alloc::{AllocError, Global};
 use std::process::Abort;
 use std::test::Fail;
 
-// Near misses of each command, and the commands that a later version has. Neither reads its job, which is none, nor the
+// Near misses of each command, and the command that a later version has. Neither reads its job, which is none, nor the
 // image.
 #[test]
 fn words_end_the_program_by_their_command(rt: HostRuntime) -> Result<(), Fail> {
@@ -20,8 +20,6 @@ fn words_end_the_program_by_their_command(rt: HostRuntime) -> Result<(), Fail> {
         (["mkfs", "v", "100"].as_slice(), 1, refused),
         (["check", "v", "w"].as_slice(), 1, refused),
         (["soak", "v", "1", "0", "0"].as_slice(), 1, refused),
-        (["run", "v", "--threads"].as_slice(), 9, not_built),
-        (["run", "--threads", "v"].as_slice(), 9, not_built),
         (["soak", "v", "1", "1", "0"].as_slice(), 9, not_built),
     ] {
         let image = hello_volume(rt.alloc())?;

@@ -1,87 +1,126 @@
-ghost use Rattle.std.specs.Prelude.{◌≡◌, ◌≢◌, ◌≤◌, ◌++◌, ℕ, List, length, Ok, IfOk};
-ghost use Rattle.mb_core_events.specs.Beginning.{TellsVolume};
+ghost use Rattle.std.specs.Prelude.{◌≡◌, ◌≢◌, ◌≤◌, ◌++◌, ℕ, Bool, true, false, List, Ok, IfOk};
+ghost use Rattle.mb_core_events.specs.Beginning.{IsRefused};
 ghost use Rattle.mb_core_spec.specs.Right.{Right};
-ghost use Rattle.mb_headline.specs.Headline.{IsConfigOf};
+ghost use Rattle.mb_headline.specs.Laws.{IsBegunFor};
 ghost use Rattle.mb_jobs.specs.Job.{job_in};
+ghost use Rattle.mb_jobs.specs.declared.jobs.Job.{Job};
 ghost use Rattle.mb_print.specs.Transcript.{end_text, failed_text, transcript_text};
 ghost use Rattle.mb_core_spec.specs.declared.stages.Stage.TheVariants as Stage;
 ghost use Rattle.mb_run.specs.CoreSight.{sight_of};
-ghost use Rattle.mb_run.specs.Drives.{IsBegun, IsRunnable};
+ghost use Rattle.mb_run.specs.Drives.{IsBegun};
+ghost use Rattle.mb_run.specs.Sights.{IsOrderly};
+ghost use Rattle.mb_run.specs.declared.drives.DriveEnd.TheVariants as DriveEnd;
 ghost use Rattle.mb_top.specs.Held.{HoldsCore, held_disk};
-ghost use Rattle.mb_top.specs.Outcomes.{ComesOfCore, ComesOfJob, IsBegunFor, Says, ended_text, unsettled_text};
+ghost use Rattle.mb_top.specs.Outcomes.{ComesOfCore, ComesOfJob, IsDrivenFor, Says, ended_text, unsettled_text};
 
 use crate::deciding::{Decided, refused_as};
 use crate::finish::Held;
 use crate::outcomes::Outcome;
 use mb_core_events::{Core, Refusal, State};
-use mb_core_spec::Config;
-use mb_edge::{Disk, NoMemory};
+use mb_edge::Disk;
 use mb_fsops::V7;
-use mb_headline::{begins_for_job, jobs_are_fit, paths_are_runs, paths_end, paths_fail};
+use mb_headline::{
+    begin_for, drives_apart, drives_keep_order, injectors_for, jobs_are_fit, paths_are_runs,
+    paths_end, paths_fail,
+};
 use mb_jobs::{Job, Text};
-use mb_kinds::Creds;
 use mb_print::{failed_line, last_line, transcript};
 use mb_run::{DriveEnd, Driven, SettleEnd, Settled, drive, settle};
+use mb_threads::drive_threads;
 use mb_volume_core::VolumeCore;
 use std::alloc::{AllocError, Global};
+use std::sync::Wait;
+use std::thread::Threads;
 
 /// Begins a core over the disk, runs the job with it, and ends the run. A disk whose image is no volume, or that fails
 /// while the image is opened, is given back.
 pub fn run_over<D: Disk>(alloc: Global, disk: D, job: &Job) -> Decided<D>
     requires { (bytes : List ℕ) × (job_in bytes ≡ Ok job.now) }
-    ensures over { ComesOfJob D.told D.faults job.now disk result.held result.outcome }
+    ensures over { ComesOfJob D.told D.faults false job.now disk result.held result.outcome }
     ensures later { D.faults disk ≤ D.faults (held_disk result.held) }
 {
-    jobs_are_fit();
-    begins_for_job::<V7, D>();
-    let Ok(config) = config_of(alloc, job) else {
-        return Decided {
-            outcome: Outcome::OutOfMemory,
-            held: Held::Disk(disk),
-        };
-    };
-    match Core::begin(alloc, V7, disk, config) {
+    match begin_for(alloc, V7, disk, job) {
         Ok(core) => run_begun(alloc, core, job),
-        Err(Refusal { fault, disk }) => Decided {
-            outcome: refused_as(alloc, fault),
-            held: Held::Disk(disk),
-        },
+        Err(refusal) => refused(alloc, refusal),
     }
 }
 
-// What a core is begun with for a job.
-fn config_of(alloc: Global, job: &Job) -> Result<Config, NoMemory>
-    requires few { length job.now.callers ≤ 8 }
-    requires calls { length job.now.calls ≤ 4294967295 }
-    ensures config { IfOk result (IsConfigOf job.now) }
-    ensures most { IfOk result (λ config. config.most ≡ length job.now.calls) }
+/// The same, where each caller has a thread of its own. There a caller may wait for another, so it need not return.
+pub fn run_by_threads<D: Disk + Send, R: Threads + Wait + Sync>(
+    rt: &R,
+    alloc: Global,
+    disk: D,
+    job: &Job,
+) -> Decided<D>
+    requires { (bytes : List ℕ) × (job_in bytes ≡ Ok job.now) }
+    ensures over { ComesOfJob D.told D.faults true job.now disk result.held result.outcome }
+    ensures later { D.faults disk ≤ D.faults (held_disk result.held) }
 {
-    let mut creds = Vec::with_capacity(alloc, job.callers.as_slice().len())?;
-    for caller in job.callers.as_slice() {
-        creds.push(caller.cred)?;
+    match begin_for(alloc, V7, disk, job) {
+        Ok(core) => run_begun_by_threads(rt, alloc, core, job),
+        Err(refusal) => refused(alloc, refusal),
     }
-    Ok(Config {
-        callers: Creds::from_vec(creds),
-        start: job.start,
-        threshold: job.threshold,
-        limit: job.limit,
-        most: job.calls.len() as u32,
-    })
+}
+
+// What comes of a job over whose disk no core could be begun.
+fn refused<D: Disk>(alloc: Global, refusal: Refusal<D>) -> Decided<D>
+    ensures comes { (threads : Bool) (job : Job) (disk : D) → IsRefused D.told D.faults disk refusal.fault refusal.disk → ComesOfJob D.told D.faults threads job disk result.held result.outcome }
+    ensures held { result.held ≡ Held.Disk refusal.disk }
+{
+    let Refusal { fault, disk } = refusal;
+    Decided {
+        outcome: refused_as(alloc, fault),
+        held: Held::Disk(disk),
+    }
 }
 
 // Runs a job over a core that was begun for it, and ends the run.
 fn run_begun<D: Disk>(alloc: Global, core: Core<V7, D>, job: &Job) -> Decided<D>
     requires job { (bytes : List ℕ) × (job_in bytes ≡ Ok job.now) }
-    requires runnable { IsRunnable job.now }
     requires begun { IsBegun job.now (sight_of core) }
-    ensures core { (disk : D) (fs : V7) → IsBegunFor D.told D.faults fs job.now disk core → HoldsCore result.held (λ held. ComesOfCore D.told D.faults job.now disk held result.outcome) }
+    ensures core { (disk : D) (fs : V7) → IsBegunFor D.told D.faults fs job.now disk core → HoldsCore result.held (λ held. ComesOfCore D.told D.faults false job.now disk held result.outcome) }
     ensures later { D.faults core.first ≤ D.faults (held_disk result.held) }
+{
+    jobs_are_fit();
+    drives_apart();
+    drives_keep_order();
+    let mut hook = job.plan.hook();
+    let Driven { core, end } = drive(alloc, VolumeCore { core }, job, &mut hook);
+    end_run(alloc, core, end, job)
+}
+
+// Runs a job over a core that was begun for it, each caller in a thread of its own, and ends the run.
+fn run_begun_by_threads<D: Disk + Send, R: Threads + Wait + Sync>(
+    rt: &R,
+    alloc: Global,
+    core: Core<V7, D>,
+    job: &Job,
+) -> Decided<D>
+    requires job { (bytes : List ℕ) × (job_in bytes ≡ Ok job.now) }
+    requires begun { IsBegun job.now (sight_of core) }
+    ensures core { (disk : D) (fs : V7) → IsBegunFor D.told D.faults fs job.now disk core → HoldsCore result.held (λ held. ComesOfCore D.told D.faults true job.now disk held result.outcome) }
+    ensures later { D.faults core.first ≤ D.faults (held_disk result.held) }
+{
+    jobs_are_fit();
+    let core = VolumeCore { core };
+    let Ok(hooks) = injectors_for(alloc, job) else {
+        return held(core, Outcome::OutOfMemory);
+    };
+    let Driven { core, end } = drive_threads(rt, alloc, core, job, hooks);
+    in_order(&core.core);
+    end_run(alloc, core, end, job)
+}
+
+// Ends a run that a driver left: a recovery in progress is made, and the pages are written back.
+fn end_run<D: Disk>(alloc: Global, core: VolumeCore<V7, D>, end: DriveEnd, job: &Job) -> Decided<D>
+    requires job { (bytes : List ℕ) × (job_in bytes ≡ Ok job.now) }
+    requires right { IsOrderly (sight_of core.core) }
+    ensures core { (threads : Bool) (disk : D) (fs : V7) → (end ≢ DriveEnd.NoMemory → IsDrivenFor D.told D.faults threads fs job.now disk core.core) → HoldsCore result.held (λ held. ComesOfCore D.told D.faults threads job.now disk held result.outcome) }
+    ensures later { D.faults core.core.first ≤ D.faults (held_disk result.held) }
 {
     paths_are_runs::<V7, D>();
     paths_end::<V7, D>();
     paths_fail::<V7, D>();
-    let mut hook = job.plan.hook();
-    let Driven { core, end } = drive(alloc, VolumeCore { core }, job, &mut hook);
     in_order(&core.core);
     if end == DriveEnd::NoMemory {
         return held(core, Outcome::OutOfMemory);

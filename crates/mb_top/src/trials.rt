@@ -1,6 +1,10 @@
 //! Runs of `membrane` over devices in memory, for the tests.
+ghost use Rattle.std.specs.Prelude.{◌≡◌, false, IfOk};
+ghost use Rattle.mb_commands.specs.Words.{command_of, is_threaded};
+
 use crate::finish::{Finish, Held};
-use crate::membrane::membrane;
+use crate::membrane::membrane_alone;
+use mb_commands::asks_threads;
 use mb_core_spec::Step;
 use mb_edge::{Bytes, Fails, MemDisk, MemSink, MemSource};
 use mb_host::{Word8, Words};
@@ -47,13 +51,24 @@ fn fails(alloc: Global, calls: &[u64]) -> Result<Fails, AllocError> {
     Ok(Fails::from_vec(calls.to_vec(alloc)?))
 }
 
-/// The words of a command.
+/// The words after the program's name.
 pub fn words(alloc: Global, list: &[&str]) -> Result<Words, AllocError> {
     let mut words = Vec::new(alloc);
     for word in list {
         words.push(Word8::from_vec(word.as_bytes().to_vec(alloc)?))?;
     }
     Ok(Words::from_vec(words))
+}
+
+/// The same, where they ask for no threads.
+pub fn words_alone(alloc: Global, list: &[&str]) -> Result<Words, Fail>
+    ensures { IfOk result (λ words. is_threaded (command_of words) ≡ false) }
+{
+    let words = words(alloc, list)?;
+    if asks_threads(&words) {
+        return Err("these words ask for threads".into());
+    }
+    Ok(words)
 }
 
 /// A disk with that image, some calls of which fail.
@@ -85,8 +100,8 @@ fn records_of(alloc: Global, held: &Held<MemDisk>) -> Result<Vec<FaultRecord>, A
     }
 }
 
-// What is left of a run that ended with that status and printed that.
-fn ended(
+/// What is left of a run that ended with that status and printed that.
+pub fn ended(
     alloc: Global,
     status: u8,
     printed: &[u8],
@@ -104,7 +119,7 @@ fn ended(
     })
 }
 
-/// Runs the program with those words, over that image, with that job as its input.
+/// Runs the program with those words, which ask for no threads, over that image, with that job as its input.
 pub fn run(
     alloc: Global,
     list: &[&str],
@@ -116,8 +131,8 @@ pub fn run(
     let mut source = MemSource::new(input, fails(alloc, failing.inputs)?);
     let disk = disk(alloc, image, failing)?;
     let mut sink = MemSink::new(alloc, 1_048_576, fails(alloc, failing.outputs)?)?;
-    let words = words(alloc, list)?;
-    let Finish { status, held } = membrane(alloc, &words, &mut source, disk, &mut sink);
+    let words = words_alone(alloc, list)?;
+    let Finish { status, held } = membrane_alone(alloc, &words, &mut source, disk, &mut sink);
     Ok(ended(alloc, status, sink.taken(), held)?)
 }
 

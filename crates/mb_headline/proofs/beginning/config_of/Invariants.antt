@@ -1,6 +1,6 @@
 use Rattle.std.proofs.Common.{◌≡◌, map, take}
 use Rattle.mb_jobs.specs.declared.jobs.Caller.{Caller}
-use Rattle.mb_top.proofs.running.config_of.Given as goal
+use Rattle.mb_headline.proofs.beginning.config_of.Given as goal
 
 abbrev pub invariant-loop-caller : goal.invariant-loop-caller
 invariant-loop-caller l = record {

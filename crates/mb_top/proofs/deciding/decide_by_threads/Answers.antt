@@ -1,0 +1,16 @@
+use Rattle.std.proofs.Common.{true}
+use Rattle.mb_top.proofs.Runs.{fault_of_words}
+use Rattle.mb_top.proofs.Words.{of_job}
+use Rattle.mb_top.proofs.deciding.decide_by_threads.Goals as goal
+
+pub returns-in-Ok-clause-comes : goal.returns-in-Ok-clause-comes
+returns-in-Ok-clause-comes g c =
+    of_job g.D.Disk.told g.D.Disk.faults true (g.S.Source.left c.args.job.now) c.args.disk c.run_by_threads.result.held c.run_by_threads.result.outcome (record {
+      bytes = c.in-Ok.ensures.job.bytes;
+      first = c.in-Ok.ensures.job.first;
+      few = c.in-Ok.ensures.job.few;
+      fact = record { job = c.in-Ok.job; read = c.in-Ok.ensures.job.fact; over = c.run_by_threads.ensures.over };
+    })
+
+pub returns-in-Ok-clause-device : goal.returns-in-Ok-clause-device
+returns-in-Ok-clause-device g c = fault_of_words g.D.Disk.told g.D.Disk.faults true (g.S.Source.left c.args.job.now) c.args.disk c.run_by_threads.result.held c.run_by_threads.result.outcome (returns-in-Ok-clause-comes g c)
