@@ -49,12 +49,13 @@ fn push_files(
     folder: &str,
     name: char,
 ) -> Result<(), AllocError> {
+    let mut size: u32 = 1024;
     for file in 0..30 {
-        let size = 1024 + 1344 * file;
         let texts = format!(in alloc;
             ", '{caller} creat {folder}/{name}{file} 644', '{caller} fill 3 {size} 65', '{caller} close 3'"
         )?;
         calls.push_str(texts.as_str())?;
+        size = size.saturating_add(1344);
     }
     Ok(())
 }
@@ -67,12 +68,13 @@ fn push_lines(
     folder: &str,
     name: char,
 ) -> Result<(), AllocError> {
+    let mut size: u32 = 1024;
     for file in 0..30 {
-        let size = 1024 + 1344 * file;
         let texts = format!(in alloc;
             "{caller} creat {folder}/{name}{file} 644 = 3\n{caller} fill 3 {size} 65 = {size}\n{caller} close 3 = 0\n"
         )?;
         lines.push_str(texts.as_str())?;
+        size = size.saturating_add(1344);
     }
     Ok(())
 }
