@@ -4,14 +4,13 @@ use Rattle.std.specs.List.{AllByRecursion}
 use Rattle.std.proofs.Math.Nat.{mod-lt}
 use Rattle.std.proofs.lemmas.Bool.{cond_both}
 use Rattle.rand_pcg.specs.Pcg.{pcg32}
-use Rattle.mb_plan.specs.declared.rules.Rule.{Rule}
 use Rattle.mb_jobs.specs.declared.jobs.JobCall.{JobCall}
 use Rattle.mb_jobs.specs.Lists.{added_exit, exit_at, exits_from, lacks_exit, with_exits}
 use Rattle.mb_gen.specs.Calls.{call_drawn, calls_drawn, close_call, creat_call, fill_call, lseek_call, open_call, read_call, row_drawn, stat_call, unlink_call}
 use Rattle.mb_gen.specs.Draws.{drawn, of_one, of_three, of_two}
-use Rattle.mb_gen.specs.Faults.{rules_drawn}
+use Rattle.mb_gen.specs.Faults.{rule_drawn, rules_drawn}
 use Rattle.mb_gen.specs.Generator.{draws_of, job_drawn, the_callers}
-use Rattle.mb_gen.specs.Laws.{GeneratedAreFit, IsFitToRun, IsReadOfText}
+use Rattle.mb_gen.specs.Laws.{GeneratedAreFit, IsFitToRun, IsReadOfText, StrikesFirst}
 use Rattle.mb_gen.proofs.Reading.{close_read, creat_read, fill_read, lseek_read, open_read, read_read, stat_read, unlink_read}
 
 all_with : {A : Type 0} (P : A → Type 0) (xs ys : List A) → AllByRecursion P xs → AllByRecursion P ys → AllByRecursion P (xs ++ ys)
@@ -20,9 +19,6 @@ all_with P (x ∷ xs) ys some more = (some.0, all_with P xs ys some.1 more)
 
 abbrev IsNamed : JobCall → Type 0
 IsNamed made = made.caller < 2
-
-abbrev IsEarly : Rule → Type 0
-IsEarly rule = rule.skip + rule.times ≤ 1
 
 either : {G : Type 0} (P : JobCall → Type 0) (b : Bool) (one other : JobCall × G) → P one.0 → P other.0 → P (cond b one other).0
 either P true one other first second = first
@@ -82,10 +78,20 @@ module _ {G : Type 0} (step : G → ℕ × G) where
       let whole = length-append (calls_drawn step count draws).0 ((call_drawn step (calls_drawn step count draws).1).0 ∷ []) in
       omega (arith, before, whole)
 
-  rules_early : (calls : List JobCall) (bound count : ℕ) (draws : G) → AllByRecursion IsEarly (rules_drawn step calls bound count draws).0
+  rules_strike : (calls : List JobCall) (bound count : ℕ) (draws : G) → AllByRecursion StrikesFirst (rules_drawn step calls bound count draws).0
   unfolding rules_drawn
-  rules_early calls bound zero draws = tt
-  rules_early calls bound (suc count) draws = all_with IsEarly (rules_drawn step calls bound count draws).0 _ (rules_early calls bound count draws) (omega arith, tt)
+  rules_strike calls bound zero draws = tt
+  rules_strike calls bound (suc count) draws =
+      all_with StrikesFirst (rules_drawn step calls bound count draws).0 _ (rules_strike calls bound count draws) (record { first = refl; once = refl }, tt)
+
+  rules_size : (calls : List JobCall) (bound count : ℕ) (draws : G) → length (rules_drawn step calls bound count draws).0 ≡ count
+  unfolding rules_drawn
+  rules_size calls bound zero draws = refl
+  rules_size calls bound (suc count) draws =
+      let before = rules_size calls bound count draws in
+      let rules = rules_drawn step calls bound count draws in
+      let whole = length-append rules.0 ((rule_drawn step calls bound rules.1).0 ∷ []) in
+      omega (arith, before, whole)
 
 -- what holds of an `exit` of either caller holds of those that are added
 exits_hold : (P : JobCall → Type 0) (calls : List JobCall) (place : ℕ) → P (added_exit place) → AllByRecursion P (exit_at calls place)
@@ -108,7 +114,7 @@ all_few calls =
     let second = exit_few calls 1 in
     omega (arith, whole, exits, last, first, second)
 
-drawn_fit : {G : Type 0} (step : G → ℕ × G) (calls faults : ℕ) (draws : G) → calls ≤ 32768 → IsFitToRun (job_drawn step calls faults draws)
+drawn_fit : {G : Type 0} (step : G → ℕ × G) (calls faults : ℕ) (draws : G) → calls ≤ 32768 → IsFitToRun faults (job_drawn step calls faults draws)
 drawn_fit step calls faults draws few = record {
   letters = refl;
   named = all_hold IsNamed (calls_drawn step calls draws).0 (omega arith) (omega arith) (calls_hold step IsNamed (call_named step) calls draws);
@@ -117,7 +123,8 @@ drawn_fit step calls faults draws few = record {
   start = refl;
   threshold = refl;
   limit = refl;
-  early = rules_early step (with_exits the_callers (calls_drawn step calls draws).0) calls faults (calls_drawn step calls draws).1;
+  rules = rules_size step (with_exits the_callers (calls_drawn step calls draws).0) calls faults (calls_drawn step calls draws).1;
+  strikes = rules_strike step (with_exits the_callers (calls_drawn step calls draws).0) calls faults (calls_drawn step calls draws).1;
 }
 
 pub generated_are_fit : GeneratedAreFit

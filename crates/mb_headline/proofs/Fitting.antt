@@ -12,10 +12,10 @@ use Rattle.mb_jobs.specs.declared.jobs.Job.{Job}
 use Rattle.mb_run.specs.Letters.{AreLetters, letters_of}
 use Rattle.mb_run.specs.Runs.{AllStrike}
 use Rattle.mb_headline.specs.Headline.{IsConfigOf}
-use Rattle.mb_headline.specs.Laws.{IsFitJob, JobsAreFit}
+use Rattle.mb_headline.specs.Laws.{IsEarly, IsFitJob, JobsAreFit}
 use Rattle.mb_headline.proofs.Fields.{fields_fit}
 use Rattle.mb_headline.proofs.Lines.{all_few, all_named}
-use Rattle.mb_headline.proofs.Planned.{IsEarly, rules_early, rules_strike}
+use Rattle.mb_headline.proofs.Planned.{rules_early, rules_strike}
 use Rattle.mb_headline.proofs.Reading.{IsRead, read_job}
 
 module _ (job : Job) (read : IsRead job) where
@@ -51,6 +51,15 @@ module _ (job : Job) (read : IsRead job) where
         limit = (let low = fit.limit in omega (arith, low, limit));
       }
 
+  plan_early : AllByRecursion IsEarly job.plan
+  plan_early = subst (AllByRecursion IsEarly) (ap (λ (j : Job). j.plan) read.made.is) (rules_early (with_exits read.fields.callers read.made.calls) read.fields.faults read.made.rules read.made.planned)
+
+  plan_strikes : AllStrike job.plan
+  plan_strikes = subst AllStrike (ap (λ (j : Job). j.plan) read.made.is) (rules_strike (with_exits read.fields.callers read.made.calls) read.fields.faults read.made.rules read.made.planned)
+
+  fit_letters : AreLetters (letters_of job.callers)
+  fit_letters = subst (λ callers. AreLetters (letters_of callers)) callers_are (fields_fit read.members read.fields read.keyed).callers.letters
+
   pub fit_job : IsFitJob job
   fit_job = record {
     runnable = record {
@@ -60,25 +69,10 @@ module _ (job : Job) (read : IsRead job) where
       small = (let few = fit_calls in omega (arith, few));
     };
     config = fit_config;
+    letters = fit_letters;
+    early = plan_early;
+    strikes = plan_strikes;
   }
-
-  pub plan_early : AllByRecursion IsEarly job.plan
-  plan_early = subst (AllByRecursion IsEarly) (ap (λ (j : Job). j.plan) read.made.is) (rules_early (with_exits read.fields.callers read.made.calls) read.fields.faults read.made.rules read.made.planned)
-
-  pub plan_strikes : AllStrike job.plan
-  plan_strikes = subst AllStrike (ap (λ (j : Job). j.plan) read.made.is) (rules_strike (with_exits read.fields.callers read.made.calls) read.fields.faults read.made.rules read.made.planned)
-
-  pub fit_letters : AreLetters (letters_of job.callers)
-  fit_letters = subst (λ callers. AreLetters (letters_of callers)) callers_are (fields_fit read.members read.fields read.keyed).callers.letters
 
 pub jobs_fit : JobsAreFit
 jobs_fit bytes job is = fit_job job (read_job bytes job is)
-
-pub planned_early : (bytes : List ℕ) (job : Job) → job_in bytes ≡ Ok job → AllByRecursion IsEarly job.plan
-planned_early bytes job is = plan_early job (read_job bytes job is)
-
-pub planned_strikes : (bytes : List ℕ) (job : Job) → job_in bytes ≡ Ok job → AllStrike job.plan
-planned_strikes bytes job is = plan_strikes job (read_job bytes job is)
-
-pub job_letters : (bytes : List ℕ) (job : Job) → job_in bytes ≡ Ok job → AreLetters (letters_of job.callers)
-job_letters bytes job is = fit_letters job (read_job bytes job is)

@@ -4,6 +4,7 @@ pub mod Fields
 pub mod Lines
 pub mod Planned
 pub mod Fitting
+pub mod Generated
 pub mod Begun
 pub mod Running
 pub mod Ended

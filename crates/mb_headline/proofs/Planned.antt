@@ -14,6 +14,7 @@ use Rattle.mb_jobs.specs.Numbers.{digits_on, from_one, index_in, is_digit, numbe
 use Rattle.mb_jobs.specs.Rules.{kind_in, rule_in, rule_of, rule_of_words, rules_in, strokes_in}
 use Rattle.mb_jobs.specs.Words.{words_in}
 use Rattle.mb_run.specs.Runs.{AllStrike}
+use Rattle.mb_headline.specs.Laws.{IsEarly}
 use Rattle.mb_headline.proofs.Reading.{all_with, and_then_some, no_some, read_keeps, when_some}
 
 -- ---- numbers
@@ -49,10 +50,6 @@ index_within count word n is =
     let same = one_is parts.0 n (nat_eq parts.0 0) parts.2 in omega (arith, low, same)
 
 -- ---- rules
-
--- a rule fires at the first crossings alone
-abbrev pub IsEarly : Rule → Type 0
-IsEarly rule = rule.skip + rule.times ≤ 100255
 
 rule_parts : (calls : List JobCall) (index : Option ℕ) (kind : Option Kind) (skip times : Option ℕ) (strokes : Option (List Stroke)) (rule : Rule) → rule_of calls index kind skip times strokes ≡ Some rule
     → (skip ≡ Some rule.skip) × (times ≡ Some rule.times)

@@ -20,8 +20,8 @@ use Rattle.mb_tree.specs.History.{Legal}
 use Rattle.mb_tree.specs.Opening.{opening}
 use Rattle.mb_tree.specs.declared.trees.Tree.{Tree}
 use Rattle.mb_headline.specs.Headline.{HasHistory, HasOwnCalls, IsConfigOf, IsRun, opened}
-use Rattle.mb_headline.specs.Laws.{IsPath}
-use Rattle.mb_headline.proofs.Planned.{IsEarly, fires_early}
+use Rattle.mb_headline.specs.Laws.{IsEarly, IsPath}
+use Rattle.mb_headline.proofs.Planned.{fires_early}
 
 -- ---- what the disk tells
 

@@ -1,5 +1,6 @@
 -- What a core that was begun for a job, driven and settled comes to.
-use Rattle.std.specs.Prelude.{ℕ, ◌≤◌, ◌≡◌, ◌⊎◌, Bool, Option, Some, Ok, List, length}
+use Rattle.std.specs.Prelude.{ℕ, ◌+◌, ◌≤◌, ◌≡◌, ◌⊎◌, Bool, Option, Some, Ok, List, length}
+use Rattle.std.specs.List.{AllByRecursion}
 use Rattle.mb_core_events.specs.Beginning.{IsBegunOver}
 use Rattle.mb_core_spec.specs.Right.{Right}
 use Rattle.mb_core_spec.specs.State.{CoreState}
@@ -8,12 +9,16 @@ use Rattle.mb_edge.specs.Causes.{Rose}
 use Rattle.mb_edge.specs.declared.crossings.Crossing.{Crossing}
 use Rattle.mb_core_spec.specs.declared.config.Config.{Config}
 use Rattle.mb_core_spec.specs.declared.stages.Stage.TheVariants as stage
+use Rattle.mb_gen.specs.Generator.{generated}
 use Rattle.mb_jobs.specs.Job.{job_in}
 use Rattle.mb_jobs.specs.declared.jobs.Job.{Job}
 use Rattle.mb_kinds.specs.Image.{Image}
 use Rattle.mb_plan.specs.Fires.{fires}
+use Rattle.mb_plan.specs.declared.rules.Rule.{Rule}
 use Rattle.mb_run.specs.CoreSight.{sight_of}
 use Rattle.mb_run.specs.Drives.{IsBegun, IsDriven, IsDrivenApart, IsRunnable}
+use Rattle.mb_run.specs.Letters.{AreLetters, letters_of}
+use Rattle.mb_run.specs.Runs.{AllStrike}
 use Rattle.mb_run.specs.Settling.{IsSettled, Keeps}
 use Rattle.mb_run.specs.Sights.{Sight}
 use Rattle.mb_headline.specs.Headline.{FewerDevices, IsConfigOf, IsDone, IsGivenUp, IsRun, KeepsOrder, LeavesImage}
@@ -22,13 +27,25 @@ use Rattle.mb_headline.specs.Headline.{FewerDevices, IsConfigOf, IsDone, IsGiven
 abbrev pub MayBeginAll : Job → Config → Type 0
 MayBeginAll job config = length job.calls ≤ config.most
 
--- what a job's text writes can be run, and a core can be begun for it
+-- a rule fires at the first crossings alone, of which a call may number more
+abbrev pub IsEarly : Rule → Type 0
+IsEarly rule = rule.skip + rule.times ≤ 100255
+
+-- a job can be run, and a core can be begun for it: its callers have letters of their own, and its rules strike early
 pub record IsFitJob (job : Job) : Type 0 where
   pub runnable : IsRunnable job
   pub config : (config : Config) → IsConfigOf job config → config.most ≡ length job.calls → IsConfig config
+  pub letters : AreLetters (letters_of job.callers)
+  pub early : AllByRecursion IsEarly job.plan
+  pub strikes : AllStrike job.plan
 
+-- so is each job that a text writes
 abbrev pub JobsAreFit : Type 0
 JobsAreFit = (bytes : List ℕ) (job : Job) → job_in bytes ≡ Ok job → IsFitJob job
+
+-- and each job that is generated from a number
+abbrev pub SoaksAreFit : Type 0
+SoaksAreFit = (number calls faults : ℕ) → 1 ≤ calls → calls ≤ 32768 → IsFitJob (generated number calls faults)
 
 -- a core that begins over a disk with the config of a job is one that was begun for the job
 abbrev pub BeginsForJob : (F D : Type 0) → (D → Option Image) → (D → ℕ) → Type 0
@@ -45,10 +62,10 @@ pub record IsBegunFor {F D : Type 0} (told : D → Option Image) (faults : D →
 abbrev pub DrivesApart : Type 0
 DrivesApart = (job : Job) (test : Option (Crossing → Bool)) (old new : Sight) → IsDriven job test old new → IsDrivenApart job (λ (caller : ℕ). test) old new
 
--- what one thread leaves of a job that a text writes keeps the job's order, and the faults of its plan were taken
+-- what one thread leaves of such a job keeps the job's order, and the faults of its plan were taken
 abbrev pub DrivesKeepOrder : Type 0
-DrivesKeepOrder = (bytes : List ℕ) (job : Job) (old new : Sight)
-    → job_in bytes ≡ Ok job → old.stage ≡ stage.Running → IsDriven job (Some (fires job.plan)) old new → KeepsOrder job new.history new.records
+DrivesKeepOrder = (job : Job) (old new : Sight)
+    → IsFitJob job → old.stage ≡ stage.Running → IsDriven job (Some (fires job.plan)) old new → KeepsOrder job new.history new.records
 
 -- a core that was begun runs
 abbrev pub BegunRuns : (F D : Type 0) → (D → Option Image) → (D → ℕ) → Type 0
@@ -63,10 +80,10 @@ pub record IsPath {F D : Type 0} (fs : F) (told : D → Option Image) (faults : 
   pub keeps : Keeps (sight_of driven) (sight_of ended)
   pub right : Right told faults ended
 
--- such a run is one of a job that a text writes
+-- such a run is one of the job, where that is fit to be run
 abbrev pub PathsAreRuns : (F D : Type 0) → (D → Option Image) → (D → ℕ) → Type 0
-PathsAreRuns F D told faults = (fs : F) (bytes : List ℕ) (job : Job) (disk : D) (begun driven ended : CoreState F D)
-    → job_in bytes ≡ Ok job → IsPath fs told faults job disk begun driven ended → IsRun told faults job disk ended
+PathsAreRuns F D told faults = (fs : F) (job : Job) (disk : D) (begun driven ended : CoreState F D)
+    → IsFitJob job → IsPath fs told faults job disk begun driven ended → IsRun told faults job disk ended
 
 -- where it was settled, it is done or the volume was given up, and the image is that of the last checkpoint
 abbrev pub PathsEnd : (F D : Type 0) → (D → Option Image) → (D → ℕ) → Type 0

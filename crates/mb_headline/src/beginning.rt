@@ -1,12 +1,10 @@
-ghost use Rattle.std.specs.Prelude.{◌≡◌, ◌≤◌, ℕ, List, length, Ok, IfOk, IfErr};
+ghost use Rattle.std.specs.Prelude.{◌≡◌, ◌≤◌, length, IfOk, IfErr};
 ghost use Rattle.mb_core_events.specs.Beginning.{IsRefused, TellsVolume};
 ghost use Rattle.mb_headline.specs.Headline.{IsConfigOf};
-ghost use Rattle.mb_headline.specs.Laws.{IsBegunFor};
-ghost use Rattle.mb_jobs.specs.Job.{job_in};
+ghost use Rattle.mb_headline.specs.Laws.{IsBegunFor, IsFitJob};
 ghost use Rattle.mb_run.specs.CoreSight.{sight_of};
 ghost use Rattle.mb_run.specs.Drives.{IsBegun};
 
-use crate::laws::jobs_are_fit;
 use mb_check::OpenFault;
 use mb_core_events::{Core, Refusal};
 use mb_core_spec::Config;
@@ -25,13 +23,12 @@ pub fn begin_for<F: FileSys, D: Disk>(
     disk: D,
     job: &Job,
 ) -> Result<Core<F, D>, Refusal<D>>
-    requires { (bytes : List ℕ) × (job_in bytes ≡ Ok job.now) }
+    requires { IsFitJob job.now }
     ensures begun { IfOk result (λ core. IsBegun job.now (sight_of core)) }
     ensures over { IfOk result (IsBegunFor D.told D.faults fs job.now disk) }
     ensures volume { IfOk result (λ core. TellsVolume (D.told disk)) }
     ensures refused { IfErr result (λ refusal. IsRefused D.told D.faults disk refusal.fault refusal.disk) }
 {
-    jobs_are_fit();
     let Ok(config) = config_of(alloc, job) else {
         let fault = OpenFault::NoMemory;
         return Err(Refusal { fault, disk });

@@ -1,11 +1,20 @@
-ghost use Rattle.mb_headline.specs.Laws.{BeginsForJob, BegunRuns, DrivesApart, DrivesKeepOrder, JobsAreFit, PathsAreRuns, PathsEnd, PathsFail};
+ghost use Rattle.mb_headline.specs.Laws.{BeginsForJob, BegunRuns, DrivesApart, DrivesKeepOrder, JobsAreFit, PathsAreRuns, PathsEnd, PathsFail, SoaksAreFit};
 
 use mb_edge::Disk;
+use mb_gen::generated_are_fit;
 
-/// A job that a text writes has at most eight callers, whose calls are few enough to be counted, and a core can be begun for it.
+/// A job that a text writes has at most eight callers with letters of their own, whose calls are few enough to be counted; its rules
+/// strike, at early crossings alone; and a core can be begun for it.
 pub fn jobs_are_fit()
     ensures { JobsAreFit }
 {}
+
+/// So does each job that is generated from a number.
+pub fn soaks_are_fit()
+    ensures { SoaksAreFit }
+{
+    generated_are_fit();
+}
 
 /// A core that begins over a disk with what a job asks for is one that the driver may run the job over.
 pub fn begins_for_job<F, D: Disk>()

@@ -16,5 +16,5 @@ pub use beginning::begin_for;
 pub use injectors::{Injector, injectors_for};
 pub use laws::{
     begins_for_job, begun_runs, drives_apart, drives_keep_order, jobs_are_fit, paths_are_runs,
-    paths_end, paths_fail,
+    paths_end, paths_fail, soaks_are_fit,
 };

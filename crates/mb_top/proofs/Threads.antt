@@ -1,5 +1,5 @@
 -- A core that threads drove, each with a fault injector that goes by the job's plan.
-use Rattle.std.proofs.Common.{Bool, true, List, [], ◌∷◌, ℕ, zero, suc, ◌<◌, ◌≡◌, Option, Some, length, ap, arith, subst, ◌∙◌, refl}
+use Rattle.std.proofs.Common.{Bool, List, [], ◌∷◌, ℕ, zero, suc, ◌<◌, ◌≡◌, Option, Some, length, ap, arith, subst, ◌∙◌, refl}
 use Rattle.std.specs.Prelude.{IfSome, map, replicate}
 use Rattle.std.specs.List.{AllByRecursion}
 use Rattle.mb_core_spec.specs.Right.{Right}
@@ -20,6 +20,7 @@ use Rattle.mb_run.specs.Sights.{Sight}
 use Rattle.mb_threads.specs.Driven.{test_of}
 use Rattle.mb_core_spec.specs.declared.config.Config.{Config}
 use Rattle.mb_top.specs.Outcomes.{IsDrivenFor}
+use Rattle.mb_top.specs.declared.manners.Manner.TheVariants as manners
 
 -- the test of a plan's fault injector
 abbrev plan_test : Hooked → Option (Crossing → Bool)
@@ -55,7 +56,7 @@ by_plan job tests count old new same low drives = record {
 
 pub driven_by_threads : {D : Type 0} (told : D → Option Image) (faults : D → ℕ) (fs : V7) (job : Job) (disk : D) (begun driven : CoreState V7 D) (hooks : List Hooked) (hook : Hooked)
     → hooks ≡ replicate (length job.callers) hook → hook.rules ≡ job.plan → IsBegun job (sight_of begun) → Right told faults driven → IsBegunFor told faults fs job disk begun → driven.first ≡ begun.first → driven.config ≡ begun.config
-    → IsDrivenApart job (test_of (map plan_test hooks)) (sight_of begun) (sight_of driven) → IsDrivenFor told faults true fs job disk driven
+    → IsDrivenApart job (test_of (map plan_test hooks)) (sight_of begun) (sight_of driven) → IsDrivenFor told faults manners.Threads fs job disk driven
 driven_by_threads {D = D} told faults fs job disk begun driven hooks hook all rules start right over first config drives =
     let same : (caller : ℕ) → caller < length job.callers → test_of (map plan_test hooks) caller ≡ Some (fires job.plan) =
     λ caller low. ap (λ (h : List Hooked). test_of (map plan_test h) caller) all ∙ alike (length job.callers) caller hook low ∙ ap (λ (r : List Rule). Some (fires r)) rules in

@@ -1,7 +1,7 @@
 -- That a run cannot end for no reason.
 use Rattle.std.specs.Prelude.{List, ℕ, ◌≡◌, ◌≢◌, ◌≤◌, ◌⊎◌, Bool, sum_by, take, Option, Some, Ok}
 use Rattle.mb_commands.specs.Words.{command_of}
-use Rattle.mb_commands.specs.declared.commands.Command.TheVariants.{Check, Mkfs, Run}
+use Rattle.mb_commands.specs.declared.commands.Command.TheVariants.{Check, Mkfs, Run, Soak}
 use Rattle.mb_jobs.specs.Job.{job_in}
 use Rattle.mb_jobs.specs.declared.jobs.Job.{Job}
 use Rattle.mb_kinds.specs.Image.{Image}
@@ -47,4 +47,10 @@ MakesComplete {D} told faults = (words : List (List ℕ)) (left : Option (List �
 abbrev pub CheckCompletes : {D : Type 0} → (D → Option Image) → (D → ℕ) → Type 0
 CheckCompletes {D} told faults = (words : List (List ℕ)) (left : Option (List ℕ)) (disk : D) (image : Image) (tree : Tree) (held : Held D) (old new : Option (List ℕ)) (status : ℕ)
     → HasEnded told faults words left disk held old new status → command_of words ≡ Some Check → told disk ≡ Some image → IsVolume image tree
+    → status ≢ 5 → status ≢ 7 → (status ≡ 0) ⊎ (status ≡ 6)
+
+-- a `soak` of a volume, without a fault of the disk or the output: its job is run to its end, but for want of memory
+abbrev pub SoaksComplete : {D : Type 0} → (D → Option Image) → (D → ℕ) → Type 0
+SoaksComplete {D} told faults = (words : List (List ℕ)) (left : Option (List ℕ)) (disk : D) (image : Image) (tree : Tree) (held : Held D) (old new : Option (List ℕ)) (status number calls faulty : ℕ)
+    → HasEnded told faults words left disk held old new status → command_of words ≡ Some (Soak number calls faulty) → told disk ≡ Some image → IsVolume image tree
     → status ≢ 5 → status ≢ 7 → (status ≡ 0) ⊎ (status ≡ 6)

@@ -15,6 +15,7 @@ use Rattle.mb_commands.specs.declared.commands.Command.TheVariants.{Check, Mkfs,
 use Rattle.mb_core_events.specs.Beginning.{TellsVolume}
 use Rattle.mb_core_spec.specs.State.{CoreState}
 use Rattle.mb_fsops.specs.declared.v7.V7.{V7}
+use Rattle.mb_gen.specs.Generator.{generated}
 use Rattle.mb_headline.specs.Headline.{FewerDevices, IsDone, IsGivenUp, IsRun, KeepsOrder, LeavesImage}
 use Rattle.mb_headline.specs.Laws.{IsBegunFor}
 use Rattle.mb_jobs.specs.Job.{job_in}
@@ -24,18 +25,19 @@ use Rattle.mb_kinds.specs.Image.{Image}
 use Rattle.mb_mkfs.specs.Sizes.{AreSizes}
 use Rattle.mb_plan.specs.Fires.{fires}
 use Rattle.mb_print.specs.Causes.{refused_text}
-use Rattle.mb_print.specs.Transcript.{end_text, failed_text, transcript_text}
+use Rattle.mb_print.specs.Transcript.{end_text, failed_text, soak_text, transcript_text}
 use Rattle.mb_run.specs.CoreSight.{sight_of}
 use Rattle.mb_run.specs.Drives.{IsDrivenApart}
 use Rattle.mb_top.specs.Held.{HoldsCore, HoldsDisk, IsGivenBack, held_disk}
 use Rattle.mb_top.specs.declared.finish.Held.{Held}
+use Rattle.mb_top.specs.declared.manners.Manner.{Manner}
+use Rattle.mb_top.specs.declared.manners.Manner.TheVariants as manners
 use Rattle.mb_top.specs.declared.outcomes.Outcome.{Outcome}
-use Rattle.mb_top.specs.declared.outcomes.Outcome.TheVariants.{WordsRefused, CommandNotBuilt, InputFault, JobRefused, DiskFault, OutOfMemory, Made, Checked, Unsound, Unsettled, GivenUp, Ran}
+use Rattle.mb_top.specs.declared.outcomes.Outcome.TheVariants.{WordsRefused, InputFault, JobRefused, DiskFault, OutOfMemory, Made, Checked, Unsound, Unsettled, GivenUp, Ran}
 
 -- the program's status
 abbrev pub status_of : Outcome → ℕ
 status_of WordsRefused = 1
-status_of CommandNotBuilt = 9
 status_of InputFault = 8
 status_of (JobRefused line) = 2
 status_of DiskFault = 5
@@ -50,7 +52,6 @@ status_of (Ran text) = 0
 -- what it prints
 abbrev pub text_of : Outcome → List ℕ
 text_of WordsRefused = codes "words refused\n"
-text_of CommandNotBuilt = codes "not built\n"
 text_of InputFault = codes "input fault\n"
 text_of (JobRefused line) = line
 text_of DiskFault = codes "disk fault\n"
@@ -68,56 +69,65 @@ text_of (Ran text) = text
 abbrev pub ended_text : {D : Type 0} → (ℕ → ℕ → ℕ → List ℕ) → Job → CoreState V7 D → List ℕ
 ended_text line job core = transcript_text job core.journal.history ++ line (length core.journal.history) (length core.journal.records) core.journal.sealed_at
 
--- a transcript whose end of a run the disk failed
-abbrev pub unsettled_text : {D : Type 0} → Job → CoreState V7 D → List ℕ
-unsettled_text job core = transcript_text job core.journal.history ++ codes "disk fault\n"
+-- how a run is told: line by line, with that last line, or a `soak` in one line
+abbrev pub told_text : {D : Type 0} → Manner → (ℕ → ℕ → ℕ → List ℕ) → Job → CoreState V7 D → List ℕ
+told_text manners.Alone line job core = ended_text line job core
+told_text manners.Threads line job core = ended_text line job core
+told_text manners.Soak line job core = soak_text core.journal.history (length core.journal.records) core.journal.sealed_at
+
+-- and where the disk failed in the end of the run: the line of the fault, behind the transcript if there is one
+abbrev pub unsettled_text : {D : Type 0} → Manner → Job → CoreState V7 D → List ℕ
+unsettled_text manners.Alone job core = transcript_text job core.journal.history ++ codes "disk fault\n"
+unsettled_text manners.Threads job core = transcript_text job core.journal.history ++ codes "disk fault\n"
+unsettled_text manners.Soak job core = codes "disk fault\n"
 
 -- where one thread runs the job, the history keeps the job's order, and in list order the plan's faults were taken
-abbrev pub KeepsOrderIfAlone : {D : Type 0} → Bool → Job → CoreState V7 D → Type 0
-KeepsOrderIfAlone true job core = Unit {0}
-KeepsOrderIfAlone false job core = KeepsOrder job core.journal.history core.journal.records
+abbrev pub KeepsOrderIfAlone : {D : Type 0} → Manner → Job → CoreState V7 D → Type 0
+KeepsOrderIfAlone manners.Alone job core = KeepsOrder job core.journal.history core.journal.records
+KeepsOrderIfAlone manners.Threads job core = Unit {0}
+KeepsOrderIfAlone manners.Soak job core = KeepsOrder job core.journal.history core.journal.records
 
--- a job that was run over a disk to its end, by threads or not: the volume runs, all is checkpointed, and the image left is that of the history's tree
-pub record IsRunToEnd {D : Type 0} (told : D → Option Image) (faults : D → ℕ) (threads : Bool) (job : Job) (disk : D) (text : List ℕ) (core : CoreState V7 D) : Type 0 where
+-- a job that was run over a disk to its end, in whatever manner: the volume runs, all is checkpointed, and the image left is that of the history's tree
+pub record IsRunToEnd {D : Type 0} (told : D → Option Image) (faults : D → ℕ) (manner : Manner) (job : Job) (disk : D) (text : List ℕ) (core : CoreState V7 D) : Type 0 where
   pub run : IsRun told faults job disk core
-  pub order : KeepsOrderIfAlone threads job core
+  pub order : KeepsOrderIfAlone manner job core
   pub done : IsDone job core
   pub left : LeavesImage told job disk core
-  pub printed : text ≡ ended_text end_text job core
+  pub printed : text ≡ told_text manner end_text job core
 
 -- a job with more faults than the volume survives: the image left is that of the tree at the last checkpoint
-pub record IsRunToFailure {D : Type 0} (told : D → Option Image) (faults : D → ℕ) (threads : Bool) (job : Job) (disk : D) (text : List ℕ) (core : CoreState V7 D) : Type 0 where
+pub record IsRunToFailure {D : Type 0} (told : D → Option Image) (faults : D → ℕ) (manner : Manner) (job : Job) (disk : D) (text : List ℕ) (core : CoreState V7 D) : Type 0 where
   pub run : IsRun told faults job disk core
-  pub order : KeepsOrderIfAlone threads job core
+  pub order : KeepsOrderIfAlone manner job core
   pub given_up : IsGivenUp job core
   pub left : LeavesImage told job disk core
-  pub printed : text ≡ ended_text failed_text job core
+  pub printed : text ≡ told_text manner failed_text job core
 
 -- a job that was run, where the disk failed in the end of the run: fewer calls than its faults were ended by the disk
-pub record IsRunShort {D : Type 0} (told : D → Option Image) (faults : D → ℕ) (threads : Bool) (job : Job) (disk : D) (text : List ℕ) (core : CoreState V7 D) : Type 0 where
+pub record IsRunShort {D : Type 0} (told : D → Option Image) (faults : D → ℕ) (manner : Manner) (job : Job) (disk : D) (text : List ℕ) (core : CoreState V7 D) : Type 0 where
   pub run : IsRun told faults job disk core
-  pub order : KeepsOrderIfAlone threads job core
+  pub order : KeepsOrderIfAlone manner job core
   pub fewer : FewerDevices (faults disk) (faults core.cache.disk) core.journal.history
   pub rose : Rose (faults disk) (faults core.cache.disk)
-  pub printed : text ≡ unsettled_text job core
+  pub printed : text ≡ unsettled_text manner job core
 
 -- what comes of a core that was begun over a disk for a job, by the core at the end
-abbrev pub ComesOfCore : {D : Type 0} → (D → Option Image) → (D → ℕ) → Bool → Job → D → CoreState V7 D → Outcome → Type 0
-ComesOfCore told faults threads job disk core (Ran text) = IsRunToEnd told faults threads job disk text core
-ComesOfCore told faults threads job disk core (GivenUp text) = IsRunToFailure told faults threads job disk text core
-ComesOfCore told faults threads job disk core (Unsettled text) = IsRunShort told faults threads job disk text core
-ComesOfCore told faults threads job disk core OutOfMemory = Unit {0}
-ComesOfCore told faults threads job disk core _ = ⊥
+abbrev pub ComesOfCore : {D : Type 0} → (D → Option Image) → (D → ℕ) → Manner → Job → D → CoreState V7 D → Outcome → Type 0
+ComesOfCore told faults manner job disk core (Ran text) = IsRunToEnd told faults manner job disk text core
+ComesOfCore told faults manner job disk core (GivenUp text) = IsRunToFailure told faults manner job disk text core
+ComesOfCore told faults manner job disk core (Unsettled text) = IsRunShort told faults manner job disk text core
+ComesOfCore told faults manner job disk core OutOfMemory = Unit {0}
+ComesOfCore told faults manner job disk core _ = ⊥
 
 -- a core that a driver left of one that was begun over a disk for a job, at its end but for want of memory: each caller's calls
 -- stand in its history, with the faults of the job's plan
-pub record IsDrivenFor {D : Type 0} (told : D → Option Image) (faults : D → ℕ) (threads : Bool) (fs : V7) (job : Job) (disk : D) (driven : CoreState V7 D) : Type 0 where
+pub record IsDrivenFor {D : Type 0} (told : D → Option Image) (faults : D → ℕ) (manner : Manner) (fs : V7) (job : Job) (disk : D) (driven : CoreState V7 D) : Type 0 where
   pub begun : CoreState V7 D
   pub over : IsBegunFor told faults fs job disk begun
   pub first : driven.first ≡ begun.first
   pub config : driven.config ≡ begun.config
   pub drives : IsDrivenApart job (λ (caller : ℕ). Some (fires job.plan)) (sight_of begun) (sight_of driven)
-  pub order : KeepsOrderIfAlone threads job driven
+  pub order : KeepsOrderIfAlone manner job driven
 
 -- the line has the first broken rule and its block, and the image is a volume of no tree
 pub record IsUnsoundBy (told : Option Image) (line : List ℕ) : Type 0 where
@@ -131,15 +141,15 @@ abbrev pub IsFaulty : {D : Type 0} → (D → Option Image) → (D → ℕ) → 
 IsFaulty told faults disk held = IsGivenBack told disk held × Rose (faults disk) (faults (held_disk held))
 
 -- the image is a volume, and a core was begun over it and driven
-abbrev pub IsDrivenTo : {D : Type 0} → (D → Option Image) → (D → ℕ) → Bool → Job → D → Held D → Outcome → Type 0
-IsDrivenTo told faults threads job disk held outcome = TellsVolume (told disk) × HoldsCore held (λ core. ComesOfCore told faults threads job disk core outcome)
+abbrev pub IsDrivenTo : {D : Type 0} → (D → Option Image) → (D → ℕ) → Manner → Job → D → Held D → Outcome → Type 0
+IsDrivenTo told faults manner job disk held outcome = TellsVolume (told disk) × HoldsCore held (λ core. ComesOfCore told faults manner job disk core outcome)
 
 -- what comes of a job that is to be run: the image is refused, or the disk fails, or the job is run
-abbrev pub ComesOfJob : {D : Type 0} → (D → Option Image) → (D → ℕ) → Bool → Job → D → Held D → Outcome → Type 0
-ComesOfJob told faults threads job disk held (Unsound line) = IsGivenBack told disk held × IsUnsoundBy (told disk) line
-ComesOfJob told faults threads job disk held DiskFault = IsFaulty told faults disk held
-ComesOfJob told faults threads job disk held OutOfMemory = Unit {0}
-ComesOfJob told faults threads job disk held outcome = IsDrivenTo told faults threads job disk held outcome
+abbrev pub ComesOfJob : {D : Type 0} → (D → Option Image) → (D → ℕ) → Manner → Job → D → Held D → Outcome → Type 0
+ComesOfJob told faults manner job disk held (Unsound line) = IsGivenBack told disk held × IsUnsoundBy (told disk) line
+ComesOfJob told faults manner job disk held DiskFault = IsFaulty told faults disk held
+ComesOfJob told faults manner job disk held OutOfMemory = Unit {0}
+ComesOfJob told faults manner job disk held outcome = IsDrivenTo told faults manner job disk held outcome
 
 -- a text of a run is this one, or there was no memory
 abbrev pub Says : (List ℕ → Outcome) → List ℕ → Outcome → Type 0
@@ -173,21 +183,20 @@ IsJobRefused left (JobRefused line) = OfBytes left (λ bytes. SaysWhy (job_in by
 IsJobRefused left _ = ⊥
 
 -- the job of some bytes, and what came of it
-pub record IsJobRun {D : Type 0} (told : D → Option Image) (faults : D → ℕ) (threads : Bool) (bytes : List ℕ) (disk : D) (held : Held D) (outcome : Outcome) : Type 0 where
+pub record IsJobRun {D : Type 0} (told : D → Option Image) (faults : D → ℕ) (manner : Manner) (bytes : List ℕ) (disk : D) (held : Held D) (outcome : Outcome) : Type 0 where
   pub job : Job
   pub read : job_in bytes ≡ Ok job
-  pub over : ComesOfJob told faults threads job disk held outcome
+  pub over : ComesOfJob told faults manner job disk held outcome
 
 -- what comes of a `run`, by the causes in their order: the input, the job, and then what comes of it
-abbrev pub ComesOfRunWords : {D : Type 0} → (D → Option Image) → (D → ℕ) → Bool → Option (List ℕ) → D → Held D → Outcome → Type 0
-ComesOfRunWords told faults threads left disk held WordsRefused = ⊥
-ComesOfRunWords told faults threads left disk held CommandNotBuilt = ⊥
-ComesOfRunWords told faults threads left disk held (Made line) = ⊥
-ComesOfRunWords told faults threads left disk held (Checked line) = ⊥
-ComesOfRunWords told faults threads left disk held InputFault = IsGivenBack told disk held
-ComesOfRunWords told faults threads left disk held OutOfMemory = Unit {0}
-ComesOfRunWords told faults threads left disk held (JobRefused line) = IsGivenBack told disk held × OfBytes left (λ bytes. SaysWhy (job_in bytes) line)
-ComesOfRunWords told faults threads left disk held outcome = OfBytes left (λ bytes. IsJobRun told faults threads bytes disk held outcome)
+abbrev pub ComesOfRunWords : {D : Type 0} → (D → Option Image) → (D → ℕ) → Manner → Option (List ℕ) → D → Held D → Outcome → Type 0
+ComesOfRunWords told faults manner left disk held WordsRefused = ⊥
+ComesOfRunWords told faults manner left disk held (Made line) = ⊥
+ComesOfRunWords told faults manner left disk held (Checked line) = ⊥
+ComesOfRunWords told faults manner left disk held InputFault = IsGivenBack told disk held
+ComesOfRunWords told faults manner left disk held OutOfMemory = Unit {0}
+ComesOfRunWords told faults manner left disk held (JobRefused line) = IsGivenBack told disk held × OfBytes left (λ bytes. SaysWhy (job_in bytes) line)
+ComesOfRunWords told faults manner left disk held outcome = OfBytes left (λ bytes. IsJobRun told faults manner bytes disk held outcome)
 
 -- ---- the other commands
 
@@ -229,13 +238,18 @@ IsToldAs (Err fault) outcome = IsRefusedAs fault outcome
 
 -- ---- the whole
 
--- what comes of a command, or of words that are none; `soak` is not built yet
+-- how the callers of a `run` are run
+abbrev pub manner_of : Bool → Manner
+manner_of true = manners.Threads
+manner_of false = manners.Alone
+
+-- what comes of a command, or of words that are none; a `soak` runs the job of its numbers
 abbrev pub ComesOfCommand : {D : Type 0} → (D → Option Image) → (D → ℕ) → Option Command → Option (List ℕ) → D → Held D → Outcome → Type 0
 ComesOfCommand told faults None left disk held outcome = (outcome ≡ WordsRefused) × IsGivenBack told disk held
 ComesOfCommand told faults (Some (Mkfs blocks inodes)) left disk held outcome = ComesOfMkfs told faults disk blocks inodes held outcome
 ComesOfCommand told faults (Some Check) left disk held outcome = ComesOfCheck told faults disk held outcome
-ComesOfCommand told faults (Some (Run threads)) left disk held outcome = ComesOfRunWords told faults threads left disk held outcome
-ComesOfCommand told faults (Some (Soak number calls faulty)) left disk held outcome = (outcome ≡ CommandNotBuilt) × IsGivenBack told disk held
+ComesOfCommand told faults (Some (Run threads)) left disk held outcome = ComesOfRunWords told faults (manner_of threads) left disk held outcome
+ComesOfCommand told faults (Some (Soak number calls faulty)) left disk held outcome = ComesOfJob told faults manners.Soak (generated number calls faulty) disk held outcome
 
 -- how the program ends
 abbrev pub IsOutcome : {D : Type 0} → (D → Option Image) → (D → ℕ) → List (List ℕ) → Option (List ℕ) → D → Held D → Outcome → Type 0

@@ -1,18 +1,23 @@
 ghost use Rattle.std.specs.Prelude.{◌≡◌, ◌≤◌, ◌≢◌, true, false, Result, Ok, Err, IfOk, IfErr};
 ghost use Rattle.mb_commands.specs.Words.{command_of, is_threaded};
 ghost use Rattle.mb_edge.specs.Causes.{Rose};
+ghost use Rattle.mb_gen.specs.Generator.{generated};
 ghost use Rattle.mb_jobs.specs.Job.{Gives, job_in};
 ghost use Rattle.mb_jobs.specs.declared.jobs.Job.{Job};
 ghost use Rattle.mb_jobs.specs.declared.jobs.JobFault.{JobFault};
 ghost use Rattle.mb_top.specs.Held.{held_disk};
-ghost use Rattle.mb_top.specs.Outcomes.{ComesOfCheck, ComesOfMkfs, ComesOfRunWords, IsDiskFault, IsJobRefused, IsOutcome, IsRefusal, IsRefusedAs, IsToldAs, OfBytes};
+ghost use Rattle.mb_top.specs.declared.manners.Manner.TheVariants as manners;
+ghost use Rattle.mb_top.specs.Outcomes.{ComesOfCheck, ComesOfJob, ComesOfMkfs, ComesOfRunWords, IsDiskFault, IsJobRefused, IsOutcome, IsRefusal, IsRefusedAs, IsToldAs, OfBytes};
 
 use crate::finish::Held;
+use crate::manners::Manner;
 use crate::outcomes::Outcome;
 use crate::running::{run_by_threads, run_over};
 use mb_check::{OpenFault, Scan, sound};
 use mb_commands::{Command, Made, command_of, make_volume, refused_line, sound_line};
 use mb_edge::{Disk, Source, read_whole};
+use mb_gen::generate;
+use mb_headline::{jobs_are_fit, soaks_are_fit};
 use mb_host::Words;
 use mb_jobs::{Job, JobFault, job_of};
 use mb_print::text_of_cause;
@@ -39,7 +44,11 @@ pub fn decide<S: Source, D: Disk>(alloc: Global, words: &Words, job: &mut S, dis
         Some(Command::Mkfs { blocks, inodes }) => make_over(alloc, disk, blocks, inodes),
         Some(Command::Check) => check_over(alloc, disk),
         Some(Command::Run { threads: _ }) => run_job(alloc, job, disk),
-        Some(Command::Soak { .. }) => untouched(disk, Outcome::CommandNotBuilt),
+        Some(Command::Soak {
+            number,
+            calls,
+            faults,
+        }) => soak_over(alloc, disk, number, calls, faults),
     }
 }
 
@@ -50,11 +59,12 @@ pub fn decide_by_threads<S: Source, D: Disk + Send, R: Threads + Wait + Sync>(
     job: &mut S,
     disk: D,
 ) -> Decided<D>
-    ensures comes { ComesOfRunWords D.told D.faults true (S.left job.old) disk result.held result.outcome }
+    ensures comes { ComesOfRunWords D.told D.faults manners.Threads (S.left job.old) disk result.held result.outcome }
     ensures input { result.outcome ≡ Outcome.InputFault → Rose (S.faults job.old) (S.faults job.new) }
     ensures device { IsDiskFault result.outcome → Rose (D.faults disk) (D.faults (held_disk result.held)) }
     ensures later { D.faults disk ≤ D.faults (held_disk result.held) }
 {
+    jobs_are_fit();
     match read_job(alloc, job) {
         Ok(job) => run_by_threads(rt, alloc, disk, &job),
         Err(outcome) => untouched(disk, outcome),
@@ -103,6 +113,23 @@ fn check_over<D: Disk>(alloc: Global, mut disk: D) -> Decided<D>
     }
 }
 
+// Runs the job that is generated from a number, of so many calls and so many faults.
+fn soak_over<D: Disk>(alloc: Global, disk: D, number: u32, calls: u32, faults: u32) -> Decided<D>
+    requires some { 1 ≤ calls }
+    requires many { calls ≤ 32768 }
+    requires few { faults ≤ 255 }
+    ensures comes { ComesOfJob D.told D.faults manners.Soak (generated number calls faults) disk result.held result.outcome }
+    ensures device { IsDiskFault result.outcome → Rose (D.faults disk) (D.faults (held_disk result.held)) }
+    ensures input { result.outcome ≢ Outcome.InputFault }
+    ensures later { D.faults disk ≤ D.faults (held_disk result.held) }
+{
+    soaks_are_fit();
+    match generate(alloc, number, calls, faults) {
+        Ok(job) => run_over(alloc, Manner::Soak, disk, &job),
+        Err(_) => untouched(disk, Outcome::OutOfMemory),
+    }
+}
+
 // A scan as the program prints it.
 fn told_as(alloc: Global, scanned: Result<Scan, OpenFault>) -> Outcome
     ensures { IsToldAs scanned result }
@@ -132,13 +159,14 @@ pub fn refused_as(alloc: Global, fault: OpenFault) -> Outcome
 
 // Reads the job and runs it with one thread.
 fn run_job<S: Source, D: Disk>(alloc: Global, job: &mut S, disk: D) -> Decided<D>
-    ensures comes { ComesOfRunWords D.told D.faults false (S.left job.old) disk result.held result.outcome }
+    ensures comes { ComesOfRunWords D.told D.faults manners.Alone (S.left job.old) disk result.held result.outcome }
     ensures input { result.outcome ≡ Outcome.InputFault → Rose (S.faults job.old) (S.faults job.new) }
     ensures device { IsDiskFault result.outcome → Rose (D.faults disk) (D.faults (held_disk result.held)) }
     ensures later { D.faults disk ≤ D.faults (held_disk result.held) }
 {
+    jobs_are_fit();
     match read_job(alloc, job) {
-        Ok(job) => run_over(alloc, disk, &job),
+        Ok(job) => run_over(alloc, Manner::Alone, disk, &job),
         Err(outcome) => untouched(disk, outcome),
     }
 }

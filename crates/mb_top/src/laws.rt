@@ -1,6 +1,7 @@
-ghost use Rattle.mb_top.specs.Completes.{CheckCompletes, MakesComplete, RunsComplete, SurvivorsComplete};
+ghost use Rattle.mb_top.specs.Completes.{CheckCompletes, MakesComplete, RunsComplete, SoaksComplete, SurvivorsComplete};
 
 use mb_edge::Disk;
+use mb_gen::generated_are_fit;
 use mb_plan_laws::fires_at_most;
 
 /// What the contract of `membrane` leaves of the ends of a run: with a job, a volume and no fault of the outside, the status
@@ -25,3 +26,11 @@ pub fn makes_complete<D: Disk>()
 pub fn check_completes<D: Disk>()
     ensures { CheckCompletes D.told D.faults }
 {}
+
+/// The same of a `soak` of a volume, which survives all faults of a generated job.
+pub fn soaks_complete<D: Disk>()
+    ensures { SoaksComplete D.told D.faults }
+{
+    fires_at_most();
+    generated_are_fit();
+}

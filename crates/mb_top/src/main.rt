@@ -14,6 +14,7 @@ mod finish;
 #[cfg(test)]
 mod interleaving_tests;
 mod laws;
+mod manners;
 mod membrane;
 mod outcomes;
 #[cfg(test)]
@@ -23,6 +24,8 @@ mod refusal_tests;
 mod running;
 #[cfg(test)]
 mod slow_sinks;
+#[cfg(test)]
+mod soak_tests;
 #[cfg(test)]
 mod thread_tests;
 #[cfg(test)]

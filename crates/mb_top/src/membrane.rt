@@ -17,12 +17,13 @@ use std::thread::Threads;
 /// The program over any source, disk and sink: does what the words ask for, prints what comes of it, and gives back
 /// the disk, or the core that a run drove. A `mkfs` makes a fresh volume on the disk; a `check` says whether the disk's
 /// image is a volume; a `run` reads the job and runs it over the disk's image, with the faults of its plan, and with
-/// `--threads` each caller in a thread of its own, whose lines then stand in the order of the history.
+/// `--threads` each caller in a thread of its own, whose lines then stand in the order of the history; a `soak` runs the
+/// job that is generated from its numbers, and prints one line for all.
 ///
 /// The statuses: 0 done; 1 the words are no command, or no volume has the sizes of a `mkfs`; 2 the job is refused; 3
 /// the image is no volume; 4 more faults struck than the volume survives; 5 the disk failed at the opening, in `mkfs`, in
-/// `check`, or in the end of the run; 6 want of memory; 7 the output failed; 8 the input failed; 9 a command that a later
-/// version has. `specs/Outcomes.antt` says when each comes.
+/// `check`, or in the end of the run; 6 want of memory; 7 the output failed; 8 the input failed. `specs/Outcomes.antt`
+/// says when each comes.
 ///
 /// With `--threads` a caller may wait for another, so the promise is kept if the call returns. All else is
 /// `membrane_alone`, which always returns.
@@ -93,7 +94,6 @@ fn status_of(outcome: &Outcome) -> u8
         Outcome::DiskFault | Outcome::Unsettled(_) => 5,
         Outcome::OutOfMemory => 6,
         Outcome::InputFault => 8,
-        Outcome::CommandNotBuilt => 9,
     }
 }
 
@@ -105,7 +105,6 @@ fn text_of(outcome: &Outcome) -> &[u8]
         Outcome::InputFault => b"input fault\n",
         Outcome::DiskFault => b"disk fault\n",
         Outcome::OutOfMemory => b"no memory\n",
-        Outcome::CommandNotBuilt => b"not built\n",
         Outcome::Made(line) | Outcome::Checked(line) | Outcome::Unsound(line) => line.as_slice(),
         Outcome::JobRefused(text)
         | Outcome::Unsettled(text)

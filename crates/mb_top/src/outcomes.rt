@@ -7,8 +7,6 @@ use mb_jobs::Text;
 pub enum Outcome {
     /// The words are no command, or no volume has the sizes of a `mkfs`.
     WordsRefused,
-    /// The command is one that a later version has.
-    CommandNotBuilt,
     /// The job could not be read.
     InputFault,
     /// The job's text is none; the text is the line with the first cause.
@@ -24,10 +22,10 @@ pub enum Outcome {
     /// The image is no volume; the text is the line with the first broken rule and its block.
     Unsound(Line),
     /// The job was run, and the disk failed in the end of the run; the text is its transcript and the line of the
-    /// fault.
+    /// fault, or that line alone.
     Unsettled(Text),
-    /// The job was run, and more faults struck than the volume survives; the text is its transcript with the last line.
+    /// The job was run, and more faults struck than the volume survives; the text tells the run.
     GivenUp(Text),
-    /// The job was run; the text is its transcript with the last line.
+    /// The job was run; the text is its transcript with the last line, or one line for all.
     Ran(Text),
 }

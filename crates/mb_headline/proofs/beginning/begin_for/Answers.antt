@@ -4,7 +4,7 @@ use Rattle.mb_headline.proofs.beginning.begin_for.Goals as goal
 
 pub config_of-requires-clause-calls : goal.config_of-requires-clause-calls
 config_of-requires-clause-calls g c =
-    let small = (c.jobs_are_fit.ensures c.requires.0 c.args.job.now c.requires.1).runnable.small in
+    let small = c.requires.runnable.small in
     omega (arith, small)
 
 pub returns-clause-begun : goal.returns-clause-begun

@@ -1,6 +1,5 @@
-use Rattle.mb_headline.proofs.Fitting.{planned_early}
 use Rattle.mb_headline.proofs.Running.{path_run}
 use Rattle.mb_headline.proofs.laws.paths_are_runs.Goals as goal
 
 pub returns : goal.returns
-returns g c = λ fs bytes job disk begun driven ended read path. path_run fs g.D.Disk.told g.D.Disk.faults job disk begun driven ended path (planned_early bytes job read)
+returns g c = λ fs job disk begun driven ended fit path. path_run fs g.D.Disk.told g.D.Disk.faults job disk begun driven ended path fit.early

@@ -1,11 +1,11 @@
-use Rattle.std.proofs.Common.{true}
 use Rattle.mb_top.proofs.Runs.{of_core}
+use Rattle.mb_top.specs.declared.manners.Manner.TheVariants as manners
 use Rattle.mb_top.proofs.running.run_by_threads.Goals as goal
 
 pub returns-in-Ok-clause-over : goal.returns-in-Ok-clause-over
 returns-in-Ok-clause-over g c =
-    of_core g.D.Disk.told g.D.Disk.faults true c.args.job.now c.args.disk c.run_begun_by_threads.result.held c.run_begun_by_threads.result.outcome c.in-Ok.ensures.volume
+    of_core g.D.Disk.told g.D.Disk.faults manners.Threads c.args.job.now c.args.disk c.run_begun_by_threads.result.held c.run_begun_by_threads.result.outcome c.in-Ok.ensures.volume
     (c.run_begun_by_threads.ensures.core c.args.disk _ c.in-Ok.ensures.over)
 
 pub returns-in-Err-clause-over : goal.returns-in-Err-clause-over
-returns-in-Err-clause-over g c = c.refused.ensures.comes true c.args.job.now c.args.disk c.in-Err.ensures.refused
+returns-in-Err-clause-over g c = c.refused.ensures.comes manners.Threads c.args.job.now c.args.disk c.in-Err.ensures.refused
