@@ -137,7 +137,7 @@ impl Copies {
         ensures items { self.new.items ≡ [] }
         ensures spare { self.old.spare ≤ self.new.spare }
     {
-        self.map.clear();
+        self.map.truncate(0);
     }
 
     fn is_fresh<D: Disk>(&self, block: u32, page: &KeptBlock, cache: &Cache<D>) -> bool
