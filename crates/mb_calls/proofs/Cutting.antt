@@ -1,30 +1,31 @@
 -- A walk one component further.
-use Rattle.std.proofs.Common.{◌≡◌, ◌≢◌, ℕ, suc, ◌+◌, ◌-◌, ◌<◌, true, List, ◌∷◌, ◌++◌, length, take, get_or, Option, Some, Result, Ok, Err, sym, ap, subst, ◌∙◌, arith}
+use Rattle.std.proofs.Common.{◌≡◌, ◌≢◌, ℕ, suc, ◌+◌, ◌-◌, ◌<◌, true, List, ◌∷◌, ◌++◌, length, take, get_or, Option, Some, None, Result, Ok, Err, sym, ap, subst, ◌∙◌, arith}
 use Rattle.std.proofs.lemmas.List.{drop-drop, get_or-drop, length-drop, length-take, take-append-drop}
 use Rattle.std.proofs.Math.Seq.{drop-cons}
-use Rattle.std.specs.Prelude.{drop, slice_index}
+use Rattle.std.specs.Prelude.{drop, slice_index, IfSome}
 use Rattle.std.specs.List.{Contains}
 use Rattle.mb_kinds.specs.Image.{Image}
 use Rattle.mb_kinds.specs.declared.calls.Call.{Call}
 use Rattle.mb_kinds.specs.declared.replies.Stat.{Stat}
-use Rattle.mb_iface.specs.Near.{IsOnWay}
+use Rattle.mb_iface.specs.Near.{IsNear, IsOnWay}
+use Rattle.mb_iface.specs.declared.replies.Need.{Need}
 use Rattle.mb_tree.specs.Inodes.{is_directory}
 use Rattle.mb_tree.specs.Lookup.{components, find_path, find_place, slash, start_of}
 use Rattle.mb_tree.specs.declared.lookups.Placed.{Placed}
 use Rattle.mb_tree.specs.declared.seats.Seat.{Seat}
 use Rattle.mb_tree.specs.declared.trees.Tree.{Tree}
-use Rattle.mb_calls.specs.Following.{AsksNear, IsCut, IsGoing, IsKept}
+use Rattle.mb_calls.specs.Following.{AsksNear, IsCut, IsGoing, IsKept, LacksForCall, LacksOnWay}
 use Rattle.mb_calls.specs.Halts.{Matches, IsOver, Needs}
 use Rattle.mb_calls.specs.Following.{ViewGrows}
-use Rattle.mb_calls.specs.Looked.{IsLooked, paths_of}
+use Rattle.mb_calls.specs.Looked.{IsFirst, IsLooked, paths_of}
 use Rattle.mb_calls.specs.Looked.IsLooked.{passed}
 use Rattle.mb_calls.specs.Halts.Scope.{around}
 use Rattle.mb_calls.specs.declared.halts.Halt.{Halt}
 use Rattle.mb_calls.specs.declared.halts.Halt.TheVariants as why
 use Rattle.mb_calls.specs.declared.walks.PathWalk.{PathWalk}
 use Rattle.mb_calls.specs.declared.walks.PathWalks.{PathWalks}
-use Rattle.mb_calls.proofs.Nearby.{near_more}
-use Rattle.mb_calls.proofs.Walking.{find_followed, place_followed, way_followed, followed_on, grown_part}
+use Rattle.mb_calls.proofs.Nearby.{has_first, near_more}
+use Rattle.mb_calls.proofs.Walking.{find_followed, place_followed, way_followed, way_head, followed_on, grown_part}
 
 abbrev pub head_of : List ℕ → ℕ → ℕ → List ℕ
 head_of path from next = take (next - 1 - from) (drop from path)
@@ -68,6 +69,13 @@ module _ (shown : ℕ → Option (List ℕ)) (seat : Seat) (path : List ℕ) (wa
         (tail_some path walk.from next cut) (tail_other path walk.from next cut) stat (found image tree over) d;
   }
 
+  -- a block on the way of the component is on the way of the path
+  pub head_near : (image : Image) (tree : Tree) → IsOver shown seat image tree → (block : ℕ) → IsNear image tree (IsOnWay tree.nodes seat.cred (start_of walk.dir head) (components head)) block
+      → IsNear image tree (IsOnWay tree.nodes seat.cred (start_of seat.cwd path) (components path)) block
+  head_near image tree over block h = near_more image tree (IsOnWay tree.nodes seat.cred (start_of walk.dir head) (components head)) (IsOnWay tree.nodes seat.cred (start_of seat.cwd path) (components path)) block
+      (way_head tree over.volume.sound seat.cred seat.cwd path walk.dir (drop walk.from path) head (drop next path) (kept.followed image tree over) cut_with some_with
+      (tail_some path walk.from next cut) (tail_other path walk.from next cut)) h
+
 -- what the rest of a walk finds is what the path finds
 module _ (shown : ℕ → Option (List ℕ)) (seat : Seat) (path : List ℕ) (walk : PathWalk) (rest : List ℕ) (kept : IsKept shown seat path walk) (is : rest ≡ drop walk.from path) (image : Image) (tree : Tree) (over : IsOver shown seat image tree) where
   pub rest_find : (result : Result Stat Halt) → Matches result (find_path tree.nodes seat.cred walk.dir rest) → Matches result (find_path tree.nodes seat.cred seat.cwd path)
@@ -90,6 +98,18 @@ asked_near image tree seat made path (Ok x) has h = tt
 asked_near image tree seat made path (Err (why.Need need)) has h = near_more image tree (IsOnWay tree.nodes seat.cred (start_of seat.cwd path) (components path)) (IsLooked tree.nodes seat made) need.first (λ ino on. passed path has on) h
 asked_near image tree seat made path (Err (why.Refused e)) has h = tt
 asked_near image tree seat made path (Err why.NoMemory) has h = tt
+
+-- and so are the blocks that are lacking for the first path of the call
+lacking_first : (shown : ℕ → Option (List ℕ)) (seat : Seat) (made : Call) (path : List ℕ) (need : Need) → IsFirst made path → LacksOnWay shown seat path need → LacksForCall shown seat made need
+lacking_first shown seat made path need is lacks = record {
+  lacking = lacks.lacking;
+  near = λ image tree over. near_more image tree (IsOnWay tree.nodes seat.cred (start_of seat.cwd path) (components path)) (IsLooked tree.nodes seat made) need.first
+      (λ ino on. passed path (has_first (paths_of made) path is) on) (lacks.near image tree over);
+}
+
+pub lacking_so : (shown : ℕ → Option (List ℕ)) (seat : Seat) (made : Call) (path : List ℕ) (need : Option Need) → IsFirst made path → IfSome need (LacksOnWay shown seat path) → IfSome need (LacksForCall shown seat made)
+lacking_so shown seat made path None is lacks = tt
+lacking_so shown seat made path (Some need) is lacks = lacking_first shown seat made path need is lacks
 
 -- a walk stays as long as the view only grows
 pub kept_grows : (shown later : ℕ → Option (List ℕ)) (seat : Seat) (path : List ℕ) (walk : PathWalk) → ViewGrows shown later → IsKept shown seat path walk → IsKept later seat path walk

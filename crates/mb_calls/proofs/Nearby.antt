@@ -1,7 +1,7 @@
 -- The inodes at which a query or an operation of a call looks are those of the call.
 use Rattle.std.proofs.Common.{◌≡◌, ◌⊎◌, inl, inr, ℕ, zero, suc, ◌<◌, List, [], ◌∷◌, length, take, get_or, Option, Some, None, Result, Ok, Err, refl, sym, ap, subst, ◌∙◌, arith}
 use Rattle.std.proofs.lemmas.List.{take_all}
-use Rattle.std.specs.Prelude.{slice_index_or}
+use Rattle.std.specs.Prelude.{slice_get, slice_index_or}
 use Rattle.std.specs.List.{Contains}
 use Rattle.mb_kinds.specs.Image.{Image}
 use Rattle.mb_kinds.specs.declared.calls.Call.{Call}
@@ -75,6 +75,10 @@ first_of x xs = (0, omega arith, refl)
 
 pub second_of : {X : Type 0} (x y : X) (xs : List X) → Contains (x ∷ y ∷ xs) y
 second_of x y xs = (1, omega arith, refl)
+
+pub has_first : (paths : List (List ℕ)) (path : List ℕ) → slice_get paths 0 ≡ Some path → Contains paths path
+has_first [] path is = cc
+has_first (one ∷ more) path is = let same : one ≡ path = let e : Some one ≡ Some path = is in cc in subst (Contains (one ∷ more)) same (first_of one more)
 
 module _ (nodes : Numbered Node) (seat : Seat) (made : Call) where
   module _ (path : List ℕ) (has : Contains (paths_of made) path) where

@@ -1,7 +1,7 @@
 -- A path is found by its components one after another.
 use Rattle.std.proofs.Common.{◌≡◌, ◌≢◌, inl, inr, ℕ, ◌+◌, ◌<◌, ◌≤◌, Bool, true, false, cond, not, if◌then◌else◌, List, [], ◌∷◌, ◌++◌, append_assoc, length, map, filter, take, get_or, Option, Some, None, Ok, Err, refl, sym, ap, subst, ◌∙◌, arith}
 use Rattle.std.proofs.lemmas.Bool.Decides.{nat_tests}
-use Rattle.std.proofs.lemmas.List.{map-append}
+use Rattle.std.proofs.lemmas.List.{length-append, map-append, take-append-le}
 use Rattle.std.proofs.lemmas.List.Elements.{filter-append}
 use Rattle.std.proofs.Math.Seq.{take-append-add}
 use Rattle.std.specs.Prelude.{slice_index, ◌==◌, IfSome}
@@ -171,6 +171,19 @@ module _ (tree : Tree) (sound : IsSound tree) (cred : Cred) (cwd : ℕ) (path : 
         directory = is_directory_at tree sound stat.ino stat found_at.1 d;
         more = inr names_left;
       }
+
+  -- what is on the way of a component is on the way of the path
+  pub way_head : (ino : ℕ) → IsOnWay tree.nodes cred (start_of dir head) (components head) ino → IsOnWay tree.nodes cred (start_of cwd path) (components path) ino
+  way_head ino on =
+      let short : on.0 ≤ length (components head) = on.1 in
+      let short_rest : on.0 ≤ length (components rest) = subst (λ names. on.0 ≤ length names) (sym rest_names) (omega (arith, short, length-append (components head) (components tail))) in
+      way_followed tree.nodes cred cwd path dir rest at ino (
+        on.0,
+        short_rest,
+        ap (λ names. walk tree.nodes cred (start_of dir rest) (take on.0 names)) rest_names
+            ∙ ap (walk tree.nodes cred (start_of dir rest)) (take-append-le on.0 (components head) (components tail) short)
+            ∙ ap (λ s. walk tree.nodes cred s (take on.0 (components head))) start_is ∙ on.2,
+      )
 
 -- ---- a view that grew is a part of fewer images
 pub grown_part : (shown later : ℕ → Option (List ℕ)) (blocks : ℕ → List ℕ) → ViewGrows shown later → IsPart later blocks → IsPart shown blocks

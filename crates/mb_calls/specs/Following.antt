@@ -4,6 +4,8 @@ use Rattle.mb_kinds.specs.Image.{Image}
 use Rattle.mb_kinds.specs.declared.calls.Call.{Call}
 use Rattle.mb_kinds.specs.declared.credentials.Cred.{Cred}
 use Rattle.mb_iface.specs.Near.{IsNear, IsOnWay}
+use Rattle.mb_iface.specs.Needs.{IsNeed}
+use Rattle.mb_iface.specs.declared.replies.Need.{Need}
 use Rattle.mb_tree.specs.Lookup.{components, start_of, walk}
 use Rattle.mb_tree.specs.Maps.{Numbered}
 use Rattle.mb_tree.specs.Trees.{IsDirectoryAt}
@@ -11,11 +13,13 @@ use Rattle.mb_tree.specs.declared.nodes.Node.{Node}
 use Rattle.mb_tree.specs.declared.seats.Seat.{Seat}
 use Rattle.mb_tree.specs.declared.trees.Tree.{Tree}
 use Rattle.mb_calls.specs.Halts.{IsOver}
-use Rattle.mb_calls.specs.Looked.{IsFirst, IsSecond}
+use Rattle.mb_calls.specs.Looked.{IsFirst, IsLooked, IsSecond}
 use Rattle.mb_calls.specs.declared.halts.Halt.{Halt}
 use Rattle.mb_calls.specs.declared.halts.Halt.TheVariants as why
 use Rattle.mb_calls.specs.declared.walks.PathWalk.{PathWalk}
 use Rattle.mb_calls.specs.declared.walks.PathWalks.{PathWalks}
+use Rattle.mb_calls.specs.declared.walks.Stepped.{Stepped}
+use Rattle.mb_calls.specs.declared.walks.Stepped.TheVariants as stepped
 
 -- a directory on the way of a path from which the rest of the path is still to be followed
 pub record IsFollowed (nodes : Numbered Node) (cred : Cred) (cwd : ℕ) (path : List ℕ) (dir : ℕ) (rest : List ℕ) : Type 0 where
@@ -46,6 +50,22 @@ HaltsNear image tree cred dir path _ = Unit {0}
 abbrev pub AsksNear : {X : Type 0} → Image → Tree → Cred → ℕ → List ℕ → Result X Halt → Type 0
 AsksNear image tree cred dir path (Ok x) = Unit {0}
 AsksNear image tree cred dir path (Err stop) = HaltsNear image tree cred dir path stop
+
+-- blocks that the view lacks, the first of them on the way of the path
+pub record LacksOnWay (shown : ℕ → Option (List ℕ)) (seat : Seat) (path : List ℕ) (need : Need) : Type 0 where
+  pub lacking : IsNeed shown need
+  pub near : (image : Image) (tree : Tree) → IsOver shown seat image tree → IsNear image tree (IsOnWay tree.nodes seat.cred (start_of seat.cwd path) (components path)) need.first
+
+-- one component further, or what is lacking for it
+abbrev pub StepsOn : (ℕ → Option (List ℕ)) → Seat → List ℕ → Stepped → Type 0
+StepsOn shown seat path (stepped.On walk) = IsKept shown seat path walk
+StepsOn shown seat path (stepped.Need need) = LacksOnWay shown seat path need
+StepsOn shown seat path stepped.Stopped = Unit {0}
+
+-- blocks that the view lacks, the first of them near the inodes of the call
+pub record LacksForCall (shown : ℕ → Option (List ℕ)) (seat : Seat) (made : Call) (need : Need) : Type 0 where
+  pub lacking : IsNeed shown need
+  pub near : (image : Image) (tree : Tree) → IsOver shown seat image tree → IsNear image tree (IsLooked tree.nodes seat made) need.first
 
 -- the walks of a call's paths: the first of each call that has one, and the second of link(2)
 pub record IsGoing (shown : ℕ → Option (List ℕ)) (seat : Seat) (made : Call) (walks : PathWalks) : Type 0 where

@@ -1,13 +1,13 @@
 ghost use Rattle.std.specs.Prelude.{◌<◌, IfSome, length};
-ghost use Rattle.mb_calls.specs.Following.{BeginsWalks, IsGoing, IsGoingFor, KeepsFirst, KeepsSecond, WalksGoOn};
+ghost use Rattle.mb_calls.specs.Following.{BeginsWalks, IsGoing, IsGoingFor, KeepsFirst, KeepsSecond, LacksForCall, WalksGoOn};
 ghost use Rattle.mb_calls.specs.Looked.{IsFirst, IsSecond};
 ghost use Rattle.mb_calls.specs.Performed.{FitsCall, IsNeeded, IsRight};
 
 use crate::performing::{Performed, perform_on, seat_of};
-use crate::walks::{PathWalk, PathWalks, follow, set_out};
-use mb_iface::{FileSys, Opens, View};
+use crate::walks::{Followed, PathWalk, PathWalks, follow, set_out};
+use mb_iface::{FileSys, Need, Opens, View};
 use mb_kinds::{Call, Path};
-use mb_tree::Seat;
+use mb_tree::{Seat, call_allowed};
 use std::alloc::Global;
 
 /// A call that is performed while its blocks are gathered: after each `Need` it goes on over a view that
@@ -53,7 +53,8 @@ fn second_path(call: &Call) -> Option<&Path>
     }
 }
 
-/// The first walk of a call.
+/// The first walk of a call. The blocks that it lacks are the first ones that the call needs, since its row
+/// asks for the first path before all else.
 fn first_on<F: FileSys, V: View>(
     alloc: Global,
     fs: &F,
@@ -61,17 +62,19 @@ fn first_on<F: FileSys, V: View>(
     seat: &Seat,
     call: &Call,
     walk: PathWalk,
-) -> PathWalk
+) -> Followed
     requires kept { KeepsFirst (V.shown view.now) seat.now call.now walk }
-    ensures { KeepsFirst (V.shown view.now) seat.now call.now result }
+    ensures kept { KeepsFirst (V.shown view.now) seat.now call.now result.walk }
+    ensures lacking { IfSome result.need (LacksForCall (V.shown view.now) seat.now call.now) }
 {
     match first_path(call) {
         Some(path) => follow(alloc, fs, view, seat, path, walk),
-        None => walk,
+        None => Followed::to(walk),
     }
 }
 
-/// The second walk of a call.
+/// The second walk of a call. What it lacks is asked for again where the row comes to the second path, so
+/// that path does not overtake the first.
 fn second_on<F: FileSys, V: View>(
     alloc: Global,
     fs: &F,
@@ -84,12 +87,20 @@ fn second_on<F: FileSys, V: View>(
     ensures { KeepsSecond (V.shown view.now) seat.now call.now result }
 {
     match second_path(call) {
-        Some(path) => follow(alloc, fs, view, seat, path, walk),
+        Some(path) => follow(alloc, fs, view, seat, path, walk).walk,
         None => walk,
     }
 }
 
-/// The walks of a call, as far as the view has the blocks for them.
+/// The walks of a call, and the blocks that its first path lacks.
+#[derive(Clone, Copy, Debug, Drop)]
+struct Advanced {
+    walks: PathWalks,
+    need: Option<Need>,
+}
+
+/// The walks of a call, as far as the view has the blocks for them; the second one once the first is at its
+/// end.
 fn advance<F: FileSys, V: View>(
     alloc: Global,
     fs: &F,
@@ -97,13 +108,29 @@ fn advance<F: FileSys, V: View>(
     seat: &Seat,
     call: &Call,
     walks: PathWalks,
-) -> PathWalks
+) -> Advanced
     requires going { IsGoing (V.shown view.now) seat.now call.now walks }
-    ensures { IsGoing (V.shown view.now) seat.now call.now result }
+    ensures going { IsGoing (V.shown view.now) seat.now call.now result.walks }
+    ensures lacking { IfSome result.need (LacksForCall (V.shown view.now) seat.now call.now) }
 {
     let first = first_on(alloc, fs, view, seat, call, walks.first);
+    if first.need.is_some() {
+        return Advanced {
+            walks: PathWalks {
+                first: first.walk,
+                second: walks.second,
+            },
+            need: first.need,
+        };
+    }
     let second = second_on(alloc, fs, view, seat, call, walks.second);
-    PathWalks { first, second }
+    Advanced {
+        walks: PathWalks {
+            first: first.walk,
+            second,
+        },
+        need: None,
+    }
 }
 
 impl Performing {
@@ -135,10 +162,15 @@ impl Performing {
         ensures needed { IsNeeded (V.shown view.now) sessions.now opens.now caller call.now result }
         ensures fit { FitsCall sessions.now caller call.now result }
     {
+        call_allowed(call);
         let seat = seat_of(sessions, caller);
-        self.walks = advance(alloc, fs, view, seat, call, self.walks);
-        perform_on(
-            alloc, fs, view, sessions, opens, caller, call, moment, self.walks,
-        )
+        let advanced = advance(alloc, fs, view, seat, call, self.walks);
+        self.walks = advanced.walks;
+        match advanced.need {
+            Some(need) => Performed::Need(need),
+            None => perform_on(
+                alloc, fs, view, sessions, opens, caller, call, moment, self.walks,
+            ),
+        }
     }
 }

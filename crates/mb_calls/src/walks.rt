@@ -1,11 +1,11 @@
-ghost use Rattle.std.specs.Prelude.{◌≡◌, ◌≤◌, ◌-◌, IfOk, IfSome, drop, length, take};
+ghost use Rattle.std.specs.Prelude.{◌≡◌, ◌≤◌, ◌-◌, IfOk, IfSome, None, drop, length, take};
 ghost use Rattle.mb_calls.specs.Asks.{FindsFrom, FindsInode, FindsPlace, NearFrom, NearWay, PlacesFrom};
-ghost use Rattle.mb_calls.specs.Following.{BeginsWalk, BeginsWalks, IsCut, IsKept};
+ghost use Rattle.mb_calls.specs.Following.{BeginsWalk, BeginsWalks, IsCut, IsKept, LacksOnWay, StepsOn};
 ghost use Rattle.mb_calls.specs.Halts.{Needs};
 ghost use Rattle.mb_calls.specs.Halts.Scope.{lacking};
 
 use crate::halts::Halt;
-use mb_iface::{Answer, Asked, FileSys, Query, View};
+use mb_iface::{Answer, Asked, FileSys, Need, Query, View};
 use mb_kinds::{Cred, Path, Stat};
 use mb_tree::{Placed, Seat, is_directory};
 use std::alloc::{AllocError, Global};
@@ -24,6 +24,35 @@ pub struct PathWalk {
 pub struct PathWalks {
     pub first: PathWalk,
     pub second: PathWalk,
+}
+
+/// A walk as far as the view has the blocks for it.
+#[derive(Clone, Copy, Debug, Drop)]
+pub(crate) struct Followed {
+    pub walk: PathWalk,
+    /// The blocks that the view lacks for the next component. `None` where the last component is reached,
+    /// or where the next one is refused or met want of memory.
+    pub need: Option<Need>,
+}
+
+impl Followed {
+    /// A walk that lacks no blocks.
+    pub fn to(walk: PathWalk) -> Followed
+        ensures { result ≡ record { walk = walk; need = None } }
+    {
+        Followed { walk, need: None }
+    }
+}
+
+/// One component of a walk.
+#[derive(Clone, Copy, Debug, Drop)]
+pub(crate) enum Stepped {
+    /// It leads to a directory.
+    On(PathWalk),
+    /// The view lacks these blocks for it.
+    Need(Need),
+    /// It leads to no directory, or is refused, or met want of memory.
+    Stopped,
 }
 
 /// The walks of a call that begins.
@@ -105,8 +134,7 @@ fn find_at<F: FileSys, V: View>(
     }
 }
 
-/// One component further, to the one that begins at `next`. `None` where the component leads to no
-/// directory, or is refused, or where blocks or memory are missing for it.
+/// One component further, to the one that begins at `next`.
 fn step<F: FileSys, V: View>(
     alloc: Global,
     fs: &F,
@@ -115,53 +143,63 @@ fn step<F: FileSys, V: View>(
     path: &Path,
     walk: PathWalk,
     next: usize,
-) -> Option<PathWalk>
+) -> Stepped
     requires kept { IsKept (V.shown view.now) seat.now path.now walk }
     requires cut { IsCut path.now walk.from next }
-    ensures { IfSome result (λ walk. IsKept (V.shown view.now) seat.now path.now walk) }
+    ensures { StepsOn (V.shown view.now) seat.now path.now result }
 {
     let Ok(head) = piece(alloc, path, walk.from, next - 1) else {
-        return None;
+        return Stepped::Stopped;
     };
     match find_at(alloc, fs, view, walk.dir, seat.cred, head) {
         Ok(stat) => {
             if is_directory(stat.mode) {
-                Some(PathWalk {
+                Stepped::On(PathWalk {
                     dir: stat.ino,
                     from: next,
                 })
             } else {
-                None
+                Stepped::Stopped
             }
         }
-        Err(_) => None,
+        Err(stop) => match stop {
+            Halt::Need(need) => Stepped::Need(need),
+            _ => Stepped::Stopped,
+        },
     }
 }
 
-/// Follows a path to the directory of its last component, as far as that goes. What stops it is found again
-/// when the rest is asked for in its turn, so the second path of link(2) does not overtake the first.
-pub fn follow<F: FileSys, V: View>(
+/// Follows a path to the directory of its last component, as far as the view has the blocks. What stops it
+/// beside lacking blocks is found again when the rest is asked for in its turn.
+pub(crate) fn follow<F: FileSys, V: View>(
     alloc: Global,
     fs: &F,
     view: &V,
     seat: &Seat,
     path: &Path,
     walk: PathWalk,
-) -> PathWalk
+) -> Followed
     requires kept { IsKept (V.shown view.now) seat.now path.now walk }
-    ensures { IsKept (V.shown view.now) seat.now path.now result }
+    ensures kept { IsKept (V.shown view.now) seat.now path.now result.walk }
+    ensures lacking { IfSome result.need (LacksOnWay (V.shown view.now) seat.now path.now) }
 {
     let mut further = walk;
     for _ in 0..path.as_slice().len() {
         let Some(next) = cut(path.as_slice(), further.from) else {
-            return further;
+            return Followed::to(further);
         };
         match step(alloc, fs, view, seat, path, further, next) {
-            Some(walk) => further = walk,
-            None => return further,
+            Stepped::On(walk) => further = walk,
+            Stepped::Need(need) => {
+                return Followed {
+                    walk: further,
+                    need: Some(need),
+                };
+            }
+            Stepped::Stopped => return Followed::to(further),
         }
     }
-    further
+    Followed::to(further)
 }
 
 /// The place of a path from a directory.
