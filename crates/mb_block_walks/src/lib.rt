@@ -11,6 +11,10 @@ mod fill_tests;
 #[cfg(test)]
 mod hang_tests;
 #[cfg(test)]
+mod lacking_tests;
+#[cfg(test)]
+mod number_tests;
+#[cfg(test)]
 mod part_tests;
 #[cfg(test)]
 mod volumes;

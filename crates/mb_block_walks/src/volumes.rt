@@ -46,6 +46,18 @@ pub fn fresh(heap: Global, free: u32) -> Result<Gathered, Fail> {
     Ok(disk)
 }
 
+/// The blocks of a disk without one of them.
+pub fn without(heap: Global, disk: &Gathered, lacking: u32) -> Result<Gathered, Fail> {
+    let mut view = nothing(heap);
+    for place in 0..disk.blocks.len() {
+        let (block, bytes) = disk.blocks.at(place);
+        if block != lacking {
+            view.blocks.put(block, bytes)?;
+        }
+    }
+    Ok(view)
+}
+
 /// Gathers the blocks that are asked for, the first of which has to be lacking.
 pub fn gather(disk: &Gathered, view: &mut Gathered, need: Need) -> Result<(), Fail> {
     if view.get(need.first).is_some() {

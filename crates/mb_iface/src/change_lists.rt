@@ -1,11 +1,12 @@
-ghost use Rattle.std.specs.Prelude.{◌≡◌, ◌<◌, ◌≤◌, ◌+◌, ℕ, [], List, Some, OnOk, OnErr, IfOk, MatchOption, is_some, option_copied, slice_get, length, cond, nat_eq};
+ghost use Rattle.std.specs.Prelude.{◌≡◌, ◌<◌, ◌≤◌, ◌+◌, ℕ, [], List, Some, OnOk, OnErr, IfOk, MatchOption, is_some, IsOk, option_copied, slice_get, length, cond, nat_eq};
 ghost use Rattle.mb_word.specs.Numbers.{put_at};
 ghost use Rattle.std.specs.Option.{option_or};
 ghost use Rattle.mb_tree.specs.Views.{over};
-ghost use Rattle.indexmap.specs.IndexMap.{insert_entry, insert_all};
+ghost use Rattle.indexmap.specs.IndexMap.{insert_entry, insert_all, spare, Updates, IsUnique};
 ghost use Rattle.mb_iface.specs.Changed.{AreChanges, changed, put_block};
 
 use indexmap::IndexMap;
+use indexmap::map::Entry;
 use std::alloc::{AllocError, Global};
 use std::marker::Model;
 
@@ -34,6 +35,29 @@ pub(crate) fn write_at(into: &mut [u8; 512], at: usize, bytes: &[u8])
     ensures sized { length into.new ≡ 512 }
 {
     into[at..at + bytes.len()].copy_from_slice(bytes);
+}
+
+/// Gives a block its bytes, a new block last: as `insert` does, whose answers would carry the old bytes
+/// or the refused ones by value. The only error is want of memory; the blocks are then as before.
+fn write_page(
+    map: &mut IndexMap<u32, [u8; 512]>,
+    block: u32,
+    bytes: &[u8; 512],
+) -> Result<(), AllocError>
+    ensures updates { OnOk result (Updates nat_eq map.old map.new block (Some bytes.now)) }
+    ensures entries { OnOk result (map.new.entries ≡ insert_entry nat_eq map.old.entries block bytes.now) }
+    ensures unique { OnOk result (IsUnique nat_eq map.new) }
+    ensures err { OnErr result (map.new.entries ≡ map.old.entries) }
+    ensures succeeds { 0 < spare map.old → IsOk result }
+    ensures spare { OnOk result (spare map.old ≤ spare map.new + 1) }
+{
+    match map.entry(block)? {
+        Entry::Occupied(here) => *here.into_mut() = *bytes,
+        Entry::Vacant(here) => {
+            here.insert(*bytes);
+        }
+    }
+    Ok(())
 }
 
 impl Changes {
@@ -91,7 +115,7 @@ impl Changes {
         ensures ok { OnOk result ((blocks : ℕ → List ℕ) → over blocks (changed self.new) ≡ put_block (over blocks (changed self.old)) block bytes.now) }
         ensures err { OnErr result (self.new ≡ self.old) }
     {
-        self.map.insert(block, *bytes)?;
+        write_page(&mut self.map, block, bytes)?;
         Ok(())
     }
 
@@ -128,10 +152,10 @@ impl Changes {
         ensures err { OnErr result (self.new ≡ self.old) }
     {
         self.map.reserve(2)?;
-        let Ok(_) = self.map.insert(block, *bytes) else {
+        let Ok(()) = write_page(&mut self.map, block, bytes) else {
             unreachable!()
         };
-        let Ok(_) = self.map.insert(then, *after) else {
+        let Ok(()) = write_page(&mut self.map, then, after) else {
             unreachable!()
         };
         Ok(())

@@ -7,12 +7,12 @@ use Rattle.mb_iface.proofs.change_lists.Changes.put.Goals as goal
 
 pub invariant_of-self-2 : goal.invariant_of-self-2
 invariant_of-self-2 c = record {
-  each = subst (All IsChange) (sym c.in_ok-insert.ensures.entries) (each_inserted c.self.inside.map.entries c.args.block c.args.bytes.now c.self.invariant.each (record { below = omega arith; sized = omega arith }));
-  once = c.insert.ensures.unique;
+  each = subst (All IsChange) (sym c.in_ok-write_page.ensures.entries) (each_inserted c.self.inside.map.entries c.args.block c.args.bytes.now c.self.invariant.each (record { below = omega arith; sized = omega arith }));
+  once = c.in_ok-write_page.ensures.unique;
 }
 
 pub returns-clause-each : goal.returns-clause-each
-returns-clause-each c = λ other. c.in_ok-insert.ensures.updates.0 other ∙ ap (λ es. cond (nat_eq c.args.block other) (Some c.args.bytes.now) (changed es other)) c.self.view_is
+returns-clause-each c = λ other. c.in_ok-write_page.ensures.updates.0 other ∙ ap (λ es. cond (nat_eq c.args.block other) (Some c.args.bytes.now) (changed es other)) c.self.view_is
 
 pub returns-clause-ok : goal.returns-clause-ok
-returns-clause-ok c = over_put c.args.self.now c.insert.new.self.entries c.args.block c.args.bytes.now (returns-clause-each c)
+returns-clause-ok c = over_put c.args.self.now c.write_page.new.map.entries c.args.block c.args.bytes.now (returns-clause-each c)
