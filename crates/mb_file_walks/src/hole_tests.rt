@@ -49,6 +49,27 @@ fn growing_size_uncovers_bytes(rt: HostRuntime) -> Result<(), Fail> {
     Ok(())
 }
 
+/// Parts past the size keep their bytes, too, until the size grows over them.
+#[test]
+fn growing_size_uncovers_parts(rt: HostRuntime) -> Result<(), Fail> {
+    let mut disk = fresh(rt.alloc())?;
+    let _ = put_on(rt.alloc(), &mut disk, 0, &[7; 1536])?;
+    // size 100 of the third inode, the long's low word
+    let _ = disk.blocks.patch(2, 138, &[100, 0]);
+    assert_eq!(rt; read_on(rt.alloc(), &disk, 512, 9)?.as_slice().len(), 0);
+    let _ = put_on(rt.alloc(), &mut disk, 2048, &[8])?;
+    assert_eq!(rt; (cost(&disk), size(&disk)), (5, 2049));
+    assert_eq!(rt;
+        read_on(rt.alloc(), &disk, 510, 4)?.as_slice(),
+        [7; 4].as_slice()
+    );
+    assert_eq!(rt;
+        read_on(rt.alloc(), &disk, 1535, 2)?.as_slice(),
+        [7, 0].as_slice()
+    );
+    Ok(())
+}
+
 /// A piece over three parts, the middle one a hole before.
 #[test]
 fn piece_over_parts_and_a_hole(rt: HostRuntime) -> Result<(), Fail> {

@@ -1,4 +1,4 @@
-use crate::volumes::{Ended, cost, empty_on, free, fresh, put_on, size};
+use crate::volumes::{Ended, cost, empty_on, free, fresh, put_on, read_on, size};
 use mb_kinds::Errno;
 use std::test::Fail;
 
@@ -13,7 +13,7 @@ fn file_fills_the_volume(rt: HostRuntime) -> Result<(), Fail> {
     Ok(())
 }
 
-/// One byte more has no block, and the same bytes again need none.
+/// One byte more has no block, one past the greatest size no place, and the same bytes again need none.
 #[test]
 fn full_volume_refuses_a_byte(rt: HostRuntime) -> Result<(), Fail> {
     let mut disk = fresh(rt.alloc())?;
@@ -21,6 +21,8 @@ fn full_volume_refuses_a_byte(rt: HostRuntime) -> Result<(), Fail> {
     let _ = put_on(rt.alloc(), &mut disk, 0, &bytes)?;
     let more = put_on(rt.alloc(), &mut disk, 48_128, &[1])?;
     assert_eq!(rt; matches!(more, Ended::Refused(Errno::ENOSPC, _)), true);
+    let past = put_on(rt.alloc(), &mut disk, 1_082_201_088, &[1])?;
+    assert_eq!(rt; matches!(past, Ended::Refused(Errno::EFBIG, _)), true);
     let again = put_on(rt.alloc(), &mut disk, 0, &bytes)?;
     assert_eq!(rt; matches!(again, Ended::Done(_)), true);
     assert_eq!(rt; (cost(&disk), size(&disk)), (96, 48_128));
@@ -48,5 +50,31 @@ fn emptied_file_gives_its_blocks_back(rt: HostRuntime) -> Result<(), Fail> {
     assert_eq!(rt; (cost(&disk), free(&disk), size(&disk)), (1, 95, 0));
     let _ = put_on(rt.alloc(), &mut disk, 1_082_201_087, &[1])?;
     assert_eq!(rt; (cost(&disk), free(&disk)), (5, 91));
+    Ok(())
+}
+
+/// A file of the greatest size with one byte, its last: all before it reads as zeros, behind it is
+/// nothing, and one block more than the file's four is the root's.
+#[test]
+fn greatest_file_has_one_byte(rt: HostRuntime) -> Result<(), Fail> {
+    let mut disk = fresh(rt.alloc())?;
+    let _ = put_on(rt.alloc(), &mut disk, 1_082_201_087, &[9])?;
+    assert_eq!(rt; (cost(&disk), size(&disk)), (5, 1_082_201_088));
+    assert_eq!(rt;
+        read_on(rt.alloc(), &disk, 1_082_201_084, 9)?.as_slice(),
+        [0, 0, 0, 9].as_slice()
+    );
+    assert_eq!(rt;
+        read_on(rt.alloc(), &disk, 541_100_543, 3)?.as_slice(),
+        [0; 3].as_slice()
+    );
+    assert_eq!(rt;
+        read_on(rt.alloc(), &disk, 1_082_201_088, 9)?
+            .as_slice()
+            .len(),
+        0
+    );
+    let _ = empty_on(rt.alloc(), &mut disk)?;
+    assert_eq!(rt; (cost(&disk), free(&disk), size(&disk)), (1, 95, 0));
     Ok(())
 }

@@ -8,6 +8,8 @@
 #[cfg(test)]
 mod directory_tests;
 #[cfg(test)]
+mod example_tests;
+#[cfg(test)]
 mod hostile;
 #[cfg(test)]
 mod hostile_tests;

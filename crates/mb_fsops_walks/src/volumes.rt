@@ -139,7 +139,7 @@ fn perform(volume: &mut Volume, op: &FsOp, pick: Option<u16>) -> Result<Ended, F
 }
 
 /// Does an operation, which has to end so.
-fn ends(volume: &mut Volume, op: &FsOp, wanted: Ended) -> Result<(), Fail> {
+pub fn ends(volume: &mut Volume, op: &FsOp, wanted: Ended) -> Result<(), Fail> {
     if perform(volume, op, None)? == wanted {
         Ok(())
     } else {
@@ -242,59 +242,100 @@ pub fn puts(volume: &mut Volume, ino: u16, offset: u32, text: &[u8]) -> Result<(
     ends(volume, &op, Ended::Done(None))
 }
 
-/// Counts one open file on an inode.
-pub fn opens(volume: &mut Volume, ino: u16) -> Result<(), Fail> {
-    volume.opens.set(ino, 1)?;
+/// Sets how many open files an inode has.
+pub fn counts_open(volume: &mut Volume, ino: u16, count: u32) -> Result<(), Fail> {
+    volume.opens.set(ino, count)?;
     Ok(())
 }
 
-/// Lets the one open file on an inode go.
-pub fn releases(volume: &mut Volume, ino: u16) -> Result<(), Fail> {
+/// Counts one open file on an inode.
+pub fn opens(volume: &mut Volume, ino: u16) -> Result<(), Fail> {
+    counts_open(volume, ino, 1)
+}
+
+/// Lets one open file on an inode go, after which it has so many.
+pub fn lets_go(volume: &mut Volume, ino: u16, left: u32) -> Result<(), Fail> {
     let op = FsOp::Release {
         inos: Inos::from_vec([ino].to_vec(volume.heap)?),
     };
     ends(volume, &op, Ended::Done(None))?;
-    volume.opens.set(ino, 0)?;
-    Ok(())
+    counts_open(volume, ino, left)
+}
+
+/// Lets the one open file on an inode go.
+pub fn releases(volume: &mut Volume, ino: u16) -> Result<(), Fail> {
+    lets_go(volume, ino, 0)
+}
+
+/// A path of these bytes.
+fn path_of(heap: Global, text: &[u8]) -> Result<Path, Fail> {
+    if text.len() > 255 || text.contains(&0) {
+        return Err("no path".into());
+    }
+    Ok(Path::from_vec(text.to_vec(heap)?))
 }
 
 /// Finds a path.
 fn found(volume: &Volume, text: &[u8]) -> Result<Asked, Fail> {
-    if text.len() > 255 || text.contains(&0) {
-        return Err("no path".into());
-    }
     let query = Query::Find {
         cwd: ROOT,
         cred: Cred { uid: 5, gid: 6 },
-        path: Path::from_vec(text.to_vec(volume.heap)?),
+        path: path_of(volume.heap, text)?,
     };
     asked(V7, volume.heap, &volume.blocks, &query)
 }
 
+/// The directory and the name of a path's last component, as the super-user finds them.
+pub fn name_at(volume: &Volume, text: &[u8]) -> Result<(u16, Name), Fail> {
+    let query = Query::Place {
+        cwd: ROOT,
+        cred: Cred { uid: 0, gid: 0 },
+        path: path_of(volume.heap, text)?,
+    };
+    match asked(V7, volume.heap, &volume.blocks, &query)? {
+        Asked::Found(Answer::Place { dir, name, .. }) => Ok((dir, name)),
+        _ => Err("no place".into()),
+    }
+}
+
+/// What stat tells of the inode to which a path leads.
+pub fn at_path(volume: &Volume, text: &[u8]) -> Result<Stat, Fail> {
+    match found(volume, text)? {
+        Asked::Found(Answer::Node(stat)) => Ok(stat),
+        _ => Err("no inode is found".into()),
+    }
+}
+
 /// A path leads to this inode.
 pub fn leads_to(volume: &Volume, text: &[u8], ino: u16) -> Result<(), Fail> {
+    if at_path(volume, text)?.ino == ino {
+        Ok(())
+    } else {
+        Err("another inode is found".into())
+    }
+}
+
+/// A path is refused with this error.
+pub fn is_refused(volume: &Volume, text: &[u8], wanted: Errno) -> Result<(), Fail> {
     match found(volume, text)? {
-        Asked::Found(Answer::Node(stat)) => {
-            if stat.ino == ino {
+        Asked::Refused(error) => {
+            if error == wanted {
                 Ok(())
             } else {
-                Err("another inode is found".into())
+                Err("another error".into())
             }
         }
-        _ => Err("no inode is found".into()),
+        _ => Err("the path is there".into()),
     }
 }
 
 /// A path leads nowhere.
 pub fn is_missing(volume: &Volume, text: &[u8]) -> Result<(), Fail> {
-    match found(volume, text)? {
-        Asked::Refused(Errno::ENOENT) => Ok(()),
-        _ => Err("the path is there".into()),
-    }
+    is_refused(volume, text, Errno::ENOENT)
 }
 
 /// What stat tells of an inode.
-fn info(volume: &Volume, ino: u16) -> Result<Stat, Fail> {
+pub fn info(volume: &Volume, ino: u16) -> Result<Stat, Fail> {
     match asked(V7, volume.heap, &volume.blocks, &Query::Info { ino })? {
         Asked::Found(Answer::Node(stat)) => Ok(stat),
         _ => Err("no inode".into()),

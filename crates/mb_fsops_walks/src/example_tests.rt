@@ -1,0 +1,124 @@
+use crate::volumes::{
+    Ended, Volume, at_path, counts, counts_open, ends, fresh, info, is_missing, is_refused,
+    leads_to, lets_go, name_at, puts, reads,
+};
+use mb_kinds::{Errno, Stat};
+use mb_tree::FsOp;
+use std::test::Fail;
+
+/// Makes a file as the super-user does with mode 0644, under the name to which a path leads, and counts it
+/// as open.
+fn creates_at(volume: &mut Volume, path: &[u8], moment: u32, ino: u16) -> Result<(), Fail> {
+    let (dir, name) = name_at(volume, path)?;
+    let op = FsOp::Create {
+        dir,
+        name,
+        mode: 0o644,
+        uid: 0,
+        gid: 0,
+        moment,
+    };
+    ends(volume, &op, Ended::Done(Some(ino)))?;
+    counts_open(volume, ino, 1)
+}
+
+/// Makes a directory as the super-user does with mode 0755, under the name to which a path leads.
+fn makes_dir_at(volume: &mut Volume, path: &[u8], moment: u32, ino: u16) -> Result<(), Fail> {
+    let (dir, name) = name_at(volume, path)?;
+    let op = FsOp::MakeDir {
+        dir,
+        name,
+        mode: 0o755,
+        uid: 0,
+        gid: 0,
+        moment,
+    };
+    ends(volume, &op, Ended::Done(Some(ino)))
+}
+
+/// What stat tells of a file of the super-user with mode 0644 and one name, untouched since it was made.
+fn new_file(ino: u16, moment: u32) -> Stat {
+    Stat {
+        ino,
+        mode: 0o100644,
+        nlink: 1,
+        uid: 0,
+        gid: 0,
+        size: 0,
+        atime: moment,
+        mtime: moment,
+        ctime: moment,
+    }
+}
+
+/// The volume after the directory steps: a file of inode 3 by a name that is cut to 14 bytes, `/d` with a
+/// file in it, and `/e`.
+fn with_directories(rt: &HostRuntime) -> Result<Volume, Fail> {
+    let mut volume = fresh(rt.alloc())?;
+    creates_at(&mut volume, b"/abcdefghijklmno", 1, 3)?;
+    makes_dir_at(&mut volume, b"/d", 3, 4)?;
+    creates_at(&mut volume, b"/d/k", 4, 5)?;
+    makes_dir_at(&mut volume, b"/e", 6, 6)?;
+    Ok(volume)
+}
+
+/// Of a component the first 14 bytes count.
+#[test]
+fn name_of_15_bytes_is_cut(rt: HostRuntime) -> Result<(), Fail> {
+    let volume = with_directories(&rt)?;
+    assert_eq!(rt; at_path(&volume, b"/abcdefghijklmn")?, new_file(3, 1));
+    assert_eq!(rt; at_path(&volume, b"/abcdefghijklmnop")?, new_file(3, 1));
+    is_missing(&volume, b"/abcdefghijklm")
+}
+
+/// `rmdir` of a directory with a further name in it is refused with EEXIST: three slots are used.
+#[test]
+fn directory_with_a_name_is_seen_to_be_in_use(rt: HostRuntime) -> Result<(), Fail> {
+    let volume = with_directories(&rt)?;
+    assert_eq!(rt; at_path(&volume, b"/d")?.mode, 0o040755);
+    counts(&volume, 4, 3)?;
+    counts(&volume, 6, 2)
+}
+
+/// `rmdir` of the current directory is refused with EBUSY: the path leads to its number.
+#[test]
+fn current_directory_is_known_by_its_number(rt: HostRuntime) -> Result<(), Fail> {
+    let volume = with_directories(&rt)?;
+    assert_eq!(rt; at_path(&volume, b"/e")?.mode, 0o040755);
+    leads_to(&volume, b"/e", 6)?;
+    leads_to(&volume, b"/d", 4)
+}
+
+/// `rmdir` of a file is refused with ENOTDIR: by its mode, and so is a path through it.
+#[test]
+fn file_is_seen_to_be_no_directory(rt: HostRuntime) -> Result<(), Fail> {
+    let volume = with_directories(&rt)?;
+    assert_eq!(rt; at_path(&volume, b"/abcdefghijklmn")?.mode, 0o100644);
+    is_refused(&volume, b"/abcdefghijklmn/k", Errno::ENOTDIR)
+}
+
+/// A file that is open twice loses its name, is written and read, and goes with the second of the two; its
+/// number is picked again.
+#[test]
+fn unlinked_file_is_read_until_it_is_let_go(rt: HostRuntime) -> Result<(), Fail> {
+    let mut volume = fresh(rt.alloc())?;
+    creates_at(&mut volume, b"/f", 1, 3)?;
+    ends(&mut volume, &FsOp::Hold { ino: 3 }, Ended::Done(None))?;
+    counts_open(&mut volume, 3, 2)?;
+    let (dir, name) = name_at(&volume, b"/f")?;
+    let moment = 3;
+    ends(
+        &mut volume,
+        &FsOp::Delink { dir, name, moment },
+        Ended::Done(None),
+    )?;
+    is_missing(&volume, b"/f")?;
+    puts(&mut volume, 3, 0, b"lost")?;
+    reads(&volume, 3, 0, b"lost")?;
+    lets_go(&mut volume, 3, 1)?;
+    reads(&volume, 3, 0, b"lost")?;
+    lets_go(&mut volume, 3, 0)?;
+    creates_at(&mut volume, b"/g", 8, 3)?;
+    assert_eq!(rt; info(&volume, 3)?, new_file(3, 8));
+    Ok(())
+}
