@@ -3,7 +3,7 @@ use Rattle.std.proofs.Common.{◌≡◌, ℕ, ◌+◌, ◌≤◌, List, [], ◌�
 use Rattle.mb_tree.specs.Effect.{TreeAndOpens}
 use Rattle.mb_tree.specs.CarriedOut.{AreCarriedOut, FindFewOpens, IsCarriedOut, PickedOp}
 use Rattle.mb_tree.proofs.CarryingOut.{one_end}
-use Rattle.mb_folds.specs.Folded.{folded, folded_from, is_merged, merged}
+use Rattle.mb_folds.specs.Folded.{folded_from, is_merged, merged}
 use Rattle.mb_folds.specs.Laws.{FoldedFindsFew, FoldedIsShort, FoldedLeads}
 use Rattle.mb_folds.proofs.Merging.{merges}
 
@@ -30,13 +30,16 @@ from_finds_few : (most : ℕ) (held last : TreeAndOpens) (first : PickedOp) (lat
 from_finds_few most held last first [] h few = few
 from_finds_few most held last first (next ∷ later) h few =
     elim (is_merged first next) as (λ b. is_merged first next ≡ b → FindFewOpens most held (after_next b first next later)) [
-      | false ↦ λ e. (few.0, λ mid one.
-          let is = one_end held h.0 mid first h.1 one in
-          from_finds_few most mid last next later (subst (λ (t : TreeAndOpens). AreCarriedOut t (next ∷ later) last) is h.2) (few.1 mid one))
+      | false ↦ λ e. (
+        few.0,
+        λ mid one.
+            let is = one_end held h.0 mid first h.1 one in
+            from_finds_few most mid last next later (subst (λ (t : TreeAndOpens). AreCarriedOut t (next ∷ later) last) is h.2) (few.1 mid one),
+      )
       | true ↦ λ e.
           let leads = merge_leads held h.0 h.2.0 first next e h.1 h.2.1 in
           from_finds_few most held last (merged first next) later (h.2.0, leads, h.2.2)
-              (few.0, λ end one. subst (λ (t : TreeAndOpens). FindFewOpens most t later) (one_end held h.2.0 end (merged first next) leads one) ((few.1 h.0 h.1).1 h.2.0 h.2.1))
+          (few.0, λ end one. subst (λ (t : TreeAndOpens). FindFewOpens most t later) (one_end held h.2.0 end (merged first next) leads one) ((few.1 h.0 h.1).1 h.2.0 h.2.1))
     ] refl
 
 pub folded_finds_few : FoldedFindsFew

@@ -1,6 +1,6 @@
 -- Two operations in a row that are one: it leads where both lead.
-use Rattle.std.proofs.Common.{◌≡◌, inl, inr, ℕ, ◌+◌, ◌≤◌, ◌<◌, max, Bool, true, false, ◌&&◌, if◌then◌else◌, List, [], ◌∷◌, ◌++◌, length, Option, Some, None, Ok, Result, option_map, unwrap_or, nat_le, refl, sym, ap, subst, ◌∙◌, arith}
-use Rattle.std.specs.Prelude.{◌==◌, bit_or}
+use Rattle.std.proofs.Common.{◌≡◌, inl, inr, ℕ, ◌+◌, ◌≤◌, ◌<◌, max, true, false, List, ◌++◌, length, Option, Some, None, Ok, option_map, unwrap_or, nat_le, refl, sym, ap, subst, ◌∙◌, arith}
+use Rattle.std.specs.Prelude.{bit_or}
 use Rattle.std.proofs.lemmas.List.{length-append}
 use Rattle.std.proofs.lemmas.Bool.Decides.{nat_tests}
 use Rattle.std.specs.FinMap as fin
@@ -8,22 +8,21 @@ use Rattle.mb_kinds.specs.declared.errors.Errno.{Errno}
 use Rattle.mb_kinds.specs.declared.errors.Errno.TheVariants.{ENOSPC, EFBIG}
 use Rattle.mb_tree.specs.Answers.{Answer, ◌>>=◌, need}
 use Rattle.mb_tree.specs.Maps.{Numbered, changed_at}
-use Rattle.mb_tree.specs.Inodes.{kind_of}
 use Rattle.mb_tree.specs.Cost.{cost}
 use Rattle.mb_tree.specs.Sessions.{Counts}
-use Rattle.mb_tree.specs.Effect.{TreeAndOpens, effect, fitting, on_node, put, put_bytes, with_mode, with_owner, with_times, written, wrote}
+use Rattle.mb_tree.specs.Effect.{TreeAndOpens, fitting, on_node, put, put_bytes, with_mode, with_owner, with_times, written, wrote}
 use Rattle.mb_tree.specs.CarriedOut.{IsCarriedOut, PickedOp}
 use Rattle.mb_tree.specs.declared.nodes.Node.{Node}
 use Rattle.mb_tree.specs.declared.nodes.Body.{Body}
 use Rattle.mb_tree.specs.declared.nodes.Body.TheVariants.{Regular, Directory, Special}
 use Rattle.mb_tree.specs.declared.trees.Tree.{Tree}
 use Rattle.mb_tree.specs.declared.operations.FsOp.{FsOp}
-use Rattle.mb_tree.specs.declared.operations.FsOp.TheVariants.{Create, Empty, MakeDir, RemoveDir, Enlink, Delink, Put, SetMode, SetOwner, SetTimes, Hold, Release}
+use Rattle.mb_tree.specs.declared.operations.FsOp.TheVariants.{Put, SetMode, SetOwner, SetTimes}
 use Rattle.mb_tree.proofs.Always.{bind_ok, same_ok, then_ok}
 use Rattle.mb_tree.proofs.BytesOrAttributes.{kind_set}
 use Rattle.mb_tree.proofs.FiniteMaps.{get_here, get_there, one_or_not, same}
 use Rattle.mb_tree.proofs.PuttingParts.{put_splits}
-use Rattle.mb_folds.specs.Folded.{is_behind, is_merged, is_one, joined, most_bytes, put_on, sets_mode, sets_owner, sets_times}
+use Rattle.mb_folds.specs.Folded.{is_behind, is_merged, is_one, joined, put_on, sets_mode, sets_owner, sets_times}
 
 -- ---- one value of a map changed twice
 

@@ -1,6 +1,6 @@
 -- A list of operations folded: what was written right behind another write becomes one write with it, and of
 -- attributes that were set twice in a row the later ones stand.
-use Rattle.std.specs.Prelude.{List, [], ◌∷◌, ◌++◌, ℕ, ◌+◌, Bool, true, false, ◌&&◌, ◌==◌, if◌then◌else◌, length, nat_le, None, is_none}
+use Rattle.std.specs.Prelude.{List, [], ◌∷◌, ◌++◌, ℕ, ◌+◌, Bool, false, ◌&&◌, ◌==◌, if◌then◌else◌, length, nat_le, None, is_none}
 use Rattle.mb_tree.specs.CarriedOut.{PickedOp}
 use Rattle.mb_tree.specs.declared.operations.FsOp.{FsOp}
 use Rattle.mb_tree.specs.declared.operations.FsOp.TheVariants.{Put, SetMode, SetOwner, SetTimes}
