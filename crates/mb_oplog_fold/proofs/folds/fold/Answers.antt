@@ -1,0 +1,5 @@
+use Rattle.mb_oplog_fold.proofs.Taking.{stays_short}
+use Rattle.mb_oplog_fold.proofs.folds.fold.Goals as goal
+
+pub refill-requires : goal.refill-requires
+refill-requires c = stays_short c.in_ok-ops.ops.items c.args.log.now.items c.in_ok-ops.ensures
