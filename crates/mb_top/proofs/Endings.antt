@@ -226,5 +226,5 @@ left_of_soak told faults disk image tree number calls faulty held (Checked line)
 pub soaks_complete : {D : Type 0} (told : D → Option Image) (faults : D → ℕ) → FiresAtMost → GeneratedAreFit → SoaksComplete told faults
 soaks_complete told faults law fits words left disk image tree held old new status number calls faulty ended command tells volume no_disk no_output =
     let range = subst IsInRange command (command_range words) in
-    settle_disk status (status_of ended.outcome) (ended_at ended.printed.ended) (left_of_soak told faults disk image tree number calls faulty held ended.outcome law fits range.1.0 range.1.1
+    settle_disk status (status_of ended.outcome) (ended_at ended.printed.ended) (left_of_soak told faults disk image tree number calls faulty held ended.outcome law fits range.1 range.2
     (subst (λ (c : Option Command). ComesOfCommand told faults c left disk held ended.outcome) command ended.is) tells volume) no_disk no_output

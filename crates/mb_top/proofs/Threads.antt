@@ -1,5 +1,5 @@
 -- A core that threads drove, each with a fault injector that goes by the job's plan.
-use Rattle.std.proofs.Common.{Bool, List, [], ◌∷◌, ℕ, zero, suc, ◌<◌, ◌≡◌, Option, Some, length, ap, arith, subst, ◌∙◌, refl}
+use Rattle.std.proofs.Common.{Bool, true, List, [], ◌∷◌, ℕ, zero, suc, ◌<◌, ◌≡◌, Option, Some, length, ap, arith, subst, ◌∙◌, refl}
 use Rattle.std.specs.Prelude.{IfSome, map, replicate}
 use Rattle.std.specs.List.{AllByRecursion}
 use Rattle.mb_core_spec.specs.Right.{Right}

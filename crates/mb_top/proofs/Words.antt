@@ -1,5 +1,5 @@
 -- What comes of a `run`, from what comes of its job; the ranges of a `soak`'s numbers.
-use Rattle.std.proofs.Common.{Bool, true, false, cond, nat_le, List, [], ◌∷◌, ℕ, ◌≤◌, ◌≡◌, Option, None, Some, refl}
+use Rattle.std.proofs.Common.{Bool, true, false, cond, nat_le, List, [], ◌∷◌, ℕ, ◌≤◌, ◌≡◌, Option, None, Some, refl, ap, sym, subst, ◌∙◌}
 use Rattle.std.specs.Prelude.{◌&&◌, bytes_eq, codes}
 use Rattle.std.proofs.lemmas.Bool.{and_parts, leb-true}
 use Rattle.mb_commands.specs.Words.{check_of, command_of, is_image_name, is_threaded, mkfs_of, mkfs_with, number_in, run_of, soak_of, soak_with, threads_of}
@@ -117,3 +117,8 @@ command_range (verb ∷ words) =
     either_range (bytes_eq verb (codes "check")) (check_of words) _ (check_range words) (
     either_range (bytes_eq verb (codes "run")) (run_of words) _ (run_range words) (
     either_range (bytes_eq verb (codes "soak")) (soak_of words) None (soak_range words) tt)))
+
+-- the numbers of the `soak` that was found
+pub soak_numbers : (number calls faulty : ℕ) (words : List (List ℕ)) (found : Option Command) (command : Command) → found ≡ command_of words → found ≡ Some command → command ≡ Soak number calls faulty
+    → (1 ≤ calls) × (calls ≤ 32768) × (faulty ≤ 255)
+soak_numbers number calls faulty words found command same is soak = subst IsInRange (sym same ∙ is ∙ ap Some soak) (command_range words)

@@ -44,11 +44,13 @@ pub fn decide<S: Source, D: Disk>(alloc: Global, words: &Words, job: &mut S, dis
         Some(Command::Mkfs { blocks, inodes }) => make_over(alloc, disk, blocks, inodes),
         Some(Command::Check) => check_over(alloc, disk),
         Some(Command::Run { threads: _ }) => run_job(alloc, job, disk),
-        Some(Command::Soak {
-            number,
-            calls,
-            faults,
-        }) => soak_over(alloc, disk, number, calls, faults),
+        Some(
+            Command::Soak {
+                number,
+                calls,
+                faults,
+            },
+        ) => soak_over(alloc, disk, number, calls, faults),
     }
 }
 

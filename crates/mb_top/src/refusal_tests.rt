@@ -7,21 +7,22 @@ use std::test::Fail;
 // Near misses of each command. None reads its job, which is none, nor the image.
 #[test]
 fn words_end_the_program_by_their_command(rt: HostRuntime) -> Result<(), Fail> {
-    for words in [
-        [].as_slice(),
-        ["run", "--help"].as_slice(),
-        ["run", ""].as_slice(),
-        ["run", "v", "w"].as_slice(),
-        ["mkfs", "v", "4", "16"].as_slice(),
-        ["mkfs", "v", "100", "15"].as_slice(),
-        ["mkfs", "v", "100"].as_slice(),
-        ["check", "v", "w"].as_slice(),
-        ["soak", "v", "1", "0", "0"].as_slice(),
-        ["soak", "v", "1", "1", "256"].as_slice(),
+    let refused = "words refused\n";
+    for (words, line) in [
+        ([].as_slice(), refused),
+        (["run", "--help"].as_slice(), refused),
+        (["run", ""].as_slice(), refused),
+        (["run", "v", "w"].as_slice(), refused),
+        (["mkfs", "v", "4", "16"].as_slice(), refused),
+        (["mkfs", "v", "100", "15"].as_slice(), refused),
+        (["mkfs", "v", "100"].as_slice(), refused),
+        (["check", "v", "w"].as_slice(), refused),
+        (["soak", "v", "1", "0", "0"].as_slice(), refused),
+        (["soak", "v", "1", "1", "256"].as_slice(), refused),
     ] {
         let image = hello_volume(rt.alloc())?;
         let end = run(rt.alloc(), words, image, "calls = [", NOTHING_FAILS)?;
-        printed(&rt, &end, 1, "words refused\n")?;
+        printed(&rt, &end, 1, line)?;
         assert!(rt; end.image == hello_volume(rt.alloc())?);
     }
     Ok(())

@@ -22,7 +22,8 @@ use mb_core_events::{Core, Refusal, State};
 use mb_edge::Disk;
 use mb_fsops::V7;
 use mb_headline::{
-    begin_for, drives_apart, drives_keep_order, injectors_for, paths_are_runs, paths_end, paths_fail,
+    begin_for, drives_apart, drives_keep_order, injectors_for, paths_are_runs, paths_end,
+    paths_fail,
 };
 use mb_jobs::{Job, Text};
 use mb_print::{failed_line, last_line, soak_line, transcript};
@@ -53,7 +54,7 @@ pub fn run_by_threads<D: Disk + Send, R: Threads + Wait + Sync>(
     disk: D,
     job: &Job,
 ) -> Decided<D>
-    requires { IsFitJob job.now }
+    requires fit { IsFitJob job.now }
     ensures over { ComesOfJob D.told D.faults manners.Threads job.now disk result.held result.outcome }
     ensures later { D.faults disk ≤ D.faults (held_disk result.held) }
 {
@@ -206,9 +207,9 @@ fn summed_up<D: Disk>(alloc: Global, core: &Core<V7, D>) -> Outcome
     ensures failed { core.now.stage ≡ Stage.Failed → Says Outcome.GivenUp (soak_text core.now.journal.history (length core.now.journal.records) core.now.journal.sealed_at) result }
     ensures runs { core.now.stage ≢ Stage.Failed → Says Outcome.Ran (soak_text core.now.journal.history (length core.now.journal.records) core.now.journal.sealed_at) result }
 {
-    let faults = core.records().len() as u64;
+    let struck = core.records().len() as u64;
     let sealed = u64::from(core.sealed_at());
-    let Ok(line) = soak_line(alloc, core.history(), faults, sealed) else {
+    let Ok(line) = soak_line(alloc, core.history(), struck, sealed) else {
         return Outcome::OutOfMemory;
     };
     match core.state() {

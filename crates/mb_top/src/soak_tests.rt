@@ -52,8 +52,20 @@ fn a_soak_over_what_is_no_volume(rt: HostRuntime) -> Result<(), Fail> {
     let words = ["soak", "v", "1", "1", "0"];
     let mut broken = hello_volume(alloc)?;
     put(&mut broken, 512, b"\xff\xff");
-    let told = run(alloc, &["check", "v"], broken.to_vec(alloc)?, "", NOTHING_FAILS)?;
-    let end = run(alloc, &words, broken.to_vec(alloc)?, "calls = [", NOTHING_FAILS)?;
+    let told = run(
+        alloc,
+        &["check", "v"],
+        broken.to_vec(alloc)?,
+        "",
+        NOTHING_FAILS,
+    )?;
+    let end = run(
+        alloc,
+        &words,
+        broken.to_vec(alloc)?,
+        "calls = [",
+        NOTHING_FAILS,
+    )?;
     assert_eq!(rt; end.status, 3);
     assert!(rt; end.printed == told.printed);
     assert!(rt; end.image == broken);

@@ -3,8 +3,8 @@ use Rattle.mb_top.proofs.Words.{of_job}
 use Rattle.mb_top.specs.declared.manners.Manner.TheVariants as manners
 use Rattle.mb_top.proofs.deciding.decide_by_threads.Goals as goal
 
-pub run_by_threads-requires : goal.run_by_threads-requires
-run_by_threads-requires g c = c.jobs_are_fit.ensures c.in-Ok.ensures.job.bytes c.in-Ok.job c.in-Ok.ensures.job.fact
+pub run_by_threads-requires-clause-fit : goal.run_by_threads-requires-clause-fit
+run_by_threads-requires-clause-fit g c = λ κs outlives. c.jobs_are_fit.ensures c.in-Ok.ensures.job.bytes c.in-Ok.job c.in-Ok.ensures.job.fact
 
 pub returns-in-Ok-clause-comes : goal.returns-in-Ok-clause-comes
 returns-in-Ok-clause-comes g c =
