@@ -15,6 +15,7 @@ pub fn fold(alloc: Global, log: &mut Oplog) -> Result<(), NoMemory>
     requires { length log.old.items < 4294967296 }
     ensures ok { OnOk result (picked_ops log.new.items ≡ folded (picked_ops log.old.items)) }
     ensures err { OnErr result (log.new ≡ log.old) }
+    ensures short { length log.new.items ≤ length log.old.items }
     ensures room { log.old.spare + length log.old.items ≤ log.new.spare + length log.new.items }
 {
     let ops = folded_copy(alloc, log)?;

@@ -64,7 +64,10 @@ fn is_one(first: &FsOp, next: &FsOp) -> bool
 {
     match first {
         FsOp::Put {
-            ino, offset, bytes, ..
+            ino,
+            offset,
+            bytes,
+            ..
         } => is_behind(*ino, *offset, bytes, next),
         FsOp::SetMode { ino, .. } => sets_mode(*ino, next),
         FsOp::SetOwner { ino, .. } => sets_owner(*ino, next),
@@ -120,7 +123,10 @@ fn joined(alloc: Global, first: FsOp, next: &FsOp) -> Result<FsOp, NoMemory>
 {
     match first {
         FsOp::Put {
-            ino, offset, bytes, ..
+            ino,
+            offset,
+            bytes,
+            ..
         } => put_on(alloc, ino, offset, bytes, next),
         _ => copied_op(alloc, next),
     }

@@ -1,3 +1,5 @@
+ghost use Rattle.std.specs.Prelude.{◌≤◌, length};
+
 use crate::fold;
 use mb_edge::NoMemory;
 use mb_kinds::Octets;
@@ -5,11 +7,15 @@ use mb_oplog::Oplog;
 use mb_tree::FsOp;
 use std::alloc::Global;
 
-fn put(heap: Global, offset: u32, bytes: &[u8], moment: u32) -> Result<FsOp, NoMemory> {
+fn put(heap: Global, offset: u32, bytes: &[u8], moment: u32) -> Result<FsOp, NoMemory>
+    requires { length bytes.now ≤ 65535 }
+{
+    let mut own = Vec::new(heap);
+    own.extend_from_slice(bytes)?;
     Ok(FsOp::Put {
         ino: 3,
         offset,
-        bytes: Octets::from_vec(bytes.to_vec(heap)?),
+        bytes: Octets::from_vec(own),
         moment,
     })
 }
@@ -19,6 +25,27 @@ fn chmod(mode: u16, moment: u32) -> FsOp {
         ino: 3,
         mode,
         moment,
+    }
+}
+
+// The mode and the moment of an operation that sets a mode.
+fn mode_of(op: &FsOp) -> Option<(u16, u32)> {
+    match op {
+        FsOp::SetMode { mode, moment, .. } => Some((*mode, *moment)),
+        _ => None,
+    }
+}
+
+// Whether an operation puts these bytes there, at that moment.
+fn puts(op: &FsOp, at: u32, all: &[u8], when: u32) -> bool {
+    match op {
+        FsOp::Put {
+            offset,
+            bytes,
+            moment,
+            ..
+        } => *offset == at && *moment == when && bytes.as_slice() == all,
+        _ => false,
     }
 }
 
@@ -34,20 +61,8 @@ fn writes_and_modes_in_a_row_become_one(rt: HostRuntime) -> Result<(), NoMemory>
     log.push(put(heap, 0, b"e", 7)?, None);
     fold(heap, &mut log)?;
     assert_eq!(rt; log.len(), 3);
-    let FsOp::SetMode { mode, moment, .. } = log.get(0).op else {
-        unreachable!()
-    };
-    assert_eq!(rt; (mode, moment), (0o640, 3));
-    let FsOp::Put {
-        offset,
-        bytes,
-        moment,
-        ..
-    } = &log.get(1).op
-    else {
-        unreachable!()
-    };
-    assert_eq!(rt; (*offset, *moment), (0, 5));
-    assert_eq!(rt; bytes.as_slice(), b"abcd".as_slice());
+    assert_eq!(rt; mode_of(&log.get(0).op), Some((0o640, 3)));
+    assert!(rt; puts(&log.get(1).op, 0, b"abcd", 5));
+    assert!(rt; puts(&log.get(2).op, 0, b"e", 7));
     Ok(())
 }
