@@ -747,7 +747,6 @@ class Outside(Case):
             (4, "failed 3 faults 1 seal 2", 4, "the volume failed (failed 3 faults 1 seal 2)"),
             (5, "disk fault", 5, "the disk failed under the image"),
             (6, "no memory", 6, "want of memory"),
-            (9, "not built", 9, "this build of membrane has no such command or job yet"),
             (70, "", 70, "membrane could not be built"),
             (2, "job refused: call 1", 71, "membrane ended with status 2: job refused: call 1"),
             (0, "something else", 71, "something else"),
