@@ -89,9 +89,8 @@ fn fails(alloc: Global, calls: &[u64]) -> Result<Fails, Fail> {
     Ok(Fails::from_vec(calls.to_vec(alloc)?))
 }
 
-/// A disk with a fresh volume, some calls of which fail.
-fn disk(alloc: Global, failing: Failing) -> Result<MemDisk, Fail> {
-    let image = fresh(alloc)?;
+/// A disk with an image, some calls of which fail.
+fn disk(alloc: Global, image: Vec<u8>, failing: Failing) -> Result<MemDisk, Fail> {
     if image.len() / 512 > BLOCKS as usize {
         return Err("the volume has more blocks than the disk".into());
     }
@@ -103,6 +102,12 @@ fn disk(alloc: Global, failing: Failing) -> Result<MemDisk, Fail> {
         fails(alloc, failing.reads)?,
         fails(alloc, failing.writes)?,
     )?)
+}
+
+/// Whether an image is a volume.
+fn is_volume(alloc: Global, image: &[u8]) -> Result<bool, Fail> {
+    let mut disk = disk(alloc, image.to_vec(alloc)?, NOTHING_FAILS)?;
+    Ok(sound(alloc, &mut disk).is_ok())
 }
 
 /// The root alone, as it is made.
@@ -156,7 +161,7 @@ pub fn walk(
 ) -> Result<Result<Walked, OpenFault>, Fail> {
     let job = job_of(alloc, text.as_bytes())?;
     let machine = fresh_machine(alloc, &job)?;
-    let disk = disk(alloc, failing)?;
+    let disk = disk(alloc, fresh(alloc)?, failing)?;
     match begin_for(alloc, V7, disk, &job) {
         Ok(core) => Ok(Ok(walk_over(alloc, core, &job, machine)?)),
         Err(Refusal { fault, disk: _ }) => Ok(Err(fault)),
@@ -210,14 +215,14 @@ fn walk_over(
     let Recorder { core, notes } = core;
     let VolumeCore { core } = core;
     let told = tell(alloc, &core, job, &mut machine);
-    let mut disk = core.into_disk();
-    let sound = sound(alloc, &mut disk).is_ok();
+    let disk = core.into_disk();
+    let image = disk.bytes().to_vec(alloc)?;
     Ok(Walked {
         end,
         notes,
         told: told?,
         settled: [first, second],
-        sound,
-        image: disk.bytes().to_vec(alloc)?,
+        sound: is_volume(alloc, &image)?,
+        image,
     })
 }
