@@ -1,6 +1,5 @@
 //! Walks of a job through the events of a core, over the fresh volume of 100 blocks and 16 inodes in memory.
-ghost use Rattle.std.specs.Prelude.{◌≡◌, ℕ, List, Ok};
-ghost use Rattle.mb_jobs.specs.Job.{job_in};
+ghost use Rattle.mb_headline.specs.Laws.{IsFitJob};
 ghost use Rattle.mb_run.specs.CoreSight.{sight_of};
 ghost use Rattle.mb_run.specs.Drives.{IsBegun};
 
@@ -159,6 +158,7 @@ pub fn walk(
     text: &str,
     failing: Failing,
 ) -> Result<Result<Walked, OpenFault>, Fail> {
+    jobs_are_fit();
     let job = job_of(alloc, text.as_bytes())?;
     let machine = fresh_machine(alloc, &job)?;
     let disk = disk(alloc, fresh(alloc)?, failing)?;
@@ -200,10 +200,9 @@ fn walk_over(
     job: &Job,
     mut machine: Machine,
 ) -> Result<Walked, Fail>
-    requires job { (bytes : List ℕ) × (job_in bytes ≡ Ok job.now) }
+    requires fit { IsFitJob job.now }
     requires begun { IsBegun job.now (sight_of core) }
 {
-    jobs_are_fit();
     let mut hook = job.plan.hook();
     let recorder = Recorder {
         core: VolumeCore { core },
@@ -216,11 +215,12 @@ fn walk_over(
     let VolumeCore { core } = core;
     let told = tell(alloc, &core, job, &mut machine);
     let disk = core.into_disk();
+    let told = told?;
     let image = disk.bytes().to_vec(alloc)?;
     Ok(Walked {
         end,
         notes,
-        told: told?,
+        told,
         settled: [first, second],
         sound: is_volume(alloc, &image)?,
         image,
