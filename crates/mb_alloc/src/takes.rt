@@ -74,7 +74,7 @@ pub fn take_zeroed<V: View>(view: &V, changes: &mut Changes, wanted: u32) -> Tak
             let Some(_found) = view.get(block) else {
                 return Taken::Need(Need::run(view, block, wanted));
             };
-            match changes.put(block, &[0; 512]) {
+            match changes.put_zeros(block) {
                 Ok(()) => Taken::Block(block),
                 Err(_) => Taken::NoMemory,
             }

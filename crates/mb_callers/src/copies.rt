@@ -1,16 +1,17 @@
 ghost use Rattle.std.specs.Prelude.{◌≡◌, ◌≤◌, ◌<◌, ◌+◌, [], ℕ, length, OnOk, IsOk, Some, option_copied, nat_eq};
 ghost use Rattle.std.specs.List.{IsDistinct};
 ghost use Rattle.std.specs.Map.{keys_of};
-ghost use Rattle.indexmap.specs.IndexMap.{insert_entry};
+ghost use Rattle.indexmap.specs.IndexMap.{insert_entry, spare};
 ghost use Rattle.mb_core_spec.specs.Copies.{kept_at};
 ghost use Rattle.mb_callers.specs.Reads.{stored};
 ghost use Rattle.mb_callers.specs.Stale.{is_fresh, is_same, least_stale, lesser, stale_step};
 
 use crate::reads::Reads;
 use indexmap::IndexMap;
+use indexmap::map::Entry;
 use mb_cache::Cache;
 use mb_edge::{Disk, NoMemory};
-use std::alloc::Global;
+use std::alloc::{AllocError, Global};
 use std::marker::Model;
 
 /// The bytes of a block with the stamp that it had.
@@ -64,10 +65,55 @@ impl KeptBlock {
     }
 }
 
+/// Gives a block its copy, a new block last: as `insert` does, whose answers would carry the old copy or
+/// the refused one by value. It answers where the block stands, as a guess. The only error is want of
+/// memory.
+fn write_copy(
+    map: &mut IndexMap<u32, KeptBlock>,
+    block: u32,
+    kept: &KeptBlock,
+) -> Result<u8, AllocError>
+    ensures items { OnOk result (map.new.entries ≡ insert_entry nat_eq map.old.entries block kept.now) }
+    ensures succeeds { 0 < spare map.old → IsOk result }
+    ensures spare { OnOk result (spare map.old ≤ spare map.new + 1) }
+{
+    let place = match map.entry(block)? {
+        Entry::Occupied(here) => {
+            let place = here.index();
+            *here.into_mut() = kept.copied();
+            place
+        }
+        Entry::Vacant(here) => {
+            let place = here.index();
+            here.insert(kept.copied());
+            place
+        }
+    };
+    Ok(place.min(255) as u8)
+}
+
+/// Where the guess for a block stands.
+fn guess_of(block: u32) -> usize
+    ensures { result < 128 }
+{
+    (block % 128) as usize
+}
+
+/// The copy of a block, by a search. It stays out of its callers, whose way by a guess is short.
+#[inline(never)]
+fn searched(map: &IndexMap<u32, KeptBlock>, block: u32) -> Option<&KeptBlock>
+    ensures { option_copied result ≡ kept_at map.now.entries block }
+{
+    map.get(&block)
+}
+
 /// Copies of blocks, each block once. A contract sees the list and the room.
 #[derive(Drop)]
 pub(crate) struct Copies {
     map: IndexMap<u32, KeptBlock>,
+    /// By a block's number modulo 128, where such a block was last put, so that most look-ups need no
+    /// search. It is looked at before it is believed, and any number may stand here.
+    guesses: [u8; 128],
 }
 
 impl Model for Copies {
@@ -88,6 +134,7 @@ impl Copies {
     {
         Copies {
             map: IndexMap::new(alloc),
+            guesses: [0; 128],
         }
     }
 
@@ -95,7 +142,13 @@ impl Copies {
     pub fn get(&self, block: u32) -> Option<&KeptBlock>
         ensures { option_copied result ≡ kept_at self.now.items block }
     {
-        self.map.get(&block)
+        let guess = self.guesses[guess_of(block)];
+        if let Some((key, kept)) = self.map.get_index(usize::from(guess)) {
+            if *key == block {
+                return Some(kept);
+            }
+        }
+        searched(&self.map, block)
     }
 
     /// Makes room for so many more copies. Nothing else changes.
@@ -115,9 +168,10 @@ impl Copies {
         ensures items { self.new.items ≡ insert_entry nat_eq self.old.items block kept.now }
         ensures spare { self.old.spare ≤ self.new.spare + 1 }
     {
-        let Ok(_) = self.map.insert(block, kept.copied()) else {
+        let Ok(guess) = write_copy(&mut self.map, block, kept) else {
             unreachable!()
         };
+        self.guesses[guess_of(block)] = guess;
     }
 
     /// The copies of a list more; needs no memory.

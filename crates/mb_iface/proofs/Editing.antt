@@ -61,6 +61,18 @@ by_patch shown old new block at bytes told each =
       }
     ] refl told each
 
+either_again : (b : Bool) (one two other : Option (List ℕ)) → cond b two (cond b one other) ≡ cond b two other
+either_again true one two other = refl
+either_again false one two other = refl
+
+-- a block put, and then changed in place
+pub put_patched : (old mid new : ChangeList) (block at : ℕ) (bytes found : List ℕ) → Sets old mid block found → Patches (changed mid block) mid new block at bytes → Sets old new block (put_at found at bytes)
+put_patched old mid new block at bytes found put each =
+    let t : nat_eq block block ≡ true = grind (arith, nat_tests) in
+    let here : changed mid block ≡ Some found = put block ∙ ap (λ b. cond b (Some found) (changed old block)) t in
+    let then : Sets mid new block (put_at found at bytes) = subst (λ (o : Option (List ℕ)). Patches o mid new block at bytes) here each in
+    λ other. then other ∙ ap (cond (nat_eq block other) (Some (put_at found at bytes))) (put other) ∙ either_again (nat_eq block other) (Some found) (Some (put_at found at bytes)) (changed old other)
+
 -- another one is changed in a copy of the view's
 pub by_put : (shown : ℕ → Option (List ℕ)) (old mid new : ChangeList) (block at : ℕ) (bytes found whole : List ℕ) → is_some (changed old block) ≡ false → Patches (changed old block) old mid block at bytes
     → shown block ≡ Some found → whole ≡ put_at found at bytes → Sets mid new block whole → HasEdited shown old new block at bytes

@@ -1,5 +1,7 @@
 pub mod ChangeEntries
+pub mod ChangePlaces
 pub mod ChangedBlocks
 pub mod CountMaps
 pub mod Editing
+pub mod Marks
 pub mod WithinViews

@@ -2,6 +2,7 @@ pub mod Acting
 pub mod Asking
 pub mod Changed
 pub mod Edits
+pub mod Guesses
 pub mod Near
 pub mod Needs
 pub mod OpenCounts

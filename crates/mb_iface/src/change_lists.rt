@@ -1,4 +1,4 @@
-ghost use Rattle.std.specs.Prelude.{◌≡◌, ◌<◌, ◌≤◌, ◌+◌, ℕ, [], List, Some, OnOk, OnErr, IfOk, MatchOption, is_some, IsOk, option_copied, slice_get, length, cond, nat_eq};
+ghost use Rattle.std.specs.Prelude.{◌≡◌, ◌<◌, ◌≤◌, ◌+◌, ◌%◌, ℕ, [], List, Some, None, IfSome, IfNone, OnOk, OnErr, IfOk, MatchOption, is_some, IsOk, option_copied, slice_get, length, replicate, cond, nat_eq};
 ghost use Rattle.mb_word.specs.Numbers.{put_at};
 ghost use Rattle.std.specs.Option.{option_or};
 ghost use Rattle.mb_tree.specs.Views.{over};
@@ -15,21 +15,25 @@ use std::marker::Model;
 #[derive(Drop)]
 pub struct Changes {
     map: IndexMap<u32, [u8; 512]>,
+    /// By a block's number modulo 128, one more than the place in the list where such a block was last
+    /// written or found, so that most look-ups need no search; 0 where none is changed. What is not 0 is
+    /// a guess, which is looked at before it is believed.
+    guesses: [u8; 128],
 }
 
 impl Model for Changes {
     ghost use Rattle.std.specs.Prelude.{ℕ, List};
-    ghost use Rattle.mb_iface.specs.Changed.{AreChanges};
+    ghost use Rattle.mb_iface.specs.Guesses.{AreGuessed};
 
     ghost Value = { List (ℕ × List ℕ) };
 
     ghost view = { λ c. c.map.entries };
 
-    ghost invariant = { λ c. AreChanges c.map.entries };
+    ghost invariant = { λ c. AreGuessed c.guesses c.map.entries };
 }
 
 /// Writes bytes over those of a block, from an offset on.
-pub(crate) fn write_at(into: &mut [u8; 512], at: usize, bytes: &[u8])
+fn write_at(into: &mut [u8; 512], at: usize, bytes: &[u8])
     requires { at + length bytes.now ≤ 512 }
     ensures bytes { into.new ≡ put_at into.old at bytes.now }
     ensures sized { length into.new ≡ 512 }
@@ -37,27 +41,88 @@ pub(crate) fn write_at(into: &mut [u8; 512], at: usize, bytes: &[u8])
     into[at..at + bytes.len()].copy_from_slice(bytes);
 }
 
+/// Where the guess for a block stands.
+fn guess_of(block: u32) -> usize
+    ensures place { result ≡ block % 128 }
+    ensures within { result < 128 }
+{
+    (block % 128) as usize
+}
+
+/// The guess for a place, from 1 on. Places from 254 on have one guess, which is of use for the first alone.
+fn guess_at(place: usize) -> u8
+    ensures { 0 < result }
+{
+    (place.min(254) + 1) as u8
+}
+
+/// The place of a block in the list: the guessed one where it stands there, else by a search.
+fn place_of(map: &IndexMap<u32, [u8; 512]>, guess: u8, block: u32) -> Option<usize>
+    requires { guess ≡ 0 → changed map.now.entries block ≡ None }
+    ensures found { IfSome result (λ place. (bytes : List ℕ) × (slice_get map.now.entries place ≡ Some (block, bytes))) }
+    ensures none { IfNone result (changed map.now.entries block ≡ None) }
+{
+    if guess == 0 {
+        return None;
+    }
+    let guessed = usize::from(guess) - 1;
+    if let Some((key, _)) = map.get_index(guessed) {
+        if *key == block {
+            return Some(guessed);
+        }
+    }
+    searched_place(map, block)
+}
+
+/// The place of a block in the list, by a search. It stays out of its callers, whose way by a guess is short.
+#[inline(never)]
+fn searched_place(map: &IndexMap<u32, [u8; 512]>, block: u32) -> Option<usize>
+    ensures found { IfSome result (λ place. (bytes : List ℕ) × (slice_get map.now.entries place ≡ Some (block, bytes))) }
+    ensures none { IfNone result (changed map.now.entries block ≡ None) }
+{
+    let (place, _, _) = map.get_full(&block)?;
+    Some(place)
+}
+
+/// The bytes of a block, by a search, which stays out of its callers, too.
+#[inline(never)]
+fn searched(map: &IndexMap<u32, [u8; 512]>, block: u32) -> Option<&[u8; 512]>
+    ensures { option_copied result ≡ changed map.now.entries block }
+{
+    map.get(&block)
+}
+
 /// Gives a block its bytes, a new block last: as `insert` does, whose answers would carry the old bytes
-/// or the refused ones by value. The only error is want of memory; the blocks are then as before.
+/// or the refused ones by value. It answers where the block stands, as a guess. The only error is want
+/// of memory; the blocks are then as before. It stands in each of its callers, so that zeros are written
+/// where they belong and not copied there.
+#[inline(always)]
 fn write_page(
     map: &mut IndexMap<u32, [u8; 512]>,
     block: u32,
     bytes: &[u8; 512],
-) -> Result<(), AllocError>
+) -> Result<u8, AllocError>
     ensures updates { OnOk result (Updates nat_eq map.old map.new block (Some bytes.now)) }
     ensures entries { OnOk result (map.new.entries ≡ insert_entry nat_eq map.old.entries block bytes.now) }
     ensures unique { OnOk result (IsUnique nat_eq map.new) }
+    ensures guess { IfOk result (λ guess. 0 < guess) }
     ensures err { OnErr result (map.new.entries ≡ map.old.entries) }
     ensures succeeds { 0 < spare map.old → IsOk result }
     ensures spare { OnOk result (spare map.old ≤ spare map.new + 1) }
 {
-    match map.entry(block)? {
-        Entry::Occupied(here) => *here.into_mut() = *bytes,
-        Entry::Vacant(here) => {
-            here.insert(*bytes);
+    let place = match map.entry(block)? {
+        Entry::Occupied(here) => {
+            let place = here.index();
+            *here.into_mut() = *bytes;
+            place
         }
-    }
-    Ok(())
+        Entry::Vacant(here) => {
+            let place = here.index();
+            here.insert(*bytes);
+            place
+        }
+    };
+    Ok(guess_at(place))
 }
 
 impl Changes {
@@ -67,6 +132,7 @@ impl Changes {
     {
         Changes {
             map: IndexMap::new(alloc),
+            guesses: [0; 128],
         }
     }
 
@@ -77,6 +143,7 @@ impl Changes {
     {
         Ok(Changes {
             map: IndexMap::with_capacity(alloc, blocks)?,
+            guesses: [0; 128],
         })
     }
 
@@ -104,7 +171,16 @@ impl Changes {
     pub fn get(&self, block: u32) -> Option<&[u8; 512]>
         ensures { option_copied result ≡ changed self.now block }
     {
-        self.map.get(&block)
+        let guess = self.guesses[guess_of(block)];
+        if guess == 0 {
+            return None;
+        }
+        if let Some((key, bytes)) = self.map.get_index(usize::from(guess) - 1) {
+            if *key == block {
+                return Some(bytes);
+            }
+        }
+        searched(&self.map, block)
     }
 
     /// Changes a block. The only error is want of memory; the changes are then as before.
@@ -115,7 +191,19 @@ impl Changes {
         ensures ok { OnOk result ((blocks : ℕ → List ℕ) → over blocks (changed self.new) ≡ put_block (over blocks (changed self.old)) block bytes.now) }
         ensures err { OnErr result (self.new ≡ self.old) }
     {
-        write_page(&mut self.map, block, bytes)?;
+        self.guesses[guess_of(block)] = write_page(&mut self.map, block, bytes)?;
+        Ok(())
+    }
+
+    /// Changes a block to zeros. The only error is want of memory; the changes are then as before.
+    pub fn put_zeros(&mut self, block: u32) -> Result<(), AllocError>
+        requires { block < 262144 }
+        ensures list { OnOk result (self.new ≡ insert_entry nat_eq self.old block (replicate 512 0)) }
+        ensures each { OnOk result ((other : ℕ) → changed self.new other ≡ cond (nat_eq block other) (Some (replicate 512 0)) (changed self.old other)) }
+        ensures ok { OnOk result ((blocks : ℕ → List ℕ) → over blocks (changed self.new) ≡ put_block (over blocks (changed self.old)) block (replicate 512 0)) }
+        ensures err { OnErr result (self.new ≡ self.old) }
+    {
+        self.guesses[guess_of(block)] = write_page(&mut self.map, block, &[0; 512])?;
         Ok(())
     }
 
@@ -126,8 +214,11 @@ impl Changes {
         ensures told { result ≡ is_some (changed self.old block) }
         ensures each { MatchOption (changed self.old block) (self.new ≡ self.old) (λ old. (other : ℕ) → changed self.new other ≡ cond (nat_eq block other) (Some (put_at old at bytes.now)) (changed self.old other)) }
     {
-        match self.map.get_mut(&block) {
-            Some(into) => {
+        let guess = &mut self.guesses[guess_of(block)];
+        match place_of(&self.map, *guess, block) {
+            Some(place) => {
+                *guess = guess_at(place);
+                let (_, into) = self.map.pair_mut(place);
                 write_at(into, at, bytes);
                 true
             }
@@ -152,12 +243,14 @@ impl Changes {
         ensures err { OnErr result (self.new ≡ self.old) }
     {
         self.map.reserve(2)?;
-        let Ok(()) = write_page(&mut self.map, block, bytes) else {
+        let Ok(guess) = write_page(&mut self.map, block, bytes) else {
             unreachable!()
         };
-        let Ok(()) = write_page(&mut self.map, then, after) else {
+        self.guesses[guess_of(block)] = guess;
+        let Ok(guess) = write_page(&mut self.map, then, after) else {
             unreachable!()
         };
+        self.guesses[guess_of(then)] = guess;
         Ok(())
     }
 
@@ -170,6 +263,7 @@ impl Changes {
         ensures err { OnErr result (self.new ≡ self.old) }
     {
         self.map.append(&mut later.map)?;
+        self.guesses = [1; 128];
         Ok(())
     }
 }

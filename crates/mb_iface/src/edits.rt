@@ -1,7 +1,7 @@
 ghost use Rattle.std.specs.Prelude.{◌≤◌, ◌<◌, ◌+◌, length};
 ghost use Rattle.mb_iface.specs.Edits.{Edits, EditsBoth};
 
-use crate::change_lists::{Changes, write_at};
+use crate::change_lists::Changes;
 use crate::views::View;
 
 /// What became of bytes of a block that were to be changed.
@@ -29,10 +29,11 @@ pub fn edit<V: View>(view: &V, changes: &mut Changes, block: u32, at: usize, byt
     let Some(found) = view.get(block) else {
         return Edited::Lacking;
     };
-    let mut whole = *found;
-    write_at(&mut whole, at, bytes);
-    match changes.put(block, &whole) {
-        Ok(()) => Edited::Done,
+    match changes.put(block, found) {
+        Ok(()) => {
+            let _ = changes.patch(block, at, bytes);
+            Edited::Done
+        }
         Err(_) => Edited::NoMemory,
     }
 }

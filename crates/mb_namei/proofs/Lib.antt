@@ -2,6 +2,7 @@ pub mod Answering
 pub mod Fetching
 pub mod InodeNodes
 pub mod Looking
+pub mod NameWords
 pub mod Pieces
 pub mod Searching
 pub mod SlotRows

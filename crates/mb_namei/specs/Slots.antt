@@ -1,10 +1,15 @@
 -- Slots in a row, gone through from the first.
-use Rattle.std.specs.Prelude.{List, ℕ, zero, suc, ◌+◌, ◌<◌, ◌≤◌, ◌≡◌, true, false, cond}
+use Rattle.std.specs.Prelude.{List, ℕ, zero, suc, ◌+◌, ◌<◌, ◌≤◌, ◌≡◌, true, false, cond, take, drop}
+use Rattle.std.specs.Int.{w64, from_le_bytes}
 use Rattle.mb_tree.specs.Blocks.{slot_of}
 use Rattle.mb_tree.specs.Lookup.{is_used, is_named}
 use Rattle.mb_tree.specs.declared.nodes.PlainSlot.{PlainSlot}
 use Rattle.mb_namei.specs.declared.slots.Glimpse.{Glimpse}
 use Rattle.mb_namei.specs.declared.slots.Glimpse.TheVariants as glimpse
+
+-- eight bytes from an offset on as one number
+unfoldable pub eight_of : List ℕ → ℕ → ℕ
+eight_of bytes at = from_le_bytes w64 (take 8 (drop at bytes))
 
 -- none of the first slots has the name
 abbrev pub AreUnnamed : (ℕ → PlainSlot) → List ℕ → ℕ → Type 0

@@ -45,24 +45,43 @@ fn without_slashes(path: &[u8]) -> &[u8]
     &path[path.len()..]
 }
 
-/// How many bytes stand before the first slash of a path.
+/// How many bytes stand before the first slash of a path. Four of them are looked at in one round.
 fn piece_len(path: &[u8]) -> usize
     ensures { IsPieceLen path.now result }
 {
-    for (i, byte) in path.iter().enumerate() {
-        if *byte == SLASH {
-            return i;
+    let mut at = 0;
+    while path.len() - at >= 4 {
+        if path[at] == SLASH {
+            return at;
         }
+        if path[at + 1] == SLASH {
+            return at + 1;
+        }
+        if path[at + 2] == SLASH {
+            return at + 2;
+        }
+        if path[at + 3] == SLASH {
+            return at + 3;
+        }
+        at += 4;
     }
-    path.len()
+    while at < path.len() {
+        if path[at] == SLASH {
+            return at;
+        }
+        at += 1;
+    }
+    at
 }
 
-/// A piece of a path as a slot's name.
+/// A piece of a path as a slot's name. Of a long one the first 14 bytes are copied at once.
 fn name_of(piece: &[u8]) -> Name
     ensures { result ≡ padded piece.now }
 {
+    if let Some(name) = piece.first_chunk::<14>() {
+        return *name;
+    }
     let mut name = [0; 14];
-    let most = piece.len().min(14);
-    name[..most].copy_from_slice(&piece[..most]);
+    name[..piece.len()].copy_from_slice(piece);
     name
 }

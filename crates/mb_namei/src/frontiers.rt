@@ -10,6 +10,7 @@ use mb_kinds::Name;
 /// The next run of blocks that the view lacks of a directory's parts, as long as the parts that it got
 /// last do not have the name: so a search that begins anew with more blocks goes through each block about
 /// twice in all. The parts are got in a row, so the last one is there only where all are.
+#[inline(always)]
 pub(crate) fn lacking_part<V: View>(
     view: &V,
     changes: &Changes,
@@ -23,7 +24,30 @@ pub(crate) fn lacking_part<V: View>(
     requires slots { count ≤ 268435455 }
     ensures { LacksPart (V.shown view.now) changes.now dir result }
 {
-    if parts < 2 || is_there(view, changes, dir, parts - 1) {
+    if parts < 2 {
+        return None;
+    }
+    lacking_of_many(view, changes, dir, parts, count, name)
+}
+
+/// The same of a directory of several parts. It stays out of its callers, whose way through one part is
+/// short.
+#[inline(never)]
+fn lacking_of_many<V: View>(
+    view: &V,
+    changes: &Changes,
+    dir: u16,
+    parts: u32,
+    count: u32,
+    name: &Name,
+) -> Option<Need>
+    requires several { 2 ≤ parts }
+    requires few { parts ≤ 2113674 }
+    requires filled { 32 * parts < count + 32 }
+    requires slots { count ≤ 268435455 }
+    ensures { LacksPart (V.shown view.now) changes.now dir result }
+{
+    if is_there(view, changes, dir, parts - 1) {
         return None;
     }
     let part = parts_there(view, changes, dir, parts);

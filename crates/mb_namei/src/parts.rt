@@ -1,4 +1,5 @@
-ghost use Rattle.std.specs.Prelude.{◌≤◌, ◌<◌, ◌+◌};
+ghost use Rattle.std.specs.Prelude.{◌≡◌, ◌≤◌, ◌<◌, ◌+◌, None};
+ghost use Rattle.mb_iface.specs.Needs.{IsNeed};
 ghost use Rattle.mb_namei.specs.Parts.{Fetches};
 
 use mb_bmap::{Located, address};
@@ -15,8 +16,9 @@ pub(crate) enum Fetched<'a> {
     Need(Need),
 }
 
-/// A part of a file that has so many parts. It asks for the neighbours of the part's block with it, as
-/// many parts as were passed before it and one more: so the runs double while a file is gone through.
+/// A part of a file that has so many parts. It stands in each of its callers, whose way is short where
+/// the part's block is there.
+#[inline(always)]
 pub(crate) fn fetch<'a, V: View>(
     view: &'a V,
     changes: &'a Changes,
@@ -38,12 +40,26 @@ pub(crate) fn fetch<'a, V: View>(
     }
     match seen(view, changes, block) {
         Some(bytes) => Fetched::Bytes(bytes),
-        None => {
-            let most = (part + 1).min(parts - part).min(32);
-            let wanted = neighbours(view, changes, ino, part, block, most);
-            Fetched::Need(Need::run(view, block, wanted))
-        }
+        None => Fetched::Need(lacked(view, changes, ino, part, parts, block)),
     }
+}
+
+/// What is asked for where the view lacks a part's block: its neighbours with it, as many parts as were
+/// passed before it and one more, so the runs double while a file is gone through. It stays out of its
+/// callers.
+#[inline(never)]
+fn lacked<V: View>(view: &V, changes: &Changes, ino: u16, part: u32, parts: u32, block: u32) -> Need
+    requires few { parts ≤ 2113674 }
+    requires part { part < parts }
+    requires some { 1 ≤ block }
+    requires below { block < 262144 }
+    requires lacking { V.shown view.now block ≡ None }
+    ensures need { IsNeed (V.shown view.now) result }
+    ensures first { result.first ≡ block }
+{
+    let most = (part + 1).min(parts - part).min(32);
+    let wanted = neighbours(view, changes, ino, part, block, most);
+    Need::run(view, block, wanted)
 }
 
 /// How many parts from one on, at most so many, stand at neighbouring blocks, as far as that can be

@@ -99,7 +99,9 @@ pub fn count_used<V: View>(view: &V, changes: &Changes, dir: u16, size: u32) -> 
     Counted::Used(used)
 }
 
-/// Searches the slots of one part, where the first empty slot before it is `empty`.
+/// Searches the slots of one part, where the first empty slot before it is `empty`. It stands in each of
+/// its callers, as `fetch` does in it.
+#[inline(always)]
 pub(crate) fn search_part<V: View>(
     view: &V,
     changes: &Changes,

@@ -1,7 +1,7 @@
-ghost use Rattle.std.specs.Prelude.{◌≤◌, ◌<◌, ◌+◌, ◌≡◌};
+ghost use Rattle.std.specs.Prelude.{◌≤◌, ◌<◌, ◌+◌, ◌≡◌, length};
 ghost use Rattle.std.specs.Str.{bytes_eq};
 ghost use Rattle.mb_word.specs.Fields.{slot_name};
-ghost use Rattle.mb_namei.specs.Slots.{Glimpses, CountsSlots};
+ghost use Rattle.mb_namei.specs.Slots.{eight_of, Glimpses, CountsSlots};
 
 use mb_kinds::Name;
 use mb_word::word_at;
@@ -18,14 +18,30 @@ pub(crate) enum Glimpse {
     Unnamed { empty: u32 },
 }
 
-/// Whether the slot at a place has the name, in use or not (V7 dir(5)).
+/// Eight bytes from an offset on as one number, so that they are compared at once.
 #[inline]
-fn has_name(bytes: &[u8; 512], place: u32, name: &Name) -> bool
-    requires { place < 32 }
+fn eight_at(bytes: &[u8], at: usize) -> u64
+    requires { at + 8 ≤ length bytes.now }
+    ensures { result ≡ eight_of bytes.now at }
+{
+    let Some(eight) = bytes[at..].first_chunk::<8>() else {
+        unreachable!()
+    };
+    u64::from_le_bytes(*eight)
+}
+
+/// Whether the slot at a place has the name, in use or not (V7 dir(5)). It compares the first eight and
+/// the last eight bytes, which of the name are at hand.
+#[inline]
+fn has_name(bytes: &[u8; 512], place: u32, name: &Name, front: u64, back: u64) -> bool
+    requires place { place < 32 }
+    requires front { front ≡ eight_of name.now 0 }
+    requires back { back ≡ eight_of name.now 6 }
     ensures { result ≡ bytes_eq (slot_name bytes.now place) name.now }
 {
-    let at = 16 * place as usize + 2;
-    bytes[at] == name[0] && bytes[at..at + 14] == name[..]
+    let _name = *name;
+    let at = 16 * place as usize;
+    eight_at(bytes, at + 2) == front && eight_at(bytes, at + 8) == back
 }
 
 /// Looks for a name among the first `count` slots of a directory's block.
@@ -33,12 +49,14 @@ pub(crate) fn scan_slots(bytes: &[u8; 512], count: u32, name: &Name) -> Glimpse
     requires { count ≤ 32 }
     ensures { Glimpses bytes.now count name.now result }
 {
+    let front = eight_at(name, 0);
+    let back = eight_at(name, 6);
     let mut empty = count;
     for place in 0..count {
         let ino = word_at(bytes, 16 * place as usize);
         if ino == EMPTY {
             empty = empty.min(place);
-        } else if has_name(bytes, place, name) {
+        } else if has_name(bytes, place, name, front, back) {
             return Glimpse::Named { place, ino };
         }
     }

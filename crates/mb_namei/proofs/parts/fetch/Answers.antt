@@ -15,4 +15,4 @@ pub returns-in-Some : goal.returns-in-Some
 returns-in-Some g c = (let e = c.in-At.ensures in found_part (g.V.View.shown c.args.view.now) c.args.changes.now c.args.ino c.args.part (omega (arith, c.requires.part, c.requires.few)) c.in-At.block e.0 e.1 c.in-Some.bytes.now c.in-Some.ensures.found)
 
 pub returns-in-None : goal.returns-in-None
-returns-in-None g c = (let e = c.in-At.ensures in (c.run.ensures.need, lacking_part (g.V.View.shown c.args.view.now) c.args.changes.now c.args.ino c.args.part (omega (arith, c.requires.part, c.requires.few)) c.in-At.block e.0 e.1 c.run.result.first c.run.ensures.run.begins))
+returns-in-None g c = (let e = c.in-At.ensures in (c.lacked.ensures.need, lacking_part (g.V.View.shown c.args.view.now) c.args.changes.now c.args.ino c.args.part (omega (arith, c.requires.part, c.requires.few)) c.in-At.block e.0 e.1 c.lacked.result.first c.lacked.ensures.first))

@@ -6,18 +6,22 @@ use Rattle.std.proofs.lemmas.Map.Made.{update_all_distinct}
 use Rattle.mb_iface.specs.Changed.{IsChange, changed}
 use Rattle.mb_iface.proofs.ChangedBlocks.{over_later}
 use Rattle.mb_iface.proofs.ChangeEntries.{all_inserted}
+use Rattle.mb_iface.proofs.Marks.{all_marked}
 use Rattle.mb_iface.proofs.change_lists.Changes.absorb.Goals as goal
 
 pub invariant_of-self-2 : goal.invariant_of-self-2
 invariant_of-self-2 c = record {
-  each = subst (All IsChange) (sym c.in_ok-append.ensures.entries) (all_inserted c.self.inside.map.entries c.later.inside.map.entries c.self.invariant.each c.later.invariant.each);
-  once = c.in_ok-append.ensures.inserts.1;
+  list = record {
+    each = subst (All IsChange) (sym c.in_ok-append.ensures.entries) (all_inserted c.self.inside.map.entries c.later.inside.map.entries c.self.invariant.list.each c.later.invariant.list.each);
+    once = c.in_ok-append.ensures.inserts.1;
+  };
+  marked = all_marked c.append.new.self.entries;
 }
 
 pub returns-clause-each : goal.returns-clause-each
 returns-clause-each c = λ other.
     c.in_ok-append.ensures.inserts.0 other
-    ∙ update_all_distinct nat_eq_equiv nat_eq (λ x y. refl) (changed c.self.inside.map.entries) c.later.inside.map.entries other c.later.invariant.once
+    ∙ update_all_distinct nat_eq_equiv nat_eq (λ x y. refl) (changed c.self.inside.map.entries) c.later.inside.map.entries other c.later.invariant.list.once
     ∙ ap (λ es. option_or (changed es other) (changed c.self.inside.map.entries other)) c.later.view_is
     ∙ ap (λ es. option_or (changed c.args.later other) (changed es other)) c.self.view_is
 

@@ -3,16 +3,20 @@ use Rattle.std.specs.List.{All}
 use Rattle.mb_iface.specs.Changed.{IsChange, changed}
 use Rattle.mb_iface.proofs.ChangedBlocks.{over_put}
 use Rattle.mb_iface.proofs.ChangeEntries.{each_inserted}
+use Rattle.mb_iface.proofs.Marks.{marked_put}
 use Rattle.mb_iface.proofs.change_lists.Changes.put.Goals as goal
 
 pub invariant_of-self-2 : goal.invariant_of-self-2
 invariant_of-self-2 c = record {
-  each = subst (All IsChange) (sym c.in_ok-write_page.ensures.entries) (each_inserted c.self.inside.map.entries c.args.block c.args.bytes.now c.self.invariant.each (record { below = omega arith; sized = omega arith }));
-  once = c.in_ok-write_page.ensures.unique;
+  list = record {
+    each = subst (All IsChange) (sym c.in_ok-self-inside.ensures.entries) (each_inserted c.self.inside.map.entries c.args.block c.args.bytes.now c.self.invariant.list.each (record { below = omega arith; sized = omega arith }));
+    once = c.in_ok-self-inside.ensures.unique;
+  };
+  marked = marked_put c.self.inside.guesses c.self.inside.map.entries c.write_page.new.map.entries c.args.block c.guess_of.result c.in_ok-self-inside.field-0 c.args.bytes.now (omega arith) c.self.invariant.marked c.guess_of.ensures.place c.in_ok-self-inside.ensures.guess c.in_ok-self-inside.ensures.updates.0;
 }
 
 pub returns-clause-each : goal.returns-clause-each
-returns-clause-each c = λ other. c.in_ok-write_page.ensures.updates.0 other ∙ ap (λ es. cond (nat_eq c.args.block other) (Some c.args.bytes.now) (changed es other)) c.self.view_is
+returns-clause-each c = λ other. c.in_ok-self-inside.ensures.updates.0 other ∙ ap (λ es. cond (nat_eq c.args.block other) (Some c.args.bytes.now) (changed es other)) c.self.view_is
 
 pub returns-clause-ok : goal.returns-clause-ok
 returns-clause-ok c = over_put c.args.self.now c.write_page.new.map.entries c.args.block c.args.bytes.now (returns-clause-each c)
