@@ -8,8 +8,10 @@ use Rattle.std.specs.Global.{Global}
 use Rattle.mb_frames.specs.declared.node.Node.{Node}
 use Rattle.mb_frames.specs.Pointers.{same_ptr}
 use Rattle.mb_frames.specs.Counts.{total, times}
-use Rattle.mb_frames.specs.Cells.{Cell, cell, places, IsFresh, has, is_at, read, next_at, prev_at, head_at, bytes_at, Adopts, Adds}
+use Rattle.mb_frames.specs.Cells.{Cell, cell, places, IsFresh, has, is_at, read, next_at, prev_at, head_at, block_at, bytes_at, Adopts, Adds}
 use Rattle.mb_frames.specs.Shape.{Linked, Round, Headed, Shaped}
+use Rattle.mb_frames.specs.Pages.{page}
+use Rattle.mb_frames.specs.Walks.{page_of}
 use Rattle.mb_frames.proofs.Pointers.{same_ptr_eq, same_ptr_refl}
 use Rattle.mb_frames.proofs.Chains.{last, one, one_self, times_none, times_cons, times_append, times_sources, times_last, last_append, cut_chain, join_chain, Relinks, new_link, kept_chain, kept_round}
 use Rattle.mb_frames.proofs.Shapes.{places_length, headed_kept, all_append}
@@ -94,6 +96,9 @@ module _ (old one_ : List Cell) (p : Ptr) (h : Bool) (A : Adopts old one_ p h) w
       here = λ q w. there_old q (S.here q w);
       bounded = omega (arith, S.bounded, length_one);
     }
+
+  pub block_old : (q : Ptr) → IsTrue (is_at q old) → block_at one_ q ≡ block_at old q
+  block_old q t = read_old (λ n. n.block) 0 q (differs q t)
 
   pub bytes_old : (q : Ptr) → IsTrue (is_at q old) → bytes_at one_ q ≡ bytes_at old q
   bytes_old q t = read_old (λ n. n.bytes) [] q (differs q t)
@@ -212,5 +217,5 @@ module _ (old new : List Cell) (p s : Ptr) (ts : List Ptr) (rest : List (List Pt
     bounded = omega (arith, length_after, S.bounded, ap length added_places, places_length old, places_length new);
   }
 
-  pub added_bytes : (q : Ptr) → IsTrue (is_at q old) → bytes_at new q ≡ bytes_at old q
-  added_bytes q t = B.ends.bytes q ∙ B.begins.bytes q ∙ bytes_old old B.one p false B.adopted q t
+  pub added_page : (q : Ptr) → IsTrue (is_at q old) → page_of new q ≡ page_of old q
+  added_page q t = λ i. page q ((B.ends.block q ∙ B.begins.block q ∙ block_old old B.one p false B.adopted q t) i) ((B.ends.bytes q ∙ B.begins.bytes q ∙ bytes_old old B.one p false B.adopted q t) i)

@@ -4,16 +4,16 @@ use Rattle.std.proofs.lemmas.List.{length-map, map-append, set-get_or}
 use Rattle.std.specs.Prelude.{◌≢◌, IsTrue}
 use denote.RawPtr.{Ptr, null_ptr}
 use Rattle.mb_frames.specs.Counts.{times}
-use Rattle.mb_frames.specs.Cells.{Cell, is_at, next_at, prev_at, head_at, bytes_at, places, Moves, Writes}
+use Rattle.mb_frames.specs.Cells.{Cell, is_at, next_at, prev_at, head_at, places, Moves, Writes}
 use Rattle.mb_frames.specs.Shape.{Shaped}
-use Rattle.mb_frames.specs.Pages.{Page, page, stands_in, standing, bytes_of, any, ring_at, with_ring, SameAt}
+use Rattle.mb_frames.specs.Pages.{Page, page, stands_in, standing, block_of, bytes_of, any, ring_at, with_ring, SameAt}
 use Rattle.mb_frames.specs.Walks.{page_of, pages_at, row_at}
-use Rattle.mb_frames.proofs.Pointers.{same_ptr_refl}
 use Rattle.mb_frames.proofs.Chains.{last, one, one_self, times_cons}
-use Rattle.mb_frames.proofs.Shapes.{bytes_all}
-use Rattle.mb_frames.proofs.Pages.{one_other, stands_append, stands_none, stands_cons, stands_pages, standing_set, bytes_told, other_ptr, places_rewritten, rewritten_all}
+use Rattle.mb_frames.proofs.Shapes.{page_all}
+use Rattle.mb_frames.proofs.Pages.{one_other, stands_append, stands_none, stands_cons, stands_pages, standing_set, read_told, places_each, stored, stored_place, stored_all}
 use Rattle.mb_frames.proofs.Steps.{spots, list_is, told_list, page_there, first_is, step_ends, step_sides, step_shaped, step_lists, step_places}
-use Rattle.mb_frames.proofs.Moves.{tail_of, first_or, last_none, rings, told_rings, once_rings, stays, whole_shaped, whole_lists, whole_bytes, empty_is, written_shaped, written_rings, written_first}
+use Rattle.mb_frames.proofs.Moves.{tail_of, first_or, last_none, rings, once_rings, stays, whole_shaped, whole_lists, whole_page, empty_is, told_new}
+use Rattle.mb_frames.proofs.Contents.{written_shaped, written_rings, written_first, written_page, written_apart}
 
 record Some_of (l : List Ptr) : Type 0 where
   pub p : Ptr
@@ -59,12 +59,12 @@ module _ (c : List Cell) (s : Ptr) (hs : List Ptr) (S : Shaped c (map (row_at c)
   pub put_fresh : standing f (rings c s hs S) ≡ 0
   put_fresh = omega (arith, once_rings c s hs S f, f_spare)
 
-  module _ (c1 : List Cell) (b : List ℕ) (W : Writes c c1 f b) where
+  module _ (c1 : List Cell) (block : ℕ) (b : List ℕ) (W : Writes c c1 f block b) where
     S1 : Shaped c1 (map (row_at c1) (s ∷ hs))
-    S1 = written_shaped c s hs S c1 f b W
+    S1 = written_shaped c s hs S c1 f block b W
 
     cut1 : spots (pages_at c1 s) ≡ [] ++ ((f ∷ []) ++ O.ps)
-    cut1 = ap spots (written_first c s hs S c1 f b W) ∙ places_rewritten f b (pages_at c s) ∙ spots_are
+    cut1 = ap spots (written_first c s hs S c1 f block b W) ∙ places_each (stored f block b) (stored_place f block b) (pages_at c s) ∙ spots_are
 
     pub put_ends : IsTrue (is_at f c1) × IsTrue (is_at f c1) × IsTrue (is_at t c1)
     put_ends = subst (λ q. IsTrue (is_at f c1) × IsTrue (is_at q c1) × IsTrue (is_at t c1)) (last_none f) (step_ends c1 (s ∷ hs) S1 0 (suc k) differ0 w0 wj s t refl et [] f [] O.ps cut1)
@@ -80,23 +80,20 @@ module _ (c : List Cell) (s : Ptr) (hs : List Ptr) (S : Shaped c (map (row_at c)
       put_shaped = step_shaped c1 (s ∷ hs) S1 0 (suc k) differ0 w0 wj s t refl et [] f [] O.ps cut1 c2 N
 
       pub put_places : places c2 ≡ places c
-      put_places = step_places c1 (s ∷ hs) S1 0 (suc k) differ0 w0 wj s t refl et [] f [] O.ps cut1 c2 N ∙ W.keeps.places
+      put_places = step_places c1 (s ∷ hs) S1 0 (suc k) differ0 w0 wj s t refl et [] f [] O.ps cut1 c2 N ∙ W.stays.keeps.places
 
       new_lists : map (pages_at c2) (s ∷ hs) ≡ map (page_of c1) O.ps ∷ set (map (pages_at c1) hs) k (map (page_of c1) (spots (pages_at c1 t) ++ f ∷ []))
       new_lists = step_lists c1 (s ∷ hs) S1 0 (suc k) differ0 w0 wj s t refl et [] f [] O.ps cut1 c2 N
 
       old_rings : map (pages_at c1) hs ≡ rings c s hs S
-      old_rings = written_rings c s hs S c1 f b W ∙ rewritten_all f b (rings c s hs S) put_fresh
+      old_rings = written_rings c s hs S c1 f block b W ∙ stored_all f block b (rings c s hs S) put_fresh
 
-      page_f : page_of c1 f ≡ page f b
-      page_f = ap (page f) (W.bytes f ∙ ap (λ y. cond y b (bytes_at c f)) (same_ptr_refl f))
-
-      grown_ring : map (page_of c1) (spots (pages_at c1 t) ++ f ∷ []) ≡ ring_at (rings c s hs S) k ++ page f b ∷ []
+      grown_ring : map (page_of c1) (spots (pages_at c1 t) ++ f ∷ []) ≡ ring_at (rings c s hs S) k ++ page f block b ∷ []
       grown_ring =
           map-append (page_of c1) (spots (pages_at c1 t)) (f ∷ [])
-          ∙ (λ z. (sym (told_list c1 (s ∷ hs) S1 (suc k) wj t et) ∙ sym (list_is c1 (s ∷ hs) S1 (suc k) wj t et) ∙ ap (λ l. get_or l k []) old_rings) z ++ page_f z ∷ [])
+          ∙ (λ z. (sym (told_list c1 (s ∷ hs) S1 (suc k) wj t et) ∙ sym (list_is c1 (s ∷ hs) S1 (suc k) wj t et) ∙ ap (λ l. get_or l k []) old_rings) z ++ written_page c s hs S c1 f block b W z ∷ [])
 
-      pub put_rings : map (pages_at c2) hs ≡ with_ring (rings c s hs S) k (ring_at (rings c s hs S) k ++ page f b ∷ [])
+      pub put_rings : map (pages_at c2) hs ≡ with_ring (rings c s hs S) k (ring_at (rings c s hs S) k ++ page f block b ∷ [])
       put_rings = ap tail_of new_lists ∙ (λ z. set (old_rings z) k (grown_ring z))
 
       pub put_spare : length (pages_at c2 s) + 1 ≡ length (pages_at c s)
@@ -105,18 +102,24 @@ module _ (c : List Cell) (s : Ptr) (hs : List Ptr) (S : Shaped c (map (row_at c)
       put_count : (q : Ptr) → standing q (map (pages_at c2) hs) ≡ standing q (rings c s hs S) + one f q
       put_count q =
           let r = ring_at (rings c s hs S) k in
-          omega (arith, ap (standing q) put_rings, standing_set q (rings c s hs S) k (r ++ page f b ∷ []) (omega (arith, wk, length-map hs (pages_at c))), stands_append q r (page f b ∷ []), stands_cons q (page f b) [], stands_none q)
+          omega (arith, ap (standing q) put_rings, standing_set q (rings c s hs S) k (r ++ page f block b ∷ []) (omega (arith, wk, length-map hs (pages_at c))), stands_append q r (page f block b ∷ []), stands_cons q (page f block b) [], stands_none q)
 
       pub put_stands : standing f (map (pages_at c2) hs) ≡ 1
       put_stands = omega (arith, put_count f, put_fresh, one_self f)
 
-      pub put_bytes : bytes_of f (map (pages_at c2) hs) ≡ b
-      put_bytes =
-          bytes_told f c2 (map (pages_at c2) hs) (told_rings c2 s hs put_shaped) ∙ ap (λ n. cond (any n) (bytes_at c2 f) []) put_stands ∙ bytes_all c1 c2 f f t M f ∙ W.bytes f ∙ ap (λ y. cond y b (bytes_at c f)) (same_ptr_refl f)
+      page_put : page_of c2 f ≡ page f block b
+      page_put = page_all c1 c2 f f t M f ∙ written_page c s hs S c1 f block b W
+
+      pub put_told : (block_of f (map (pages_at c2) hs) ≡ block) × (bytes_of f (map (pages_at c2) hs) ≡ b)
+      put_told =
+          let told = told_new c s hs S c2 put_shaped in (
+            read_told (λ g. g.block) 0 f c2 (map (pages_at c2) hs) told ∙ (λ i. cond (any (put_stands i)) (page_put i).block 0),
+            read_told (λ g. g.bytes) [] f c2 (map (pages_at c2) hs) told ∙ (λ i. cond (any (put_stands i)) (page_put i).bytes []),
+          )
 
       pub put_others : (q : Ptr) → q ≢ f → SameAt (rings c s hs S) (map (pages_at c2) hs) q
       put_others q n =
-          stays c s hs S c2 put_shaped q (omega (arith, put_count q, one_other f q n)) (bytes_all c1 c2 f f t M q ∙ W.bytes q ∙ ap (λ y. cond y b (bytes_at c q)) (other_ptr f q n))
+          stays c s hs S c2 put_shaped q (omega (arith, put_count q, one_other f q n)) (page_all c1 c2 f f t M q ∙ written_apart c s hs S c1 f block b W q n)
 
 module _ (c : List Cell) (s : Ptr) (hs : List Ptr) (S : Shaped c (map (row_at c) (s ∷ hs))) (a : ℕ) (wa : a < length hs) (h : Ptr) (eh : get_or hs a null_ptr ≡ h) where
   abbrev wi : suc a < length (s ∷ hs)
@@ -139,7 +142,7 @@ module _ (c : List Cell) (s : Ptr) (hs : List Ptr) (S : Shaped c (map (row_at c)
 
   -- an empty ring is released, or spliced
   module _ (e : head_at c (next_at c h) ≡ true) where
-    none : ring_at R a ≡ []
+    pub none : ring_at R a ≡ []
     none = ring_a ∙ empty_is c s hs S (suc a) 0 differ_spare wi z0 h s eh refl e
 
     pub released_none : R ≡ with_ring R a []
@@ -167,7 +170,7 @@ module _ (c : List Cell) (s : Ptr) (hs : List Ptr) (S : Shaped c (map (row_at c)
 
       pub released_others : (q : Ptr) → stands_in q (ring_at R a) ≡ 0 → SameAt R (map (pages_at c') hs) q
       released_others q e =
-          stays c s hs S c' released_shaped q (omega (arith, e, ap (standing q) released_rings, standing_set q R a [] wr, stands_none q)) (whole_bytes c s hs S (suc a) 0 differ_spare wi z0 h s eh refl f c' M q)
+          stays c s hs S c' released_shaped q (omega (arith, e, ap (standing q) released_rings, standing_set q R a [] wr, stands_none q)) (whole_page c s hs S (suc a) 0 differ_spare wi z0 h s eh refl f c' M q)
 
     module _ (b : ℕ) (ab : a ≢ b) (wb : b < length hs) (t : Ptr) (et : get_or hs b null_ptr ≡ t) (M : Moves c c' (next_at c h) (prev_at c h) t) where
       abbrev wt : suc b < length (s ∷ hs)
@@ -202,4 +205,4 @@ module _ (c : List Cell) (s : Ptr) (hs : List Ptr) (S : Shaped c (map (row_at c)
             standing_set q (set R a []) b (ring_at R b ++ ring_at R a) (omega (arith, wb, length-map hs (pages_at c), length-set R a [])),
             ap (stands_in q) (get_or-set_other R a b [] [] (λ e. ab (sym e))),
             stands_append q (ring_at R b) (ring_at R a),
-          )) (whole_bytes c s hs S (suc a) (suc b) differ_two wi wt h t eh et f c' M q)
+          )) (whole_page c s hs S (suc a) (suc b) differ_two wi wt h t eh et f c' M q)

@@ -1,11 +1,11 @@
 -- What a change of one node does to what is read of all.
-use Rattle.std.proofs.Common.{◌≡◌, Bool, true, false, ◌||◌, cond, List, [], ◌∷◌, refl, sym, ap, ◌∙◌, subst, T}
+use Rattle.std.proofs.Common.{◌≡◌, ℕ, Bool, true, false, ◌||◌, cond, List, [], ◌∷◌, refl, sym, ap, ◌∙◌, subst, T}
 use Rattle.std.specs.Prelude.{IsTrue}
 use denote.RawPtr.{Ptr}
 use Rattle.mb_frames.specs.declared.node.Node.{Node}
 use Rattle.mb_frames.specs.declared.node.NodePtr.{NodePtr}
 use Rattle.mb_frames.specs.Pointers.{same_ptr}
-use Rattle.mb_frames.specs.Cells.{has, Cell, cell, is_at, node_at, put_node, places, read, next_at, prev_at, head_at, bytes_at, Keeps, Links, Writes}
+use Rattle.mb_frames.specs.Cells.{has, Cell, cell, is_at, node_at, put_node, places, read, next_at, prev_at, head_at, block_at, bytes_at, Keeps, Links, Writes}
 use Rattle.mb_frames.proofs.Pointers.{same_ptr_refl, same_ptr_eq}
 
 module _ {X : Type 0} (f : Node → X) where
@@ -56,6 +56,9 @@ prev_read p cs n e t = ap (λ (m : Node). m.prev.ptr) e ∙ read_node (λ m. m.p
 pub head_read : (p : Ptr) (cs : List Cell) (n : Node) → n ≡ node_at p cs n → IsTrue (is_at p cs) → n.is_head ≡ head_at cs p
 head_read p cs n e t = ap (λ (m : Node). m.is_head) e ∙ read_node (λ m. m.is_head) true n p cs t
 
+pub block_read : (p : Ptr) (cs : List Cell) (n : Node) → n ≡ node_at p cs n → IsTrue (is_at p cs) → n.block ≡ block_at cs p
+block_read p cs n e t = ap (λ (m : Node). m.block) e ∙ read_node (λ m. m.block) 0 n p cs t
+
 pub bytes_read : (p : Ptr) (cs : List Cell) (n : Node) → n ≡ node_at p cs n → IsTrue (is_at p cs) → n.bytes ≡ bytes_at cs p
 bytes_read p cs n e t = ap (λ (m : Node). m.bytes) e ∙ read_node (λ m. m.bytes) [] n p cs t
 
@@ -74,8 +77,8 @@ is_put p w cs q t = subst (λ l. IsTrue (has q l)) (sym (places_put p w cs)) t
 
 -- the two stores of a link
 pub links_put : (a b : Ptr) (cs : List Cell) (n w : Node) (m v : Node) → IsTrue (is_at a cs) → IsTrue (is_at b cs)
-    → n ≡ node_at a cs n → (w.next.ptr ≡ b) × (w.prev ≡ n.prev) × (w.is_head ≡ n.is_head) × (w.bytes ≡ n.bytes)
-    → m ≡ node_at b (put_node a w cs) m → (v.prev.ptr ≡ a) × (v.next ≡ m.next) × (v.is_head ≡ m.is_head) × (v.bytes ≡ m.bytes)
+    → n ≡ node_at a cs n → (w.next.ptr ≡ b) × (w.prev ≡ n.prev) × (w.is_head ≡ n.is_head) × (w.block ≡ n.block) × (w.bytes ≡ n.bytes)
+    → m ≡ node_at b (put_node a w cs) m → (v.prev.ptr ≡ a) × (v.next ≡ m.next) × (v.is_head ≡ m.is_head) × (v.block ≡ m.block) × (v.bytes ≡ m.bytes)
     → Links cs (put_node b v (put_node a w cs)) a b
 links_put a b cs n w m v ta tb en ew em ev =
     let mid = put_node a w cs in let tm = is_put a w cs b tb in
@@ -84,21 +87,25 @@ links_put a b cs n w m v ta tb en ew em ev =
         places = places_put b v mid ∙ places_put a w cs;
         heads = λ q. read_kept (λ k. k.is_head) (λ _. true) b v m mid em tm ev.2 q ∙ read_kept (λ k. k.is_head) (λ _. true) a w n cs en ta ew.2 q;
       };
-      bytes = λ q. read_kept (λ k. k.bytes) (λ _. []) b v m mid em tm ev.3 q ∙ read_kept (λ k. k.bytes) (λ _. []) a w n cs en ta ew.3 q;
+      block = λ q. read_kept (λ k. k.block) (λ _. 0) b v m mid em tm ev.3 q ∙ read_kept (λ k. k.block) (λ _. 0) a w n cs en ta ew.3 q;
+      bytes = λ q. read_kept (λ k. k.bytes) (λ _. []) b v m mid em tm ev.4 q ∙ read_kept (λ k. k.bytes) (λ _. []) a w n cs en ta ew.4 q;
       next = λ q. read_kept (λ k. k.next.ptr) (λ r. r) b v m mid em tm (ap (λ (k : NodePtr). k.ptr) ev.1) q ∙ read_put (λ k. k.next.ptr) q a w cs ta q ∙ ap (λ r. cond (same_ptr a q) r (next_at cs q)) ew.0;
       prev = λ q. read_put (λ k. k.prev.ptr) q b v mid tm q ∙ ap (λ r. cond (same_ptr b q) r (prev_at mid q)) ev.0 ∙ ap (λ r. cond (same_ptr b q) a r) (read_kept (λ k. k.prev.ptr) (λ r. r) a w n cs en ta (ap (λ (k : NodePtr). k.ptr) ew.1) q);
     }
 
--- the store of a page's bytes
-pub writes_put : (p : Ptr) (cs : List Cell) (n w : Node) → IsTrue (is_at p cs) → n ≡ node_at p cs n → (w.next ≡ n.next) × (w.prev ≡ n.prev) × (w.is_head ≡ n.is_head) → Writes cs (put_node p w cs) p w.bytes
-writes_put p cs n w t e ew = record {
-  keeps = record {
-    places = places_put p w cs;
-    heads = λ q. read_kept (λ k. k.is_head) (λ _. true) p w n cs e t ew.2 q;
+-- the store of a page's block and bytes
+pub writes_put : (p : Ptr) (cs : List Cell) (n w : Node) (k : ℕ) → IsTrue (is_at p cs) → n ≡ node_at p cs n → w.block ≡ k → (w.next ≡ n.next) × (w.prev ≡ n.prev) × (w.is_head ≡ n.is_head) → Writes cs (put_node p w cs) p k w.bytes
+writes_put p cs n w k t e ek ew = record {
+  stays = record {
+    keeps = record {
+      places = places_put p w cs;
+      heads = λ q. read_kept (λ k. k.is_head) (λ _. true) p w n cs e t ew.2 q;
+    };
+    next = λ q. read_kept (λ k. k.next.ptr) (λ r. r) p w n cs e t (ap (λ (k : NodePtr). k.ptr) ew.0) q;
+    prev = λ q. read_kept (λ k. k.prev.ptr) (λ r. r) p w n cs e t (ap (λ (k : NodePtr). k.ptr) ew.1) q;
   };
+  block = λ q. read_put (λ k. k.block) 0 p w cs t q ∙ ap (λ r. cond (same_ptr p q) r (block_at cs q)) ek;
   bytes = λ q. read_put (λ k. k.bytes) [] p w cs t q;
-  next = λ q. read_kept (λ k. k.next.ptr) (λ r. r) p w n cs e t (ap (λ (k : NodePtr). k.ptr) ew.0) q;
-  prev = λ q. read_kept (λ k. k.prev.ptr) (λ r. r) p w n cs e t (ap (λ (k : NodePtr). k.ptr) ew.1) q;
 }
 
 pub is_kept : (old new : List Cell) (q : Ptr) → Keeps old new → IsTrue (is_at q old) → IsTrue (is_at q new)

@@ -3,8 +3,12 @@ pub mod Callers
 pub mod Calls
 pub mod Cells
 pub mod Chains
+pub mod Contents
 pub mod Crosses
 pub mod Boxed
+pub mod Ends
+pub mod Filled
+pub mod Filling
 pub mod Heads
 pub mod Mark
 pub mod Memory

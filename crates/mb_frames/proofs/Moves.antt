@@ -5,16 +5,15 @@ use Rattle.std.proofs.lemmas.Bool.{true≢false}
 use Rattle.std.specs.Prelude.{◌≢◌, IsTrue}
 use denote.RawPtr.{Ptr, null_ptr}
 use Rattle.mb_frames.specs.Counts.{times}
-use Rattle.mb_frames.specs.Cells.{Cell, is_at, next_at, prev_at, head_at, bytes_at, places, Moves, Writes}
+use Rattle.mb_frames.specs.Cells.{Cell, is_at, next_at, prev_at, head_at, block_at, bytes_at, places, Moves}
 use Rattle.mb_frames.specs.Shape.{Round, Headed, Shaped}
-use Rattle.mb_frames.specs.Pages.{Page, stands_in, standing, bytes_of, any, without, rewritten, SameAt}
+use Rattle.mb_frames.specs.Pages.{Page, stands_in, standing, block_of, bytes_of, any, without, SameAt}
 use Rattle.mb_frames.specs.Walks.{page_of, pages_at, row_at}
-use Rattle.mb_frames.proofs.Pointers.{same_ptr_refl}
 use Rattle.mb_frames.proofs.Chains.{last, one, one_self, times_cons}
-use Rattle.mb_frames.proofs.Shapes.{bytes_all}
+use Rattle.mb_frames.proofs.Shapes.{page_all}
 use Rattle.mb_frames.proofs.Views.{rest_of}
-use Rattle.mb_frames.proofs.Pages.{one_other, stands_append, stands_cons, stands_pages, standing_cons, standing_set, standing_at, Told, bytes_told, same_at, without_here, without_set, Located, located, Split, split_at, other_ptr, standing_rewritten}
-use Rattle.mb_frames.proofs.Steps.{spots, lists, once, row_is, round_is, within_rows, list_is, told_list, head_there, page_there, first_is, last_is, step_ends, step_sides, step_shaped, step_lists, step_places, write_shaped, write_lists, told_are}
+use Rattle.mb_frames.proofs.Pages.{one_other, stands_append, stands_cons, stands_pages, standing_cons, standing_set, standing_at, Told, read_told, same_at, without_here, without_set, Located, located, Split, split_at}
+use Rattle.mb_frames.proofs.Steps.{spots, lists, once, row_is, round_is, within_rows, list_is, told_list, head_there, page_there, first_is, last_is, step_ends, step_sides, step_shaped, step_lists, step_places, told_are}
 
 abbrev pub tail_of : {X : Type 0} → List X → List X
 tail_of [] = []
@@ -56,14 +55,17 @@ module _ (c : List Cell) (s : Ptr) (hs : List Ptr) (S : Shaped c (map (row_at c)
       (omega (arith, l.stands, ap (stands_in p) (list_is c (s ∷ hs) S (suc l.ring) v h refl), ap (stands_in p) (told_list c (s ∷ hs) S (suc l.ring) v h refl), stands_pages p c (spots (pages_at c h))))
 
   pub bytes_are : (p : Ptr) → standing p rings ≡ 1 → bytes_of p rings ≡ bytes_at c p
-  bytes_are p e = bytes_told p c rings told_rings ∙ ap (λ n. cond (any n) (bytes_at c p) []) e
+  bytes_are p e = read_told (λ g. g.bytes) [] p c rings told_rings ∙ ap (λ n. cond (any n) (bytes_at c p) []) e
+
+  pub block_is : (p : Ptr) → standing p rings ≡ 1 → block_of p rings ≡ block_at c p
+  block_is p e = read_told (λ g. g.block) 0 p c rings told_rings ∙ ap (λ n. cond (any n) (block_at c p) 0) e
 
   module _ (c' : List Cell) (S' : Shaped c' (map (row_at c') (s ∷ hs))) where
-    pub stays : (q : Ptr) → standing q (map (pages_at c') hs) ≡ standing q rings → bytes_at c' q ≡ bytes_at c q → SameAt rings (map (pages_at c') hs) q
-    stays q e f = same_at q c c' rings (map (pages_at c') hs) told_rings (record {
-      rows = map rest_of (map (row_at c') hs);
-      are = ap tail_of (told_are c' (s ∷ hs) S');
-    }) e f
+    pub told_new : Told c' (map (pages_at c') hs)
+    told_new = record { rows = map rest_of (map (row_at c') hs); are = ap tail_of (told_are c' (s ∷ hs) S') }
+
+    pub stays : (q : Ptr) → standing q (map (pages_at c') hs) ≡ standing q rings → page_of c' q ≡ page_of c q → SameAt rings (map (pages_at c') hs) q
+    stays q e f = same_at q c c' rings (map (pages_at c') hs) told_rings told_new e f
 
   -- a whole ring goes to the end of another, where i and j count the spare pages' ring as the first
   module _ (i j : ℕ) (differ : i ≢ j) (wi : i < length (s ∷ hs)) (wj : j < length (s ∷ hs)) (h t : Ptr) (eh : get_or (s ∷ hs) i null_ptr ≡ h) (et : get_or (s ∷ hs) j null_ptr ≡ t) where
@@ -134,8 +136,8 @@ module _ (c : List Cell) (s : Ptr) (hs : List Ptr) (S : Shaped c (map (row_at c)
             ∙ ap (set (set (lists c (s ∷ hs) S) i []) j)
             (map-append (page_of c) (spots (pages_at c t)) (F.u ∷ F.us) ∙ (λ z. sym (told_list c (s ∷ hs) S j wj t et) z ++ (ap (map (page_of c)) (sym F.cut) ∙ sym (told_list c (s ∷ hs) S i wi h eh)) z))
 
-        pub whole_bytes : (q : Ptr) → bytes_at c' q ≡ bytes_at c q
-        whole_bytes = bytes_all c c' (next_at c h) (prev_at c h) t M
+        pub whole_page : (q : Ptr) → page_of c' q ≡ page_of c q
+        whole_page = page_all c c' (next_at c h) (prev_at c h) t M
 
   -- one page leaves its ring for the spare ones
   module _ (p : Ptr) (st : standing p rings ≡ 1) where
@@ -203,7 +205,7 @@ module _ (c : List Cell) (s : Ptr) (hs : List Ptr) (S : Shaped c (map (row_at c)
       pub one_rings : map (pages_at c') hs ≡ map (without p) rings
       one_rings =
           ap tail_of new_lists ∙ ap (set rings k) (map-append (page_of c) P.before P.after)
-          ∙ sym (without_set p rings k (X ++ Y) (L.within) (ap (without p) ring_k ∙ without_here p (bytes_at c p) X Y (omega (arith, st, standing_at p rings k L.within, ap (stands_in p) ring_k))) L.stands (omega (arith, st)))
+          ∙ sym (without_set p rings k (X ++ Y) (L.within) (ap (without p) ring_k ∙ without_here p (page_of c p) X Y refl (omega (arith, st, standing_at p rings k L.within, ap (stands_in p) ring_k))) L.stands (omega (arith, st)))
 
       pub one_spare : length (pages_at c' s) ≡ length (pages_at c s) + 1
       one_spare = let a : spots (pages_at c s) ++ p ∷ [] ≡ spots (pages_at c s) ++ p ∷ [] = refl in omega (
@@ -229,32 +231,4 @@ module _ (c : List Cell) (s : Ptr) (hs : List Ptr) (S : Shaped c (map (row_at c)
       one_gone = omega (arith, one_count p, st, one_self p)
 
       pub one_others : (q : Ptr) → q ≢ p → SameAt rings (map (pages_at c') hs) q
-      one_others q n = stays c' one_shaped q (omega (arith, one_count q, one_other p q n)) (bytes_all c c' p p s M q)
-
-  -- one page holds other bytes
-  module _ (c' : List Cell) (p : Ptr) (b : List ℕ) (W : Writes c c' p b) where
-    pub written_shaped : Shaped c' (map (row_at c') (s ∷ hs))
-    written_shaped = write_shaped c (s ∷ hs) S c' p b W
-
-    written_lists : map (pages_at c') (s ∷ hs) ≡ map (map (rewritten p b)) (pages_at c s ∷ rings)
-    written_lists = write_lists c (s ∷ hs) S c' p b W
-
-    pub written_rings : map (pages_at c') hs ≡ map (map (rewritten p b)) rings
-    written_rings = ap tail_of written_lists
-
-    pub written_first : pages_at c' s ≡ map (rewritten p b) (pages_at c s)
-    written_first = ap first_or written_lists
-
-    pub written_spare : length (pages_at c' s) ≡ length (pages_at c s)
-    written_spare = ap length written_first ∙ length-map (pages_at c s) (rewritten p b)
-
-    pub written_count : (q : Ptr) → standing q (map (pages_at c') hs) ≡ standing q rings
-    written_count q = ap (standing q) written_rings ∙ standing_rewritten q p b rings
-
-    pub written_others : (q : Ptr) → q ≢ p → SameAt rings (map (pages_at c') hs) q
-    written_others q n = stays c' written_shaped q (written_count q) (W.bytes q ∙ ap (λ y. cond y b (bytes_at c q)) (other_ptr p q n))
-
-    pub written_bytes : standing p rings ≡ 1 → bytes_of p (map (pages_at c') hs) ≡ b
-    written_bytes e =
-        bytes_told p c' (map (pages_at c') hs) (record { rows = map rest_of (map (row_at c') hs); are = ap tail_of (told_are c' (s ∷ hs) written_shaped) })
-        ∙ ap (λ n. cond (any n) (bytes_at c' p) []) (written_count p ∙ e) ∙ W.bytes p ∙ ap (λ y. cond y b (bytes_at c p)) (same_ptr_refl p)
+      one_others q n = stays c' one_shaped q (omega (arith, one_count q, one_other p q n)) (page_all c c' p p s M q)

@@ -5,8 +5,8 @@ use Rattle.std.specs.Prelude.{◌≢◌}
 use denote.RawPtr.{Ptr}
 use Rattle.mb_frames.specs.Pointers.{same_ptr}
 use Rattle.mb_frames.specs.Counts.{total, times}
-use Rattle.mb_frames.specs.Cells.{Cell, bytes_at}
-use Rattle.mb_frames.specs.Pages.{Page, page, stands_in, standing, bytes_in, any, bytes_of, without, rewritten, SameAt}
+use Rattle.mb_frames.specs.Cells.{Cell, block_at}
+use Rattle.mb_frames.specs.Pages.{Page, page, stands_in, standing, read_in, any, read_of, without, rewritten, replaced, NamedAt, SameAt}
 use Rattle.mb_frames.specs.Walks.{page_of}
 use Rattle.mb_frames.proofs.Pointers.{same_ptr_refl, same_ptr_eq, same_ptr_symm}
 use Rattle.mb_frames.proofs.Sums.{total_at, total_set}
@@ -48,13 +48,13 @@ pub standing_at : (q : Ptr) (rs : List (List Page)) (k : ℕ) → k < length rs 
 unfolding standing
 standing_at q rs k w = total_at (stands_in q) [] rs k w
 
--- the bytes of a token's page, as the cells hold them
-bytes_in_pages : (q : Ptr) (cs : List Cell) (ps : List Ptr) → 0 < times q ps → bytes_in q (map (page_of cs) ps) ≡ bytes_at cs q
-unfolding bytes_in times
-bytes_in_pages q cs [] w = absurd (omega arith)
-bytes_in_pages q cs (p ∷ ps) w = (elim (same_ptr p q) as (λ y. same_ptr p q ≡ y → 0 < cond y 1 0 + times q ps → cond y (bytes_at cs p) (bytes_in q (map (page_of cs) ps)) ≡ bytes_at cs q) [
-  | true ↦ λ e v. ap (bytes_at cs) (same_ptr_eq p q e)
-  | false ↦ λ e v. bytes_in_pages q cs ps (omega (arith, v))
+-- what is read of a token's page, as the cells hold it
+read_in_pages : {X : Type 0} (f : Page → X) (d : X) (q : Ptr) (cs : List Cell) (ps : List Ptr) → 0 < times q ps → read_in f d q (map (page_of cs) ps) ≡ f (page_of cs q)
+unfolding read_in times
+read_in_pages f d q cs [] w = absurd (omega arith)
+read_in_pages f d q cs (p ∷ ps) w = (elim (same_ptr p q) as (λ y. same_ptr p q ≡ y → 0 < cond y 1 0 + times q ps → cond y (f (page_of cs p)) (read_in f d q (map (page_of cs) ps)) ≡ f (page_of cs q)) [
+  | true ↦ λ e v. ap (λ r. f (page_of cs r)) (same_ptr_eq p q e)
+  | false ↦ λ e v. read_in_pages f d q cs ps (omega (arith, v))
 ]) refl w
 
 -- each page of the rings holds what the cells say
@@ -62,24 +62,31 @@ pub record Told (cs : List Cell) (rings : List (List Page)) : Type 0 where
   pub rows : List (List Ptr)
   pub are : rings ≡ map (map (page_of cs)) rows
 
-bytes_rows : (q : Ptr) (cs : List Cell) (rows : List (List Ptr)) → bytes_of q (map (map (page_of cs)) rows) ≡ cond (any (standing q (map (map (page_of cs)) rows))) (bytes_at cs q) []
-unfolding bytes_of standing total
-bytes_rows q cs [] = refl
-bytes_rows q cs (r ∷ rs) =
+read_rows : {X : Type 0} (f : Page → X) (d : X) (q : Ptr) (cs : List Cell) (rows : List (List Ptr)) → read_of f d q (map (map (page_of cs)) rows) ≡ cond (any (standing q (map (map (page_of cs)) rows))) (f (page_of cs q)) d
+unfolding read_of standing total
+read_rows f d q cs [] = refl
+read_rows f d q cs (r ∷ rs) =
     let n = stands_in q (map (page_of cs) r) in let k = total (stands_in q) (map (map (page_of cs)) rs) in
-    (elim n as (λ v. n ≡ v → cond (any v) (bytes_in q (map (page_of cs) r)) (bytes_of q (map (map (page_of cs)) rs)) ≡ cond (any (v + k)) (bytes_at cs q) []) [
-      | zero ↦ λ e. let z : k ≡ 0 + k = omega arith in bytes_rows q cs rs ∙ ap (λ m. cond (any m) (bytes_at cs q) []) z
-      | suc v ↦ λ e. bytes_in_pages q cs r (omega (arith, e, stands_pages q cs r)) ∙ (let z : suc (v + k) ≡ suc v + k = omega arith in ap (λ m. cond (any m) (bytes_at cs q) []) z)
+    (elim n as (λ v. n ≡ v → cond (any v) (read_in f d q (map (page_of cs) r)) (read_of f d q (map (map (page_of cs)) rs)) ≡ cond (any (v + k)) (f (page_of cs q)) d) [
+      | zero ↦ λ e. let z : k ≡ 0 + k = omega arith in read_rows f d q cs rs ∙ ap (λ m. cond (any m) (f (page_of cs q)) d) z
+      | suc v ↦ λ e. read_in_pages f d q cs r (omega (arith, e, stands_pages q cs r)) ∙ (let z : suc (v + k) ≡ suc v + k = omega arith in ap (λ m. cond (any m) (f (page_of cs q)) d) z)
     ]) refl
 
-pub bytes_told : (q : Ptr) (cs : List Cell) (rings : List (List Page)) → Told cs rings → bytes_of q rings ≡ cond (any (standing q rings)) (bytes_at cs q) []
-bytes_told q cs rings t = subst (λ r. bytes_of q r ≡ cond (any (standing q r)) (bytes_at cs q) []) (sym t.are) (bytes_rows q cs t.rows)
+pub read_told : {X : Type 0} (f : Page → X) (d : X) (q : Ptr) (cs : List Cell) (rings : List (List Page)) → Told cs rings → read_of f d q rings ≡ cond (any (standing q rings)) (f (page_of cs q)) d
+read_told f d q cs rings t = subst (λ r. read_of f d q r ≡ cond (any (standing q r)) (f (page_of cs q)) d) (sym t.are) (read_rows f d q cs t.rows)
 
-pub same_at : (q : Ptr) (old new : List Cell) (before after : List (List Page)) → Told old before → Told new after → standing q after ≡ standing q before → bytes_at new q ≡ bytes_at old q → SameAt before after q
-same_at q old new before after a b e f = record {
+same_read : {X : Type 0} (f : Page → X) (d : X) (q : Ptr) (old new : List Cell) (before after : List (List Page)) → Told old before → Told new after → standing q after ≡ standing q before → f (page_of new q) ≡ f (page_of old q) → read_of f d q after ≡ read_of f d q before
+same_read f d q old new before after a b e s = read_told f d q new after b ∙ (λ i. cond (any (e i)) (s i) d) ∙ sym (read_told f d q old before a)
+
+pub same_at : (q : Ptr) (old new : List Cell) (before after : List (List Page)) → Told old before → Told new after → standing q after ≡ standing q before → page_of new q ≡ page_of old q → SameAt before after q
+same_at q old new before after a b e s = record {
   stands = e;
-  bytes = bytes_told q new after b ∙ (λ i. cond (any (e i)) (f i) []) ∙ sym (bytes_told q old before a);
+  block = same_read (λ g. g.block) 0 q old new before after a b e (ap (λ (g : Page). g.block) s);
+  bytes = same_read (λ g. g.bytes) [] q old new before after a b e (ap (λ (g : Page). g.bytes) s);
 }
+
+pub named_at : (q : Ptr) (old new : List Cell) (before after : List (List Page)) → Told old before → Told new after → standing q after ≡ standing q before → block_at new q ≡ block_at old q → NamedAt before after q
+named_at q old new before after a b e s = record { stands = e; block = same_read (λ g. g.block) 0 q old new before after a b e s }
 
 -- a page is left out of the ring where it stands
 without_none : (p : Ptr) (gs : List Page) → stands_in p gs ≡ 0 → without p gs ≡ gs
@@ -98,27 +105,38 @@ without_append p (x ∷ xs) ys = (elim (same_ptr x.place p) as (λ y. cond y (wi
   | false ↦ ap (λ l. x ∷ l) (without_append p xs ys)
 ])
 
-without_first : (p : Ptr) (b : List ℕ) (ys : List Page) → without p (page p b ∷ ys) ≡ without p ys
+without_first : (p : Ptr) (g : Page) (ys : List Page) → g.place ≡ p → without p (g ∷ ys) ≡ without p ys
 unfolding without
-without_first p b ys = ap (λ y. cond y (without p ys) (page p b ∷ without p ys)) (same_ptr_refl p)
+without_first p g ys e = ap (λ y. cond y (without p ys) (g ∷ without p ys)) (ap (λ q. same_ptr q p) e ∙ same_ptr_refl p)
 
-pub without_here : (p : Ptr) (b : List ℕ) (xs ys : List Page) → stands_in p (xs ++ page p b ∷ ys) ≤ 1 → without p (xs ++ page p b ∷ ys) ≡ xs ++ ys
-without_here p b xs ys w =
-    let a = stands_append p xs (page p b ∷ ys) in let c = stands_cons p (page p b) ys in let s = one_self p in
-    without_append p xs (page p b ∷ ys) ∙ (λ i. without_none p xs (omega (arith, w, a, c, s)) i ++ (without_first p b ys ∙ without_none p ys (omega (arith, w, a, c, s))) i)
+-- before and after a page that stands once, its place does not stand
+pub only_here : (p : Ptr) (g : Page) (xs ys : List Page) → g.place ≡ p → stands_in p (xs ++ g ∷ ys) ≤ 1 → (stands_in p xs ≡ 0) × (stands_in p ys ≡ 0)
+only_here p g xs ys e w =
+    let a = stands_append p xs (g ∷ ys) in let c = stands_cons p g ys in let s : one g.place p ≡ 1 = ap (λ q. one q p) e ∙ one_self p in
+    (omega (arith, w, a, c, s), omega (arith, w, a, c, s))
 
-without_all : (p : Ptr) (rs : List (List Page)) → standing p rs ≡ 0 → map (without p) rs ≡ rs
-unfolding standing total
-without_all p [] e = refl
-without_all p (r ∷ rs) e = λ i. without_none p r (omega (arith, e)) i ∷ without_all p rs (omega (arith, e)) i
+pub without_here : (p : Ptr) (g : Page) (xs ys : List Page) → g.place ≡ p → stands_in p (xs ++ g ∷ ys) ≤ 1 → without p (xs ++ g ∷ ys) ≡ xs ++ ys
+without_here p g xs ys e w =
+    let only = only_here p g xs ys e w in
+    without_append p xs (g ∷ ys) ∙ (λ i. without_none p xs only.0 i ++ (without_first p g ys e ∙ without_none p ys only.1) i)
+
+-- a change of lists that leaves those where p does not stand
+module _ (p : Ptr) (f : List Page → List Page) (none : (gs : List Page) → stands_in p gs ≡ 0 → f gs ≡ gs) where
+  pub leaves_all : (rs : List (List Page)) → standing p rs ≡ 0 → map f rs ≡ rs
+  unfolding standing total
+  leaves_all [] e = refl
+  leaves_all (r ∷ rs) e = λ i. none r (omega (arith, e)) i ∷ leaves_all rs (omega (arith, e)) i
+
+  pub changes_one : (rs : List (List Page)) (k : ℕ) (l : List Page) → k < length rs → f (get_or rs k []) ≡ l → 0 < stands_in p (get_or rs k []) → standing p rs ≤ 1 → map f rs ≡ set rs k l
+  unfolding standing total
+  changes_one [] k l w e n o = absurd (omega arith)
+  changes_one (r ∷ rs) zero l w e n o = λ i. e i ∷ leaves_all rs (omega (arith, n, o)) i
+  changes_one (r ∷ rs) (suc k) l w e n o =
+      let at = standing_at p rs k (omega (arith, w)) in
+      λ i. none r (omega (arith, n, o, at)) i ∷ changes_one rs k l (omega (arith, w)) e n (omega (arith, o)) i
 
 pub without_set : (p : Ptr) (rs : List (List Page)) (k : ℕ) (l : List Page) → k < length rs → without p (get_or rs k []) ≡ l → 0 < stands_in p (get_or rs k []) → standing p rs ≤ 1 → map (without p) rs ≡ set rs k l
-unfolding standing total
-without_set p [] k l w e n o = absurd (omega arith)
-without_set p (r ∷ rs) zero l w e n o = λ i. e i ∷ without_all p rs (omega (arith, n, o)) i
-without_set p (r ∷ rs) (suc k) l w e n o =
-    let at = standing_at p rs k (omega (arith, w)) in
-    λ i. without_none p r (omega (arith, n, o, at)) i ∷ without_set p rs k l (omega (arith, w)) e n (omega (arith, o)) i
+without_set p = changes_one p (without p) (without_none p)
 
 -- where a place stands
 pub record Located (p : Ptr) (rs : List (List Page)) : Type 0 where
@@ -153,37 +171,65 @@ other_ptr p q n = (elim (same_ptr p q) as (λ y. same_ptr p q ≡ y → y ≡ fa
   | false ↦ λ e. refl
 ]) refl
 
--- other bytes change no place
-place_rewritten : (p : Ptr) (b : List ℕ) (g : Page) → (rewritten p b g).place ≡ g.place
-unfolding rewritten
-place_rewritten p b g = (elim (same_ptr p g.place) as (λ y. (cond y (page g.place b) g).place ≡ g.place) [
+-- a change of pages that leaves their places
+module _ (f : Page → Page) (same : (g : Page) → (f g).place ≡ g.place) where
+  pub places_each : (gs : List Page) → map (λ (g : Page). g.place) (map f gs) ≡ map (λ (g : Page). g.place) gs
+  places_each [] = refl
+  places_each (g ∷ gs) = λ i. same g i ∷ places_each gs i
+
+  pub stands_each : (q : Ptr) (gs : List Page) → stands_in q (map f gs) ≡ stands_in q gs
+  unfolding stands_in
+  stands_each q gs = ap (times q) (places_each gs)
+
+  pub standing_each : (q : Ptr) (rs : List (List Page)) → standing q (map (map f) rs) ≡ standing q rs
+  unfolding standing total
+  standing_each q [] = refl
+  standing_each q (r ∷ rs) = omega (arith, stands_each q r, standing_each q rs)
+
+-- a change of the page at p alone
+module _ (p : Ptr) (f : Page → Page) (others : (g : Page) → same_ptr p g.place ≡ false → f g ≡ g) where
+  pub each_none : (gs : List Page) → stands_in p gs ≡ 0 → map f gs ≡ gs
+  unfolding stands_in times
+  each_none [] e = refl
+  each_none (g ∷ gs) e = (elim (same_ptr g.place p) as (λ y. same_ptr g.place p ≡ y → cond y 1 0 + times p (map (λ (g : Page). g.place) gs) ≡ 0 → map f (g ∷ gs) ≡ g ∷ gs) [
+    | true ↦ λ s z. absurd (omega (arith, z))
+    | false ↦ λ s z i. others g (same_ptr_symm p g.place ∙ s) i ∷ each_none gs (omega (arith, z)) i
+  ]) refl e
+
+-- the page of the block k with the bytes b, if it is the one at p
+abbrev pub stored : Ptr → ℕ → List ℕ → Page → Page
+stored p k b g = cond (same_ptr p g.place) (page g.place k b) g
+
+pub stored_place : (p : Ptr) (k : ℕ) (b : List ℕ) (g : Page) → (stored p k b g).place ≡ g.place
+stored_place p k b g = (elim (same_ptr p g.place) as (λ y. (cond y (page g.place k b) g).place ≡ g.place) [
   | true ↦ refl
   | false ↦ refl
 ])
 
-pub places_rewritten : (p : Ptr) (b : List ℕ) (gs : List Page) → map (λ (g : Page). g.place) (map (rewritten p b) gs) ≡ map (λ (g : Page). g.place) gs
-places_rewritten p b [] = refl
-places_rewritten p b (g ∷ gs) = λ i. place_rewritten p b g i ∷ places_rewritten p b gs i
+pub stored_all : (p : Ptr) (k : ℕ) (b : List ℕ) (rs : List (List Page)) → standing p rs ≡ 0 → map (map (stored p k b)) rs ≡ rs
+stored_all p k b = leaves_all p (map (stored p k b)) (each_none p (stored p k b) (λ g e. ap (λ y. cond y (page g.place k b) g) e))
 
-pub stands_rewritten : (q p : Ptr) (b : List ℕ) (gs : List Page) → stands_in q (map (rewritten p b) gs) ≡ stands_in q gs
-unfolding stands_in
-stands_rewritten q p b gs = ap (times q) (places_rewritten p b gs)
+pub rewritten_place : (p : Ptr) (b : List ℕ) (g : Page) → (rewritten p b g).place ≡ g.place
+unfolding rewritten
+rewritten_place p b g = stored_place p g.block b g
 
-pub standing_rewritten : (q p : Ptr) (b : List ℕ) (rs : List (List Page)) → standing q (map (map (rewritten p b)) rs) ≡ standing q rs
-unfolding standing total
-standing_rewritten q p b [] = refl
-standing_rewritten q p b (r ∷ rs) = omega (arith, stands_rewritten q p b r, standing_rewritten q p b rs)
-
--- a place that does not stand is not rewritten
 rewritten_none : (p : Ptr) (b : List ℕ) (gs : List Page) → stands_in p gs ≡ 0 → map (rewritten p b) gs ≡ gs
-unfolding rewritten stands_in times
-rewritten_none p b [] e = refl
-rewritten_none p b (g ∷ gs) e = (elim (same_ptr g.place p) as (λ y. same_ptr g.place p ≡ y → cond y 1 0 + times p (map (λ (g : Page). g.place) gs) ≡ 0 → map (rewritten p b) (g ∷ gs) ≡ g ∷ gs) [
-  | true ↦ λ s z. absurd (omega (arith, z))
-  | false ↦ λ s z i. (ap (λ y. cond y (page g.place b) g) (same_ptr_symm p g.place ∙ s)) i ∷ rewritten_none p b gs (omega (arith, z)) i
-]) refl e
+unfolding rewritten
+rewritten_none p b = each_none p (rewritten p b) (λ g e. ap (λ y. cond y (page g.place g.block b) g) e)
 
-pub rewritten_all : (p : Ptr) (b : List ℕ) (rs : List (List Page)) → standing p rs ≡ 0 → map (map (rewritten p b)) rs ≡ rs
-unfolding standing total
-rewritten_all p b [] e = refl
-rewritten_all p b (r ∷ rs) e = λ i. rewritten_none p b r (omega (arith, e)) i ∷ rewritten_all p b rs (omega (arith, e)) i
+-- the page at p is the one at an index of the ring k
+replaced_here : (p : Ptr) (b : List ℕ) (g : Page) (xs ys : List Page) → g.place ≡ p → stands_in p xs ≡ 0 → stands_in p ys ≡ 0 → map (rewritten p b) (xs ++ g ∷ ys) ≡ replaced (xs ++ g ∷ ys) (length xs) b
+unfolding rewritten
+replaced_here p b g [] ys e a c = λ i. ap (λ y. cond y (page g.place g.block b) g) (ap (same_ptr p) e ∙ same_ptr_refl p) i ∷ rewritten_none p b ys c i
+replaced_here p b g (x ∷ xs) ys e a c =
+    let first = stands_cons p x xs in let alone = stands_cons p x [] in let none = stands_none p in
+    λ i. get_or (rewritten_none p b (x ∷ []) (omega (arith, a, first, alone, none)) i) 0 x ∷ replaced_here p b g xs ys e (omega (arith, a, first)) c i
+
+pub replaced_set : (p : Ptr) (b : List ℕ) (rs : List (List Page)) (k : ℕ) (g : Page) (xs ys : List Page) → k < length rs → get_or rs k [] ≡ xs ++ g ∷ ys → g.place ≡ p → standing p rs ≤ 1
+    → map (map (rewritten p b)) rs ≡ set rs k (replaced (get_or rs k []) (length xs) b)
+replaced_set p b rs k g xs ys w is e o =
+    let at = standing_at p rs k w in let s : one g.place p ≡ 1 = ap (λ q. one q p) e ∙ one_self p in let cut = ap (stands_in p) is in
+    let only = only_here p g xs ys e (omega (arith, o, at, cut)) in
+    changes_one p (map (rewritten p b)) (rewritten_none p b) rs k (replaced (get_or rs k []) (length xs) b) w
+    (ap (map (rewritten p b)) is ∙ replaced_here p b g xs ys e only.0 only.1 ∙ ap (λ l. replaced l (length xs) b) (sym is))
+    (omega (arith, cut, stands_append p xs (g ∷ ys), stands_cons p g ys, s)) o

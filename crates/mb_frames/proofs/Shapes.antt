@@ -4,9 +4,11 @@ use Rattle.std.specs.Prelude.{◌≢◌, IsTrue}
 use Rattle.std.specs.List.{AllByRecursion}
 use Rattle.std.proofs.lemmas.Bool.Decides.{eqb_tells}
 use denote.RawPtr.{Ptr}
-use Rattle.mb_frames.specs.Cells.{Cell, is_at, next_at, prev_at, head_at, bytes_at, places, Keeps, Links, Moves, Writes}
+use Rattle.mb_frames.specs.Cells.{Cell, is_at, next_at, prev_at, head_at, places, Keeps, Links, Moves, Stays}
 use Rattle.mb_frames.specs.Counts.{times, total}
 use Rattle.mb_frames.specs.Shape.{Round, Headed, Shaped}
+use Rattle.mb_frames.specs.Pages.{page}
+use Rattle.mb_frames.specs.Walks.{page_of}
 use Rattle.mb_frames.proofs.Cells.{is_kept}
 use Rattle.mb_frames.proofs.Sums.{total_at, total_set, total_two}
 use Rattle.mb_frames.proofs.Chains.{last, one_self, times_cons, times_append, times_last, Relinks}
@@ -41,8 +43,8 @@ keeps_all old new f l t m = record {
   heads = λ q. m.ends.keeps.heads q ∙ m.begins.keeps.heads q ∙ m.closes.keeps.heads q;
 }
 
-pub bytes_all : (old new : List Cell) (f l t : Ptr) → Moves old new f l t → (q : Ptr) → bytes_at new q ≡ bytes_at old q
-bytes_all old new f l t m q = m.ends.bytes q ∙ m.begins.bytes q ∙ m.closes.bytes q
+pub page_all : (old new : List Cell) (f l t : Ptr) → Moves old new f l t → (q : Ptr) → page_of new q ≡ page_of old q
+page_all old new f l t m q = λ i. page q ((m.ends.block q ∙ m.begins.block q ∙ m.closes.block q) i) ((m.ends.bytes q ∙ m.begins.bytes q ∙ m.closes.bytes q) i)
 
 module _ (rows : List (List Ptr)) (i j : ℕ) (differ : i ≢ j) (wi : i < length rows) (wj : j < length rows) where
   abbrev pub moved_rows : List Ptr → List Ptr → List (List Ptr)
@@ -174,9 +176,9 @@ module _ (rows : List (List Ptr)) (i j : ℕ) (differ : i ≢ j) (wi : i < lengt
             bounded = omega (arith, s.bounded, moved_total rows i j differ wi wj length rest grown sum_length, ap length K.places, places_length old, places_length new);
           }
 
--- a change of one page's bytes
-pub wrote : (old new : List Cell) (p : Ptr) (b : List ℕ) (rows : List (List Ptr)) → Writes old new p b → Shaped old rows → Shaped new rows
-wrote old new p b rows w s = record {
+-- a change of what pages hold
+pub stayed : (old new : List Cell) (rows : List (List Ptr)) → Stays old new → Shaped old rows → Shaped new rows
+stayed old new rows w s = record {
   rounds = λ k v. subst (λ (f : (Ptr → Ptr) × (Ptr → Ptr)). Round f.0 f.1 (get_or rows k [])) (λ i. ((λ q. sym (w.next q) i), (λ q. sym (w.prev q) i))) (s.rounds k v);
   headed = λ k v. headed_kept old new w.keeps.heads (get_or rows k []) (s.headed k v);
   apart = s.apart;

@@ -1,21 +1,27 @@
 -- One move of a run, or one write of bytes, as the rings' lists of pages see it.
-use Rattle.std.proofs.Common.{◌≡◌, ℕ, ◌<◌, ◌≤◌, true, false, cond, List, [], ◌∷◌, ◌++◌, length, get_or, set, map, refl, sym, ap, ◌∙◌, subst, arith}
+use Rattle.std.proofs.Common.{◌≡◌, ℕ, ◌<◌, ◌≤◌, List, [], ◌∷◌, ◌++◌, length, get_or, set, map, refl, sym, ap, ◌∙◌, subst, arith}
 use Rattle.std.proofs.lemmas.List.{get_or-map, length-map}
 use Rattle.std.specs.Prelude.{◌≢◌, IsTrue}
 use denote.RawPtr.{Ptr, null_ptr}
-use Rattle.mb_frames.specs.Pointers.{same_ptr}
 use Rattle.mb_frames.specs.Counts.{total, times}
-use Rattle.mb_frames.specs.Cells.{Cell, is_at, next_at, prev_at, bytes_at, places, Moves, Writes}
+use Rattle.mb_frames.specs.Cells.{Cell, is_at, next_at, prev_at, places, Moves, Stays}
 use Rattle.mb_frames.specs.Shape.{Linked, Round, Shaped}
-use Rattle.mb_frames.specs.Pages.{Page, page, standing, rewritten}
+use Rattle.mb_frames.specs.Pages.{Page, standing}
 use Rattle.mb_frames.specs.Walks.{page_of, pages_at, row_at}
 use Rattle.mb_frames.proofs.Chains.{last, one_self, times_cons}
-use Rattle.mb_frames.proofs.Shapes.{in_row, wrote, ends_at, sides_at}
+use Rattle.mb_frames.proofs.Shapes.{in_row, stayed, ends_at, sides_at}
 use Rattle.mb_frames.proofs.Views.{rest_of, pages_of, seen, firsts, moved_shaped, moved_pages, moved_places}
 use Rattle.mb_frames.proofs.Pages.{stands_pages}
 
 abbrev pub spots : List Page → List Ptr
 spots = map (λ g. g.place)
+
+-- p is the place of the page at that index of the ring
+pub record Indexed (c : List Cell) (h : Ptr) (index : ℕ) (p : Ptr) : Type 0 where
+  pub before : List Ptr
+  pub after : List Ptr
+  pub cut : spots (pages_at c h) ≡ before ++ p ∷ after
+  pub count : index ≡ length before
 
 rest_times : (q : Ptr) (row : List Ptr) → times q (rest_of row) ≤ times q row
 rest_times q [] = omega arith
@@ -112,24 +118,18 @@ module _ (c : List Cell) (H : List Ptr) (S : Shaped c (map (row_at c) H)) where
       pub step_places : places c' ≡ places c
       step_places = moved_places H rows (firsts c H) i j differ (within_rows i wi h eh) (within_rows j wj t et) h xs u us ys t ts ei (row_is j wj t et) c S c' m
 
-  module _ (c' : List Cell) (p : Ptr) (b : List ℕ) (W : Writes c c' p b) where
-    wrote_rows : map (row_at c') H ≡ map (row_at c) H
-    wrote_rows = ap (map (row_at c')) (sym (firsts c H)) ∙ (seen c' (map (row_at c) H) (wrote c c' p b (map (row_at c) H) W S)).1
+  -- the links stay, and what the pages hold changes
+  module _ (c' : List Cell) (w : Stays c c') where
+    stayed_rows : map (row_at c') H ≡ map (row_at c) H
+    stayed_rows = ap (map (row_at c')) (sym (firsts c H)) ∙ (seen c' (map (row_at c) H) (stayed c c' (map (row_at c) H) w S)).1
 
-    pub write_shaped : Shaped c' (map (row_at c') H)
-    write_shaped = subst (Shaped c') (sym wrote_rows) (wrote c c' p b (map (row_at c) H) W S)
+    pub stays_shaped : Shaped c' (map (row_at c') H)
+    stays_shaped = subst (Shaped c') (sym stayed_rows) (stayed c c' (map (row_at c) H) w S)
 
-    page_written : (q : Ptr) → page_of c' q ≡ rewritten p b (page_of c q)
-    unfolding rewritten
-    page_written q = ap (page q) (W.bytes q) ∙ (elim (same_ptr p q) as (λ y. page q (cond y b (bytes_at c q)) ≡ cond y (page q b) (page_of c q)) [
-      | true ↦ refl
-      | false ↦ refl
-    ])
-
-    pub write_lists : map (pages_at c') H ≡ map (map (rewritten p b)) lists
-    write_lists =
-        ap (map (pages_at c')) (sym (firsts c H)) ∙ (seen c' (map (row_at c) H) (wrote c c' p b (map (row_at c) H) W S)).0
-        ∙ (λ k. map (λ row. map (λ q. page_written q k) (rest_of row)) (map (row_at c) H)) ∙ map_pages (rewritten p b) c (map (row_at c) H) ∙ ap (map (map (rewritten p b))) (sym lists_are)
+    pub stays_lists : (f : Page → Page) → ((q : Ptr) → page_of c' q ≡ f (page_of c q)) → map (pages_at c') H ≡ map (map f) lists
+    stays_lists f e =
+        ap (map (pages_at c')) (sym (firsts c H)) ∙ (seen c' (map (row_at c) H) (stayed c c' (map (row_at c) H) w S)).0
+        ∙ (λ k. map (λ row. map (λ q. e q k) (rest_of row)) (map (row_at c) H)) ∙ map_pages f c (map (row_at c) H) ∙ ap (map (map f)) (sym lists_are)
 
   -- the lists hold what the cells say
   pub told_are : lists ≡ map (map (page_of c)) (map rest_of (map (row_at c) H))

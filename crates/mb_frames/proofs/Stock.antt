@@ -7,9 +7,9 @@ use Rattle.std.proofs.lemmas.Bool.{true≢false}
 use Rattle.std.proofs.lemmas.Bool.Decides.{leb_tells}
 use denote.RawPtr.{Ptr, null_ptr}
 use Rattle.mb_frames.specs.Counts.{total, times}
-use Rattle.mb_frames.specs.Cells.{Cell, is_at, prev_at, head_at, bytes_at, places, Adds}
+use Rattle.mb_frames.specs.Cells.{Cell, is_at, prev_at, head_at, places, Adds}
 use Rattle.mb_frames.specs.Shape.{Headed, first_of, Shaped}
-use Rattle.mb_frames.specs.Pages.{Page, page}
+use Rattle.mb_frames.specs.Pages.{Page}
 use Rattle.mb_frames.specs.Walks.{page_of, pages_at, row_at, Sound, IsRing, Walked, first_or_head}
 use Rattle.mb_frames.specs.declared.node.NodePtr.{NodePtr}
 use Rattle.mb_frames.proofs.Chains.{last, one_self, times_cons, times_append, times_last}
@@ -17,17 +17,17 @@ use Rattle.mb_frames.proofs.Shapes.{all_cut, in_row}
 use Rattle.mb_frames.proofs.Sums.{total_at}
 use Rattle.mb_frames.proofs.Views.{pages_of, map_places, pages_row, seen, firsts}
 use Rattle.mb_frames.proofs.Moves.{tail_of, first_or, spare_there}
-use Rattle.mb_frames.proofs.Added.{added, added_places, added_bytes}
-use Rattle.mb_frames.proofs.Steps.{spots, row_is, round_is, within_rows, last_is}
+use Rattle.mb_frames.proofs.Added.{added, added_places, added_page}
+use Rattle.mb_frames.proofs.Steps.{spots, Indexed, row_is, round_is, within_rows, last_is}
 
 times_here : (p : Ptr) (ps : List Ptr) → 1 ≤ times p (p ∷ ps)
 times_here p ps = omega (arith, times_cons p p ps, one_self p)
 
-pages_same : (old new : List Cell) (ps : List Ptr) → ((q : Ptr) → 0 < times q ps → bytes_at new q ≡ bytes_at old q) → map (page_of new) ps ≡ map (page_of old) ps
+pages_same : (old new : List Cell) (ps : List Ptr) → ((q : Ptr) → 0 < times q ps → page_of new q ≡ page_of old q) → map (page_of new) ps ≡ map (page_of old) ps
 pages_same old new [] f = refl
-pages_same old new (p ∷ ps) f = λ i. page p (f p (omega (arith, times_here p ps)) i) ∷ pages_same old new ps (λ q w. f q (omega (arith, w, times_cons q p ps))) i
+pages_same old new (p ∷ ps) f = λ i. f p (omega (arith, times_here p ps)) i ∷ pages_same old new ps (λ q w. f q (omega (arith, w, times_cons q p ps))) i
 
-rows_same : (old new : List Cell) (rows : List (List Ptr)) → ((q : Ptr) → 0 < total (times q) rows → bytes_at new q ≡ bytes_at old q) → map (pages_of new) rows ≡ map (pages_of old) rows
+rows_same : (old new : List Cell) (rows : List (List Ptr)) → ((q : Ptr) → 0 < total (times q) rows → page_of new q ≡ page_of old q) → map (pages_of new) rows ≡ map (pages_of old) rows
 unfolding total
 rows_same old new [] f = refl
 rows_same old new ([] ∷ rs) f = λ i. [] ∷ rows_same old new rs (λ q w. f q (omega (arith, w))) i
@@ -78,11 +78,11 @@ module _ (c : List Cell) (s : Ptr) (hs : List Ptr) (S : Shaped c (map (row_at c)
     all_pages : map (pages_at new) (s ∷ hs) ≡ map (page_of new) (ts ++ p ∷ []) ∷ map (pages_of new) (map (row_at c) hs)
     all_pages = ap (map (pages_at new)) (sym firsts_are) ∙ (seen new grown A).0
 
-    same_bytes : (q : Ptr) → 0 < total (times q) (map (row_at c) hs) → bytes_at new q ≡ bytes_at c q
-    same_bytes q w = added_bytes c new p s ts (map (row_at c) hs) S B q (S.here q (omega (arith, w, total_cons q (row_at c s) (map (row_at c) hs))))
+    same_page : (q : Ptr) → 0 < total (times q) (map (row_at c) hs) → page_of new q ≡ page_of c q
+    same_page q w = added_page c new p s ts (map (row_at c) hs) S B q (S.here q (omega (arith, w, total_cons q (row_at c s) (map (row_at c) hs))))
 
     pub stocked_rings : map (pages_at new) hs ≡ map (pages_at c) hs
-    stocked_rings = ap tail_of all_pages ∙ rows_same c new (map (row_at c) hs) same_bytes ∙ sym (ap tail_of (ap (map (pages_at c)) (sym (firsts c (s ∷ hs))) ∙ (seen c (map (row_at c) (s ∷ hs)) S).0))
+    stocked_rings = ap tail_of all_pages ∙ rows_same c new (map (row_at c) hs) same_page ∙ sym (ap tail_of (ap (map (pages_at c)) (sym (firsts c (s ∷ hs))) ∙ (seen c (map (row_at c) (s ∷ hs)) S).0))
 
     pub stocked_spare : length (pages_at new s) ≡ length (pages_at c s) + 1
     stocked_spare = omega (arith, ap (λ l. length (first_or l)) all_pages, length-map (ts ++ p ∷ []) (page_of new), length-append ts (p ∷ []), length-map (pages_at c s) (λ (g : Page). g.place))
@@ -105,9 +105,15 @@ get_mid : {X Y : Type 0} (f : X → Y) (xs : List X) (y : X) (ys : List X) → s
 get_mid f [] y ys = refl
 get_mid f (x ∷ xs) y ys = get_mid f xs y ys
 
-bytes_list : (c : List Cell) (ps : List Ptr) → map (λ (g : Page). g.bytes) (map (page_of c) ps) ≡ map (bytes_at c) ps
-bytes_list c [] = refl
-bytes_list c (p ∷ ps) = ap (λ l. bytes_at c p ∷ l) (bytes_list c ps)
+read_list : {X : Type 0} (f : Page → X) (c : List Cell) (ps : List Ptr) → map f (map (page_of c) ps) ≡ map (λ p. f (page_of c p)) ps
+read_list f c [] = refl
+read_list f c (p ∷ ps) = ap (λ l. f (page_of c p) ∷ l) (read_list f c ps)
+
+-- what is read of that page
+pub indexed_read : {X : Type 0} (f : Page → X) (c : List Cell) (h : Ptr) (index : ℕ) (p : Ptr) → Indexed c h index p → pages_at c h ≡ map (page_of c) (spots (pages_at c h)) → slice_get (map f (pages_at c h)) index ≡ Some (f (page_of c p))
+indexed_read f c h index p x t =
+    ap (λ l. slice_get l index) (ap (map f) (t ∙ ap (map (page_of c)) x.cut) ∙ read_list f c (x.before ++ p ∷ x.after))
+    ∙ ap (slice_get (map (λ q. f (page_of c q)) (x.before ++ p ∷ x.after))) x.count ∙ get_mid (λ q. f (page_of c q)) x.before p x.after
 
 module _ (c : List Cell) (h : Ptr) (most : ℕ) (p : Ptr) (n : ℕ) (w : Walked c h most p n) (hd : Headed c (row_at c h)) where
   past_by : (ps : List Ptr) → w.after ≡ ps → head_at c p ≡ true → ps ≡ []
@@ -121,19 +127,22 @@ module _ (c : List Cell) (h : Ptr) (most : ℕ) (p : Ptr) (n : ℕ) (w : Walked 
       let none : length w.after ≡ 0 = ap length (past_by w.after refl f) in
       omega (arith, none, w.count, w.within, sym (length-map (pages_at c h) (λ (g : Page). g.place)) ∙ ap length w.cut ∙ length-append w.before w.after)
 
-  found_by : (ps : List Ptr) → w.after ≡ ps → head_at c p ≡ false → pages_at c h ≡ map (page_of c) (spots (pages_at c h)) → slice_get (map (λ (g : Page). g.bytes) (pages_at c h)) most ≡ Some (bytes_at c p)
-  found_by [] e f t = absurd (true≢false (sym (ap (head_at c) (w.there ∙ ap (λ l. first_or_head l h) e) ∙ hd.0) ∙ f))
-  found_by (y ∷ ys) e f t =
+  indexed_by : (ps : List Ptr) → w.after ≡ ps → head_at c p ≡ false → Indexed c h most p
+  indexed_by [] e f = absurd (true≢false (sym (ap (head_at c) (w.there ∙ ap (λ l. first_or_head l h) e) ∙ hd.0) ∙ f))
+  indexed_by (y ∷ ys) e f =
       let at : p ≡ y = w.there ∙ ap (λ l. first_or_head l h) e in
-      let n_is : most ≡ length w.before = (elim (leb_tells most n) as (λ _. most ≡ length w.before) [
-        | inl z ↦ omega (arith, w.count, w.within, z.1)
-        | inr z ↦ let none : length w.after ≡ 0 = ap length (w.stop (omega (arith, z.1))) in let some : length w.after ≡ length (y ∷ ys) = ap length e in absurd (omega (arith, none, some))
-      ]) in
-      ap (λ l. slice_get l most) (ap (map (λ (g : Page). g.bytes)) (t ∙ ap (map (page_of c)) (w.cut ∙ ap (λ l. w.before ++ l) e)) ∙ bytes_list c (w.before ++ y ∷ ys))
-      ∙ ap (slice_get (map (bytes_at c) (w.before ++ y ∷ ys))) n_is ∙ get_mid (bytes_at c) w.before y ys ∙ ap (λ q. Some (bytes_at c q)) (sym at)
+      record {
+        before = w.before;
+        after = ys;
+        cut = w.cut ∙ ap (λ l. w.before ++ l) e ∙ ap (λ q. w.before ++ q ∷ ys) (sym at);
+        count = (elim (leb_tells most n) as (λ _. most ≡ length w.before) [
+          | inl z ↦ omega (arith, w.count, w.within, z.1)
+          | inr z ↦ let none : length w.after ≡ 0 = ap length (w.stop (omega (arith, z.1))) in let some : length w.after ≡ length (y ∷ ys) = ap length e in absurd (omega (arith, none, some))
+        ]);
+      }
 
-  pub walked_found : head_at c p ≡ false → pages_at c h ≡ map (page_of c) (spots (pages_at c h)) → slice_get (map (λ (g : Page). g.bytes) (pages_at c h)) most ≡ Some (bytes_at c p)
-  walked_found f t = found_by w.after refl f t
+  pub walked_index : head_at c p ≡ false → Indexed c h most p
+  walked_index f = indexed_by w.after refl f
 
   there_by : IsRing c h → (ps : List Ptr) → w.after ≡ ps → IsTrue (is_at p c)
   there_by r [] e = subst (λ q. IsTrue (is_at q c)) (sym (w.there ∙ ap (λ l. first_or_head l h) e)) (r.here h (omega (arith, times_here h r.pages)))

@@ -7,11 +7,11 @@ use Rattle.std.specs.List.{AllByRecursion}
 use denote.RawPtr.{Ptr}
 use Rattle.mb_frames.specs.Cells.{Cell, next_at, prev_at, head_at, places, Moves}
 use Rattle.mb_frames.specs.Shape.{Linked, Round, Headed, first_of, Shaped}
-use Rattle.mb_frames.specs.Pages.{Page, page}
+use Rattle.mb_frames.specs.Pages.{Page}
 use Rattle.mb_frames.specs.Walks.{page_of, follow, pages_at, row_at}
 use Rattle.mb_frames.proofs.Sums.{total_at}
 use Rattle.mb_frames.proofs.Chains.{last}
-use Rattle.mb_frames.proofs.Shapes.{moved_rows, moved, keeps_all, bytes_all}
+use Rattle.mb_frames.proofs.Shapes.{moved_rows, moved, keeps_all, page_all}
 
 abbrev pub rest_of : List Ptr → List Ptr
 rest_of [] = []
@@ -24,12 +24,12 @@ pub map_places : (cs : List Cell) (ps : List Ptr) → map (λ (g : Page). g.plac
 map_places cs [] = refl
 map_places cs (p ∷ ps) = ap (λ l. p ∷ l) (map_places cs ps)
 
-follow_end : (n : ℕ) (cs : List Cell) (z : Ptr) → head_at cs z ≡ true → follow n cs z ≡ []
+pub follow_end : (n : ℕ) (cs : List Cell) (z : Ptr) → head_at cs z ≡ true → follow n cs z ≡ []
 unfolding follow
 follow_end zero cs z e = refl
 follow_end (suc n) cs z e = ap (λ y. cond y [] (page_of cs z ∷ follow n cs (next_at cs z))) e
 
-follow_chain : (n : ℕ) (cs : List Cell) (a : Ptr) (ps : List Ptr) (z : Ptr) → Linked (next_at cs) (prev_at cs) a (ps ++ z ∷ []) → head_at cs z ≡ true → AllByRecursion (λ p. head_at cs p ≡ false) ps → length ps ≤ n
+pub follow_chain : (n : ℕ) (cs : List Cell) (a : Ptr) (ps : List Ptr) (z : Ptr) → Linked (next_at cs) (prev_at cs) a (ps ++ z ∷ []) → head_at cs z ≡ true → AllByRecursion (λ p. head_at cs p ≡ false) ps → length ps ≤ n
     → follow n cs (next_at cs a) ≡ map (page_of cs) ps
 unfolding follow
 follow_chain n cs a [] z l e f w = ap (follow n cs) l.0 ∙ follow_end n cs z e
@@ -79,14 +79,11 @@ module _ (hs : List Ptr) (rows : List (List Ptr)) (f : map first_of rows ≡ hs)
   pub moved_shaped : Shaped new (map (row_at new) hs)
   moved_shaped = subst (Shaped new) (sym (ap (map (row_at new)) (sym new_firsts) ∙ (seen new R new_shaped).1)) new_shaped
 
-  same_page : (p : Ptr) → page_of new p ≡ page_of old p
-  same_page p = ap (page p) (bytes_all old new u (last u us) t m p)
-
   -- the pages of all rings
   pub moved_pages : map (pages_at new) hs ≡ set (set (map (pages_at old) hs) i (map (page_of old) (xs ++ ys))) j (map (page_of old) (ts ++ u ∷ us))
   moved_pages =
       let A : List Ptr = h ∷ (xs ++ ys) in let B : List Ptr = t ∷ (ts ++ u ∷ us) in
-      ap (map (pages_at new)) (sym new_firsts) ∙ (seen new R new_shaped).0 ∙ (λ k. map (λ row. map (λ p. same_page p k) (rest_of row)) R)
+      ap (map (pages_at new)) (sym new_firsts) ∙ (seen new R new_shaped).0 ∙ (λ k. map (λ row. map (λ p. page_all old new u (last u us) t m p k) (rest_of row)) R)
       ∙ map-set (pages_of old) (set rows i A) j B ∙ ap (λ l. set l j (pages_of old B)) (map-set (pages_of old) rows i A)
       ∙ ap (λ l. set (set l i (pages_of old A)) j (pages_of old B)) (sym (seen old rows s).0 ∙ ap (map (pages_at old)) f)
 

@@ -23,7 +23,7 @@ pub record Walking (cs : List Cell) (h : Ptr) (most : ℕ) (p : Ptr) (n : ℕ) :
   pub there : p ≡ first_or_head after h
   pub within : n ≤ most
 
-first_link : (cs : List Cell) (h : Ptr) (ps : List Ptr) → Round (next_at cs) (prev_at cs) (h ∷ ps) → next_at cs h ≡ first_or_head ps h
+pub first_link : (cs : List Cell) (h : Ptr) (ps : List Ptr) → Round (next_at cs) (prev_at cs) (h ∷ ps) → next_at cs h ≡ first_or_head ps h
 first_link cs h [] r = r.0
 first_link cs h (p ∷ ps) r = r.0
 

@@ -54,6 +54,9 @@ prev_at cs p = read (λ n. n.prev.ptr) p cs p
 abbrev pub head_at : List Cell → Ptr → Bool
 head_at cs p = read (λ n. n.is_head) true cs p
 
+abbrev pub block_at : List Cell → Ptr → ℕ
+block_at cs p = read (λ n. n.block) 0 cs p
+
 abbrev pub bytes_at : List Cell → Ptr → List ℕ
 bytes_at cs p = read (λ n. n.bytes) [] cs p
 
@@ -65,6 +68,7 @@ pub record Keeps (old new : List Cell) : Type 0 where
 -- a's link forward was set to b, and b's link back to a
 pub record Links (old new : List Cell) (a b : Ptr) : Type 0 where
   pub keeps : Keeps old new
+  pub block : (q : Ptr) → block_at new q ≡ block_at old q
   pub bytes : (q : Ptr) → bytes_at new q ≡ bytes_at old q
   pub next : (q : Ptr) → next_at new q ≡ cond (same_ptr a q) b (next_at old q)
   pub prev : (q : Ptr) → prev_at new q ≡ cond (same_ptr b q) a (prev_at old q)
@@ -77,12 +81,23 @@ pub record Moves (old new : List Cell) (first last target : Ptr) : Type 0 where
   pub begins : Links one two (prev_at old target) first
   pub ends : Links two new last target
 
--- the node at p holds other bytes
-pub record Writes (old new : List Cell) (p : Ptr) (content : List ℕ) : Type 0 where
+-- what a change of what pages hold leaves
+pub record Stays (old new : List Cell) : Type 0 where
   pub keeps : Keeps old new
-  pub bytes : (q : Ptr) → bytes_at new q ≡ cond (same_ptr p q) content (bytes_at old q)
   pub next : (q : Ptr) → next_at new q ≡ next_at old q
   pub prev : (q : Ptr) → prev_at new q ≡ prev_at old q
+
+-- the node at p holds these bytes, as a page of that block
+pub record Writes (old new : List Cell) (p : Ptr) (number : ℕ) (content : List ℕ) : Type 0 where
+  pub stays : Stays old new
+  pub block : (q : Ptr) → block_at new q ≡ cond (same_ptr p q) number (block_at old q)
+  pub bytes : (q : Ptr) → bytes_at new q ≡ cond (same_ptr p q) content (bytes_at old q)
+
+-- the nodes at these places hold other bytes
+pub record Fills (old new : List Cell) (ps : List Ptr) (content : List ℕ) : Type 0 where
+  pub stays : Stays old new
+  pub block : (q : Ptr) → block_at new q ≡ block_at old q
+  pub bytes : (q : Ptr) → bytes_at new q ≡ cond (has q ps) content (bytes_at old q)
 
 -- a node came in at p, which was no node's place
 pub record Adopts (old new : List Cell) (p : Ptr) (is_head : Bool) : Type 0 where

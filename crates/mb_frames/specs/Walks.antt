@@ -2,12 +2,12 @@
 use Rattle.std.specs.Prelude.{◌≡◌, ℕ, zero, suc, ◌<◌, ◌≤◌, cond, List, [], ◌∷◌, ◌++◌, length, map, reverse, IsTrue}
 use denote.RawPtr.{Ptr}
 use Rattle.mb_frames.specs.Counts.{times}
-use Rattle.mb_frames.specs.Cells.{Cell, is_at, next_at, prev_at, head_at, bytes_at, places}
+use Rattle.mb_frames.specs.Cells.{Cell, is_at, next_at, prev_at, head_at, block_at, bytes_at, places}
 use Rattle.mb_frames.specs.Pages.{Page, page, Shelf}
 use Rattle.mb_frames.specs.Shape.{Round, Headed, Shaped}
 
 abbrev pub page_of : List Cell → Ptr → Page
-page_of cs p = page p (bytes_at cs p)
+page_of cs p = page p (block_at cs p) (bytes_at cs p)
 
 -- the pages from p on, up to a head
 unfoldable pub follow : ℕ → List Cell → Ptr → List Page

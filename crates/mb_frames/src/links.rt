@@ -1,7 +1,7 @@
 //! Changes of links, counted.
-ghost use Rattle.std.specs.Prelude.{◌≡◌, ◌+◌, ◌-◌, ◌^◌, [], min, IsTrue};
-ghost use Rattle.mb_frames.specs.Cells.{is_at, next_at, prev_at, head_at, bytes_at, Links as LinksBy, Moves, Writes, Adds, AddsHead};
-ghost use Rattle.mb_frames.specs.Walks.{IsRing, Walked};
+ghost use Rattle.std.specs.Prelude.{◌≡◌, ◌+◌, ◌-◌, ◌^◌, [], map, min, IsTrue};
+ghost use Rattle.mb_frames.specs.Cells.{is_at, next_at, prev_at, head_at, block_at, bytes_at, Links as LinksBy, Moves, Writes, Fills, Adds, AddsHead};
+ghost use Rattle.mb_frames.specs.Walks.{pages_at, IsRing, Walked};
 
 use crate::node::{Node, NodePtr};
 use crate::nodes::Nodes;
@@ -47,6 +47,14 @@ impl Links {
         self.nodes.node(at).is_head
     }
 
+    #[tactic(auto, using(crate::proofs::Cells::block_read))]
+    pub(crate) fn block(&self, at: NodePtr) -> u32
+        requires { IsTrue (is_at at.ptr self.now.nodes.cells) }
+        ensures { result ≡ block_at self.now.nodes.cells at.ptr }
+    {
+        self.nodes.node(at).block
+    }
+
     #[tactic(auto, using(crate::proofs::Cells::bytes_read))]
     pub(crate) fn bytes(&self, at: NodePtr) -> &[u8; 512]
         requires { IsTrue (is_at at.ptr self.now.nodes.cells) }
@@ -72,10 +80,34 @@ impl Links {
 
     pub(crate) fn write(&mut self, at: NodePtr, bytes: &[u8; 512])
         requires { IsTrue (is_at at.ptr self.old.nodes.cells) }
-        ensures cells { Writes self.old.nodes.cells self.new.nodes.cells at.ptr bytes.now }
+        ensures cells { Writes self.old.nodes.cells self.new.nodes.cells at.ptr (block_at self.old.nodes.cells at.ptr) bytes.now }
         ensures writes { self.new.writes ≡ self.old.writes }
     {
         self.nodes.node_mut(at).bytes = *bytes;
+    }
+
+    /// Makes a page one of that block.
+    pub(crate) fn store(&mut self, at: NodePtr, block: u32, bytes: &[u8; 512])
+        requires { IsTrue (is_at at.ptr self.old.nodes.cells) }
+        ensures cells { Writes self.old.nodes.cells self.new.nodes.cells at.ptr block bytes.now }
+        ensures writes { self.new.writes ≡ self.old.writes }
+    {
+        let node = self.nodes.node_mut(at);
+        node.block = block;
+        node.bytes = *bytes;
+    }
+
+    /// Writes the bytes into each page of the ring.
+    pub(crate) fn fill(&mut self, head: NodePtr, bytes: &[u8; 512])
+        requires { IsRing self.old.nodes.cells head.ptr }
+        ensures cells { Fills self.old.nodes.cells self.new.nodes.cells (map (λ g. g.place) (pages_at self.old.nodes.cells head.ptr)) bytes.now }
+        ensures writes { self.new.writes ≡ self.old.writes }
+    {
+        let mut at = self.next(head);
+        'pages: while !self.is_head(at) {
+            self.write(at, bytes);
+            at = self.next(at);
+        }
     }
 
     /// Two link writes: `b` comes after `a`, and `a` before `b`.

@@ -5,12 +5,13 @@ ghost use denote.RawPtr.{null_ptr};
 use std::marker::Send;
 use std::ptr;
 
-/// A page, or the head of a ring, which holds no bytes of a caller.
+/// A page, with the number of its block, or the head of a ring, which holds no bytes of a caller.
 #[derive(Drop)]
 pub(crate) struct Node {
     pub(crate) next: NodePtr,
     pub(crate) prev: NodePtr,
     pub(crate) is_head: bool,
+    pub(crate) block: u32,
     pub(crate) bytes: [u8; 512],
 }
 
@@ -29,6 +30,7 @@ impl Node {
             next: NodePtr::nowhere(),
             prev: NodePtr::nowhere(),
             is_head: false,
+            block: 0,
             bytes: [0; 512],
         }
     }

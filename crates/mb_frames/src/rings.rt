@@ -1,7 +1,7 @@
 //! Rings of pages, linked by raw pointers.
-ghost use Rattle.std.specs.Prelude.{◌≡◌, ◌≢◌, ◌+◌, ◌-◌, ◌*◌, ◌<◌, ◌≤◌, [], ◌∷◌, ◌++◌, map, length, max, min, replicate, IfOk, OnOk, OnErr, MatchOption, Some, slice_get};
+ghost use Rattle.std.specs.Prelude.{◌≡◌, ◌≢◌, ◌+◌, ◌-◌, ◌*◌, ◌<◌, ◌≤◌, [], ◌∷◌, ◌++◌, map, length, max, min, replicate, IfOk, IsOk, OnOk, OnErr, IfSome, IfNone, MatchOption, Some, slice_get};
 ghost use denote.RawPtr.{Ptr};
-ghost use Rattle.mb_frames.specs.Pages.{page, ring_at, with_ring, standing, stands_in, Stands, bytes_of, without, rewritten, SameAt};
+ghost use Rattle.mb_frames.specs.Pages.{page, ring_at, contents, with_ring, standing, stands_in, Stands, block_of, bytes_of, without, rewritten, filled, replaced, NamedAt, SameAt};
 
 use crate::boxes::boxes;
 use crate::links::Links;
@@ -86,15 +86,19 @@ impl Rings {
     }
 
     /// Gives at least so many spare pages, in at most four link writes for each that it adds. It is refused where memory
-    /// for them is wanting.
+    /// for them is wanting, and never where there are so many.
     pub fn reserve(&mut self, pages: u32) -> Result<(), NoMemory>
         ensures rings { self.new.rings ≡ self.old.rings }
         ensures spare { OnOk result (self.new.spare ≡ max self.old.spare pages) }
         ensures refused { OnErr result (self.new ≡ self.old) }
+        ensures sure { pages ≤ self.old.spare → IsOk result }
         ensures writes { (self.old.writes ≤ self.new.writes) × (self.new.writes ≤ self.old.writes + 4 * (self.new.spare - self.old.spare)) }
     {
         let have = self.spare(pages);
         let missing = (pages - have) as usize;
+        if missing == 0 {
+            return Ok(());
+        }
         let mut nodes = boxes(self.alloc, missing)?;
         self.all.reserve(missing)?;
         'pages: while let Some(node) = nodes.pop() {
@@ -123,20 +127,46 @@ impl Rings {
         Some(self.links.bytes(at))
     }
 
-    /// Appends a page to the ring, in a spare page, in at most eight link writes.
-    pub fn put(&mut self, ring: u32, bytes: &[u8; 512]) -> Token
+    /// The block and the bytes of the first page of the ring; `None` exactly where it has none.
+    pub fn first(&self, ring: u32) -> Option<(u32, &[u8; 512])>
+        requires { ring < length self.now.rings }
+        ensures some { IfSome result (λ page. slice_get (contents (ring_at self.now.rings ring)) 0 ≡ Some (page.0, page.1.now)) }
+        ensures none { IfNone result (ring_at self.now.rings ring ≡ []) }
+    {
+        let at = self.links.next(self.heads[ring as usize]);
+        if self.links.is_head(at) {
+            return None;
+        }
+        Some((self.links.block(at), self.links.bytes(at)))
+    }
+
+    /// The block and the bytes of the last page of the ring; `None` exactly where it has none.
+    pub fn last(&self, ring: u32) -> Option<(u32, &[u8; 512])>
+        requires { ring < length self.now.rings }
+        ensures some { IfSome result (λ page. slice_get (contents (ring_at self.now.rings ring)) (length (ring_at self.now.rings ring) - 1) ≡ Some (page.0, page.1.now)) }
+        ensures none { IfNone result (ring_at self.now.rings ring ≡ []) }
+    {
+        let at = self.links.prev(self.heads[ring as usize]);
+        if self.links.is_head(at) {
+            return None;
+        }
+        Some((self.links.block(at), self.links.bytes(at)))
+    }
+
+    /// Appends a page of that block to the ring, in a spare page, in at most eight link writes.
+    pub fn put(&mut self, ring: u32, block: u32, bytes: &[u8; 512]) -> Token
         requires ring { ring < length self.old.rings }
         requires spare { 0 < self.old.spare }
-        ensures rings { self.new.rings ≡ with_ring self.old.rings ring (ring_at self.old.rings ring ++ page result bytes.now ∷ []) }
+        ensures rings { self.new.rings ≡ with_ring self.old.rings ring (ring_at self.old.rings ring ++ page result block bytes.now ∷ []) }
         ensures spare { self.new.spare + 1 ≡ self.old.spare }
         ensures fresh { standing result self.old.rings ≡ 0 }
-        ensures token { Stands self.new.rings result × (bytes_of result self.new.rings ≡ bytes.now) }
+        ensures token { Stands self.new.rings result × (block_of result self.new.rings ≡ block) × (bytes_of result self.new.rings ≡ bytes.now) }
         ensures others { (p : Ptr) → p ≢ result → SameAt self.old.rings self.new.rings p }
         ensures writes { (self.old.writes ≤ self.new.writes) × (self.new.writes ≤ self.old.writes + 8) }
     {
         let head = self.heads[ring as usize];
         let first = self.links.next(self.spare);
-        self.links.write(first, bytes);
+        self.links.store(first, block, bytes);
         self.links.move_run(first, first, head);
         Token { at: first }
     }
@@ -189,6 +219,14 @@ impl Rings {
         self.links.move_run(first, last, self.spare);
     }
 
+    /// The block of the token's page.
+    pub fn block(&self, token: &Token) -> u32
+        requires { Stands self.now.rings token.now }
+        ensures { result ≡ block_of token.now self.now.rings }
+    {
+        self.links.block(token.at)
+    }
+
     /// The bytes of the token's page.
     pub fn get(&self, token: &Token) -> &[u8; 512]
         requires { Stands self.now.rings token.now }
@@ -202,9 +240,36 @@ impl Rings {
         requires { Stands self.old.rings token.now }
         ensures rings { self.new.rings ≡ map (map (rewritten token.now bytes.now)) self.old.rings }
         ensures token { Stands self.new.rings token.now × (bytes_of token.now self.new.rings ≡ bytes.now) }
+        ensures named { (p : Ptr) → NamedAt self.old.rings self.new.rings p }
         ensures others { (p : Ptr) → p ≢ token.now → SameAt self.old.rings self.new.rings p }
         ensures same { (self.new.spare ≡ self.old.spare) × (self.new.writes ≡ self.old.writes) }
     {
         self.links.write(token.at, bytes);
+    }
+
+    /// Sets every byte of every page of the ring. No link is written.
+    pub fn fill(&mut self, ring: u32, byte: u8)
+        requires { ring < length self.old.rings }
+        ensures rings { self.new.rings ≡ with_ring self.old.rings ring (map (filled byte) (ring_at self.old.rings ring)) }
+        ensures named { (p : Ptr) → NamedAt self.old.rings self.new.rings p }
+        ensures others { (p : Ptr) → stands_in p (ring_at self.old.rings ring) ≡ 0 → SameAt self.old.rings self.new.rings p }
+        ensures same { (self.new.spare ≡ self.old.spare) × (self.new.writes ≡ self.old.writes) }
+    {
+        let bytes = [byte; 512];
+        self.links.fill(self.heads[ring as usize], &bytes);
+    }
+
+    /// Replaces the bytes of the page at `index` of the ring, if it has so many. No link is written.
+    pub fn replace(&mut self, ring: u32, index: u32, bytes: &[u8; 512])
+        requires { ring < length self.old.rings }
+        ensures rings { self.new.rings ≡ with_ring self.old.rings ring (replaced (ring_at self.old.rings ring) index bytes.now) }
+        ensures named { (p : Ptr) → NamedAt self.old.rings self.new.rings p }
+        ensures others { (p : Ptr) → stands_in p (ring_at self.old.rings ring) ≡ 0 → SameAt self.old.rings self.new.rings p }
+        ensures same { (self.new.spare ≡ self.old.spare) × (self.new.writes ≡ self.old.writes) }
+    {
+        let (at, _steps) = self.links.walk(self.heads[ring as usize], index);
+        if !self.links.is_head(at) {
+            self.links.write(at, bytes);
+        }
     }
 }

@@ -18,10 +18,10 @@ fn numbered(number: u32) -> [u8; 512] {
 fn pages_move_between_rings(rt: HostRuntime) -> Result<(), NoMemory> {
     let mut rings = Rings::new(rt.alloc(), 2)?;
     rings.reserve(4)?;
-    let a = rings.put(0, &numbered(1));
-    let b = rings.put(0, &numbered(2));
-    let c = rings.put(0, &numbered(3));
-    let d = rings.put(1, &numbered(4));
+    let a = rings.put(0, 11, &numbered(1));
+    let b = rings.put(0, 12, &numbered(2));
+    let c = rings.put(0, 13, &numbered(3));
+    let d = rings.put(1, 14, &numbered(4));
     rings.unlink(b);
     rings.splice(0, 1);
     assert!(rt; rings.page(0, 0).is_none());
@@ -38,6 +38,33 @@ fn pages_move_between_rings(rt: HostRuntime) -> Result<(), NoMemory> {
     assert!(rt; rings.page(0, 0).is_none());
     assert!(rt; rings.page(1, 0).is_none());
     assert_eq!(rt; rings.spare(9), 4);
+    Ok(())
+}
+
+#[test]
+fn pages_keep_their_blocks(rt: HostRuntime) -> Result<(), NoMemory> {
+    let mut rings = Rings::new(rt.alloc(), 2)?;
+    assert!(rt; rings.first(0).is_none());
+    assert!(rt; rings.last(0).is_none());
+    rings.reserve(4)?;
+    let a = rings.put(0, 11, &numbered(1));
+    let b = rings.put(0, 12, &numbered(2));
+    let c = rings.put(1, 13, &numbered(3));
+    assert_eq!(rt; rings.first(0), Some((11, &numbered(1))));
+    assert_eq!(rt; rings.last(0), Some((12, &numbered(2))));
+    rings.fill(0, 7);
+    assert_eq!(rt; rings.get(&a), &[7; 512]);
+    assert_eq!(rt; rings.get(&b), &[7; 512]);
+    assert_eq!(rt; rings.get(&c), &numbered(3));
+    rings.replace(0, 1, &numbered(4));
+    rings.replace(0, 2, &numbered(5));
+    assert_eq!(rt; rings.get(&a), &[7; 512]);
+    rings.splice(0, 1);
+    assert_eq!(rt; rings.first(1), Some((13, &numbered(3))));
+    assert_eq!(rt; rings.last(1), Some((12, &numbered(4))));
+    assert_eq!(rt; rings.block(&a), 11);
+    rings.fill(0, 9);
+    assert_eq!(rt; rings.last(1), Some((12, &numbered(4))));
     Ok(())
 }
 
@@ -95,14 +122,14 @@ fn step(
             }
         }
         2 | 3 => {
-            let first = rings.put(ring, &numbered(number));
-            let second = rings.put(ring, &numbered(0));
+            let first = rings.put(ring, number, &numbered(number));
+            let second = rings.put(ring, number, &numbered(0));
             rings.unlink(first);
             rings.write(&second, &numbered(number));
             list.push(number)?;
         }
         _ => {
-            let _token = rings.put(ring, &numbered(number));
+            let _token = rings.put(ring, number, &numbered(number));
             list.push(number)?;
         }
     }
@@ -141,7 +168,7 @@ fn may_cross<T: Send>(value: T) -> T
 fn rings_and_tokens_may_cross_threads(rt: HostRuntime) -> Result<(), NoMemory> {
     let mut rings = Rings::new(rt.alloc(), 1)?;
     rings.reserve(1)?;
-    let token = may_cross(rings.put(0, &numbered(1)));
+    let token = may_cross(rings.put(0, 11, &numbered(1)));
     let rings = may_cross(rings);
     assert_eq!(rt; rings.get(&token), &numbered(1));
     Ok(())

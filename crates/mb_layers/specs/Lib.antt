@@ -1,0 +1,4 @@
+pub mod Pages
+pub mod Places
+pub mod State
+pub mod Tokens

@@ -1,0 +1,17 @@
+//! Two layers of pages over the blocks of a disk: the sealed pages, which wait to be written back, and the current ones
+//! over them.
+//!
+//! A contract sees a [`Layers`] as two lists of pages and the room (`LayerState` of `specs/Pages.antt`). The pages stand in
+//! two rings of `mb_frames`, and a map names by each block the tokens of its pages. The costs, which no clause names: taking
+//! a checkpoint ([`Layers::seal`]) unlinks one page for each block that has two and joins the rings in eight link writes, and
+//! dropping the current pages takes eight link writes, however many pages there are. For that a page's token is kept with the
+//! number of its generation: a seal and a drop begin the next one, and the numbers of the dropped ones are kept.
+#![tactic(auto)]
+
+mod layers;
+#[cfg(test)]
+mod tests;
+mod tokens;
+
+pub use layers::Layers;
+pub use mb_kinds::NoMemory;
