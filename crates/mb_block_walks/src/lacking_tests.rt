@@ -1,22 +1,8 @@
-use crate::volumes::{Gathered, fresh, without};
+use crate::volumes::{fresh, with_a_deep_part, without};
 use mb_alloc::{Hung, Taken, free_block, take_block};
 use mb_bmap::{Located, Reached, address, hang, reach};
 use mb_iface::Changes;
-use std::alloc::Global;
 use std::test::Fail;
-
-/// A volume with a file, inode 3, of which part 16,522 alone is there: block 3,908, under the index
-/// blocks 3,905 to 3,907.
-fn with_a_deep_part(heap: Global) -> Result<Gathered, Fail> {
-    let mut disk = fresh(heap, 95)?;
-    let mut made = Changes::new(heap);
-    match reach(&disk, &mut made, 3, 16_522, 4) {
-        Reached::At(3908) => {}
-        _ => return Err("the part is not reached".into()),
-    }
-    disk.blocks.absorb(made)?;
-    Ok(disk)
-}
 
 /// The way to a part asks for the inode's block and each index block where the view lacks it, and
 /// never for the part's own block.

@@ -7,6 +7,8 @@ mod chain_tests;
 #[cfg(test)]
 mod count_tests;
 #[cfg(test)]
+mod ended_tests;
+#[cfg(test)]
 mod fill_tests;
 #[cfg(test)]
 mod hang_tests;

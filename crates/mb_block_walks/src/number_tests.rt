@@ -1,29 +1,8 @@
-use crate::volumes::{Gathered, fresh, without};
+use crate::volumes::{cached, numbered, without};
 use mb_alloc::{Hung, Picked, free_inode, pick_inode};
 use mb_iface::Changes;
 use mb_word::word_at;
-use std::alloc::Global;
 use std::test::Fail;
-
-/// A volume whose i-list, blocks 2 and 3, has 16 inodes, of which 1, 2 and 4 are in use.
-fn numbered(heap: Global) -> Result<Gathered, Fail> {
-    let mut disk = fresh(heap, 0)?;
-    let _ = disk.blocks.patch(2, 0, &[0xed, 0x41]);
-    let _ = disk.blocks.patch(2, 64, &[0xed, 0x41]);
-    let _ = disk.blocks.patch(2, 192, &[0xa4, 0x81]);
-    Ok(disk)
-}
-
-/// The same with a cache of 100 numbers, which are all of the one inode but for the last four.
-fn cached(heap: Global, number: u8, last: &[u8; 8]) -> Result<Gathered, Fail> {
-    let mut disk = numbered(heap)?;
-    let _ = disk.blocks.patch(1, 208, &[100, 0]);
-    for place in 0..96 {
-        let _ = disk.blocks.patch(1, 210 + 2 * place, &[number, 0]);
-    }
-    let _ = disk.blocks.patch(1, 402, last);
-    Ok(disk)
-}
 
 /// An empty cache is filled by a scan of the i-list: its lowest free number is picked, and the others
 /// stand in the cache, the lowest last.

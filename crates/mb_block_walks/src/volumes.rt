@@ -1,4 +1,5 @@
 use mb_alloc::{Hung, Taken, free_block, take_block};
+use mb_bmap::{Reached, reach};
 use mb_iface::{Changes, Need, View};
 use std::alloc::Global;
 use std::test::Fail;
@@ -43,6 +44,39 @@ pub fn fresh(heap: Global, free: u32) -> Result<Gathered, Fail> {
         }
     }
     disk.blocks.absorb(made)?;
+    Ok(disk)
+}
+
+/// A volume with a file, inode 3, of which part 16,522 alone is there: block 3,908, under the index
+/// blocks 3,905 to 3,907.
+pub fn with_a_deep_part(heap: Global) -> Result<Gathered, Fail> {
+    let mut disk = fresh(heap, 95)?;
+    let mut made = Changes::new(heap);
+    match reach(&disk, &mut made, 3, 16_522, 4) {
+        Reached::At(3908) => {}
+        _ => return Err("the part is not reached".into()),
+    }
+    disk.blocks.absorb(made)?;
+    Ok(disk)
+}
+
+/// A volume whose i-list, blocks 2 and 3, has 16 inodes, of which 1, 2 and 4 are in use.
+pub fn numbered(heap: Global) -> Result<Gathered, Fail> {
+    let mut disk = fresh(heap, 0)?;
+    let _ = disk.blocks.patch(2, 0, &[0xed, 0x41]);
+    let _ = disk.blocks.patch(2, 64, &[0xed, 0x41]);
+    let _ = disk.blocks.patch(2, 192, &[0xa4, 0x81]);
+    Ok(disk)
+}
+
+/// The same volume with a cache of 100 numbers, which are all of the one inode but for the last four.
+pub fn cached(heap: Global, number: u8, last: &[u8; 8]) -> Result<Gathered, Fail> {
+    let mut disk = numbered(heap)?;
+    let _ = disk.blocks.patch(1, 208, &[100, 0]);
+    for place in 0..96 {
+        let _ = disk.blocks.patch(1, 210 + 2 * place, &[number, 0]);
+    }
+    let _ = disk.blocks.patch(1, 402, last);
     Ok(disk)
 }
 

@@ -1,13 +1,16 @@
 ghost use Rattle.std.specs.Prelude.{◌<◌, IfOk, length};
+ghost use Rattle.mb_calls.specs.Following.{ViewGrows};
+ghost use Rattle.mb_iface.specs.Changed.{changed};
 ghost use Rattle.mb_tree.specs.Sessions.{HasDescriptorInRange};
 
-use crate::volumes::{Gathered, fresh, gather, nothing};
+use crate::volumes::{Gathered, SMALL, Size, disk_of, fresh, gather, nothing};
 use mb_calls::{Performed, Performing, Ready, perform, walks_go_on};
+use mb_edge::MemDisk;
 use mb_fsops::V7;
 use mb_iface::Opens;
 use mb_kinds::{Call, Cred, Creds, Reply};
 use mb_tables::Tables;
-use mb_tree::Seat;
+use mb_tree::{FsOp, Seat};
 use std::alloc::Global;
 use std::test::Fail;
 
@@ -15,18 +18,31 @@ use std::test::Fail;
 #[derive(Drop)]
 pub struct Bench {
     heap: Global,
+    size: Size,
     disk: Gathered,
     tables: Tables,
 }
 
-/// What a call was answered, and the number of the inode that it made.
+/// What a call was answered, the number of the inode that it made, and the operation that it did.
 #[derive(Drop)]
 pub struct Answered {
     pub reply: Reply,
     pub pick: Option<u16>,
+    pub op: Option<FsOp>,
 }
 
-/// Goes on with a call until it asks for no block any longer.
+/// Gathers what a call asks for; nothing where it met want of memory.
+fn gather_for(disk: &Gathered, view: &mut Gathered, performed: Performed) -> Result<(), Fail>
+    ensures { ViewGrows (changed view.old.blocks) (changed view.new.blocks) }
+{
+    match performed {
+        Performed::Need(need) => gather(disk, view, need),
+        Performed::NoMemory => Ok(()),
+        Performed::Ready(_) => Err("a call that is ready does not go on".into()),
+    }
+}
+
+/// Goes on with a call until it asks for no block any longer, also where it met want of memory.
 fn ready(
     heap: Global,
     disk: &Gathered,
@@ -45,27 +61,32 @@ fn ready(
     for _ in 0..400 {
         match performing.go(heap, &V7, &view, seats, opens, caller, call, moment) {
             Performed::Ready(ready) => return Ok(ready),
-            Performed::Need(need) => gather(disk, &mut view, need)?,
-            Performed::NoMemory => return Err("no memory".into()),
+            other => gather_for(disk, &mut view, other)?,
         }
     }
     Err("a call asks too often".into())
 }
 
 impl Bench {
-    /// The fresh volume of 100 blocks and 16 inodes, with callers that begin.
-    pub fn new(heap: Global, callers: &Creds) -> Result<Bench, Fail> {
+    /// The fresh volume of a size, with callers that begin.
+    pub fn new(heap: Global, callers: &Creds, size: Size) -> Result<Bench, Fail> {
         Ok(Bench {
             heap,
-            disk: fresh(heap)?,
+            size,
+            disk: fresh(heap, size)?,
             tables: Tables::new(heap, callers)?,
         })
     }
 
-    /// The same with one caller, of uid 0 and gid 0.
+    /// The small volume with one caller, of uid 0 and gid 0.
     pub fn of_root(heap: Global) -> Result<Bench, Fail> {
         let creds = Creds::from_vec([Cred { uid: 0, gid: 0 }].to_vec(heap)?);
-        Bench::new(heap, &creds)
+        Bench::new(heap, &creds, SMALL)
+    }
+
+    /// A disk of the volume.
+    pub fn disk(&self) -> Result<MemDisk, Fail> {
+        disk_of(self.heap, &self.disk, self.size)
     }
 
     /// The sessions of all callers.
@@ -90,15 +111,16 @@ impl Bench {
         ready(self.heap, &self.disk, &seats, opens, caller, call, moment)
     }
 
-    /// What a call of the first caller comes to where all blocks are there from the beginning.
-    pub fn performed(&self, call: &Call, moment: u32) -> Result<Performed, Fail> {
+    /// What a call comes to where all blocks are there from the beginning.
+    pub fn performed(&self, caller: u8, call: &Call, moment: u32) -> Result<Performed, Fail> {
         let seats = self.seats()?;
-        if seats.is_empty() {
-            return Err("there is no caller".into());
+        if usize::from(caller) >= seats.len() {
+            return Err("there is no such caller".into());
         }
         let opens = self.tables.opens();
-        let performed = perform(self.heap, &V7, &self.disk, &seats, opens, 0, call, moment);
-        Ok(performed)
+        Ok(perform(
+            self.heap, &V7, &self.disk, &seats, opens, caller, call, moment,
+        ))
     }
 
     /// Makes a call.
@@ -113,6 +135,7 @@ impl Bench {
         Ok(Answered {
             reply: ready.reply,
             pick: ready.pick,
+            op: ready.op,
         })
     }
 }

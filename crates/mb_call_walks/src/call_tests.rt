@@ -1,6 +1,44 @@
 use crate::tables::{answers, answers_root};
 use std::test::Fail;
 
+/// Each call of the table once.
+#[test]
+fn each_call(rt: HostRuntime) -> Result<(), Fail> {
+    answers_root(
+        &rt,
+        rt.alloc(),
+        &[
+            ("a creat /f 644", "3"),
+            ("a text 3 hello", "5"),
+            ("a lseek 3 1 0", "1"),
+            ("a open /f r", "4"),
+            ("a read 4 9", "5 68656c6c6f"),
+            ("a dup 4", "5"),
+            (
+                "a fstat 5",
+                "ino 3 mode 100644 nlink 1 uid 0 gid 0 size 5 atime 1 mtime 2 ctime 2",
+            ),
+            ("a link /f /g", "0"),
+            (
+                "a stat /g",
+                "ino 3 mode 100644 nlink 2 uid 0 gid 0 size 5 atime 1 mtime 2 ctime 8",
+            ),
+            ("a unlink /f", "0"),
+            ("a mkdir /d 755", "0"),
+            ("a rmdir /d", "0"),
+            ("a chdir /", "0"),
+            ("a access g 4", "0"),
+            ("a chmod g 600", "0"),
+            ("a chown g 5 6", "0"),
+            ("a utime g 100 200", "0"),
+            ("a umask 22", "0"),
+            ("a close 5", "0"),
+            ("a sync", "0"),
+            ("a exit", "0"),
+        ],
+    )
+}
+
 /// Descriptors are the lowest free ones of 3 to 19, and `dup` shares the offset.
 #[test]
 fn descriptors(rt: HostRuntime) -> Result<(), Fail> {

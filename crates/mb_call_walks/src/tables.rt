@@ -1,4 +1,5 @@
-use crate::benches::Bench;
+use crate::pairs::Pair;
+use crate::volumes::SMALL;
 use mb_jobs::{Job, job_of};
 use mb_kinds::{Creds, Entry};
 use mb_print::transcript;
@@ -50,14 +51,22 @@ fn creds_of(heap: Global, job: &Job) -> Result<Creds, Fail> {
     Ok(Creds::from_vec(creds))
 }
 
-/// Makes a job's calls in list order, the first one at moment 1.
+/// Makes a job's calls in list order, the first one at moment 1. Each is answered as the model answers it, and over all
+/// blocks at once as over those that it asks for; then the image is a volume of the model's tree.
 fn history_of(heap: Global, job: &Job) -> Result<Vec<Entry>, Fail> {
-    let mut bench = Bench::new(heap, &creds_of(heap, job)?)?;
+    let mut pair = Pair::new(heap, &creds_of(heap, job)?, SMALL)?;
     let mut history = Vec::new(heap);
     let mut moment = 0u32;
     for one in job.calls.as_slice() {
         moment = moment.saturating_add(1);
-        let answered = bench.call(one.caller, &one.call, moment)?;
+        let at_once = pair.reply_at_once(one.caller, &one.call, moment)?;
+        let answered = pair.call(one.caller, &one.call, moment)?;
+        if let Some(reply) = at_once
+            && reply != answered.reply
+        {
+            return Err(format!(in heap; "call {moment}: {reply:?} at once")?.into());
+        }
+        pair.shows_the_tree()?;
         history.push(Entry {
             caller: one.caller,
             ordinal: moment,

@@ -31,34 +31,58 @@ pub fn nothing(heap: Global) -> Gathered {
     }
 }
 
-/// The blocks of the fresh volume of 100 blocks and 16 inodes, which has the root alone.
-pub fn fresh(heap: Global) -> Result<Gathered, Fail> {
-    let none = Fails::new(heap);
-    let mut disk = MemDisk::new(
-        heap,
-        Bytes::new(heap),
-        100,
-        none,
-        Fails::new(heap),
-        Fails::new(heap),
-    )?;
-    if make(&mut disk, 100, 16).is_err() {
-        return Err("no volume is made".into());
-    }
-    whole(heap, &mut disk)
+/// How many blocks and inodes a volume has.
+#[derive(Clone, Copy, Drop)]
+pub struct Size {
+    pub blocks: u16,
+    pub inodes: u16,
 }
 
-/// All blocks of a disk of 100.
-fn whole(heap: Global, disk: &mut MemDisk) -> Result<Gathered, Fail> {
+/// The volume of most examples.
+pub const SMALL: Size = Size {
+    blocks: 100,
+    inodes: 16,
+};
+
+/// An empty disk with room for so many blocks, no call of which fails.
+fn empty_disk(heap: Global, blocks: u16) -> Result<MemDisk, Fail> {
+    let none = || Fails::new(heap);
+    let room = u32::from(blocks);
+    Ok(MemDisk::new(heap, Bytes::new(heap), room, none(), none(), none())?)
+}
+
+/// The blocks of the fresh volume of a size, which has the root alone.
+pub fn fresh(heap: Global, size: Size) -> Result<Gathered, Fail> {
+    let mut disk = empty_disk(heap, size.blocks)?;
+    if make(&mut disk, u32::from(size.blocks), u32::from(size.inodes)).is_err() {
+        return Err("no volume is made".into());
+    }
+    whole(heap, &mut disk, size.blocks)
+}
+
+/// So many blocks of a disk.
+fn whole(heap: Global, disk: &mut MemDisk, blocks: u16) -> Result<Gathered, Fail> {
     let mut all = nothing(heap);
     let mut bytes = [0; 512];
-    for block in 0..100 {
-        if disk.read(block, &mut bytes).is_err() {
+    for block in 0..blocks {
+        if disk.read(u32::from(block), &mut bytes).is_err() {
             return Err("a block is not read".into());
         }
-        all.blocks.put(block, &bytes)?;
+        all.blocks.put(u32::from(block), &bytes)?;
     }
     Ok(all)
+}
+
+/// A disk of all blocks of a volume.
+pub fn disk_of(heap: Global, volume: &Gathered, size: Size) -> Result<MemDisk, Fail> {
+    let mut disk = empty_disk(heap, size.blocks)?;
+    for place in 0..volume.blocks.len() {
+        let (block, bytes) = volume.blocks.at(place);
+        if disk.write(block, bytes).is_err() {
+            return Err("a block is not written".into());
+        }
+    }
+    Ok(disk)
 }
 
 /// Gathers a block that the view lacks, where the disk has it.
@@ -82,7 +106,7 @@ pub fn gather(disk: &Gathered, view: &mut Gathered, need: Need) -> Result<(), Fa
     if view.get(need.first).is_some() {
         return Err("a block is asked for that is there".into());
     }
-    for block in need.first..need.first.saturating_add(need.count).min(100) {
+    for block in need.first..need.first.saturating_add(need.count).min(262_144) {
         gather_block(disk, view, block)?;
     }
     Ok(())

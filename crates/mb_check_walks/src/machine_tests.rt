@@ -1,10 +1,11 @@
-use crate::trees::{compare, directory, letter, plain, regular, tree};
+use crate::trees::{directory, letter, plain, regular, tree};
 use crate::volumes::{Patch, empty, patched};
 use mb_check::OpenFault;
 use mb_check_tree::machine;
 use mb_edge::{Bytes, Fails, MemDisk};
 use mb_kinds::{Cred, Creds};
 use mb_mkfs::make;
+use mb_model_walks::tree_difference;
 use mb_tree::{Body, Node, Tree};
 use std::alloc::Global;
 use std::test::Fail;
@@ -38,9 +39,13 @@ fn opened(heap: Global, disk: &mut MemDisk) -> Result<Result<Tree, OpenFault>, F
 
 /// Opening a disk finds this tree.
 fn finds(heap: Global, disk: &mut MemDisk, wanted: &Tree) -> Result<(), Fail> {
-    match opened(heap, disk)? {
-        Ok(found) => compare(heap, &found, wanted),
-        Err(fault) => Err(format!(in heap; "{fault:?}")?.into()),
+    let found = match opened(heap, disk)? {
+        Ok(found) => found,
+        Err(fault) => return Err(format!(in heap; "{fault:?}")?.into()),
+    };
+    match tree_difference(heap, &found, wanted)? {
+        Some(apart) => Err(format!(in heap; "{apart:?}")?.into()),
+        None => Ok(()),
     }
 }
 

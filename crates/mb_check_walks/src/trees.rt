@@ -1,7 +1,6 @@
 use mb_kinds::Seq;
-use mb_tree::{Body, DOT, DOT_DOT, Node, Nodes, Parts, PlainSlot, PlainSlots, Tree};
+use mb_tree::{Body, DOT, DOT_DOT, Node, Nodes, Parts, PlainSlot, Tree};
 use std::alloc::{AllocError, Global};
-use std::test::Fail;
 
 /// A slot whose name is one letter.
 pub fn letter(ino: u16, letter: u8) -> PlainSlot {
@@ -62,91 +61,4 @@ pub fn tree(heap: Global, last: u16, cap: u32, all: Vec<(u32, Node)>) -> Result<
         nodes.insert(ino, node)?;
     }
     Ok(Tree { nodes, last, cap })
-}
-
-fn have_same_slots(one: &PlainSlots, other: &PlainSlots) -> bool {
-    if one.len() != other.len() {
-        return false;
-    }
-    for (at, slot) in one.as_slice().iter().enumerate() {
-        match other.get(at) {
-            Some(same) => {
-                if slot.ino != same.ino || slot.name != same.name {
-                    return false;
-                }
-            }
-            None => return false,
-        }
-    }
-    true
-}
-
-fn have_same_parts(heap: Global, one: &Parts, other: &Parts) -> Result<bool, AllocError> {
-    let keys = one.keys(heap)?;
-    if keys != other.keys(heap)? {
-        return Ok(false);
-    }
-    for key in &keys {
-        match (one.get(*key), other.get(*key)) {
-            (Some(part), Some(same)) => {
-                if *part != *same {
-                    return Ok(false);
-                }
-            }
-            _ => return Ok(false),
-        }
-    }
-    Ok(true)
-}
-
-fn have_same_bodies(heap: Global, one: &Body, other: &Body) -> Result<bool, AllocError> {
-    match (one, other) {
-        (
-            Body::Regular { size, parts },
-            Body::Regular {
-                size: length,
-                parts: rest,
-            },
-        ) => Ok(*size == *length && have_same_parts(heap, parts, rest)?),
-        (Body::Directory { slots }, Body::Directory { slots: rest }) => {
-            Ok(have_same_slots(slots, rest))
-        }
-        (
-            Body::Special { size, area },
-            Body::Special {
-                size: length,
-                area: rest,
-            },
-        ) => Ok(*size == *length && *area == *rest),
-        _ => Ok(false),
-    }
-}
-
-fn are_same(heap: Global, one: &Node, other: &Node) -> Result<bool, AllocError> {
-    let fields = one.mode == other.mode && one.nlink == other.nlink;
-    let owner = one.uid == other.uid && one.gid == other.gid;
-    let times = one.atime == other.atime && one.mtime == other.mtime && one.ctime == other.ctime;
-    Ok(fields && owner && times && have_same_bodies(heap, &one.body, &other.body)?)
-}
-
-/// Whether two trees are the same; an error names the first inode in which they differ.
-pub fn compare(heap: Global, one: &Tree, other: &Tree) -> Result<(), Fail> {
-    if one.last != other.last || one.cap != other.cap {
-        return Err(format!(in heap; "last {} cap {}", one.last, one.cap)?.into());
-    }
-    let inos = one.nodes.keys(heap)?;
-    if inos != other.nodes.keys(heap)? {
-        return Err(format!(in heap; "inodes {inos:?}")?.into());
-    }
-    for ino in &inos {
-        match (one.nodes.get(*ino), other.nodes.get(*ino)) {
-            (Some(node), Some(same)) => {
-                if !are_same(heap, node, same)? {
-                    return Err(format!(in heap; "inode {ino}")?.into());
-                }
-            }
-            _ => return Err(format!(in heap; "inode {ino}")?.into()),
-        }
-    }
-    Ok(())
 }
