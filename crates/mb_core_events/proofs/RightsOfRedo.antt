@@ -27,7 +27,7 @@ use Rattle.mb_core_spec.specs.declared.stages.Stage.TheVariants as stage
 use Rattle.mb_core_order.proofs.Rights.{right_remounts}
 use Rattle.mb_core_order.proofs.RightsOfCalls.{right_answers, right_replays}
 use Rattle.mb_core_state.specs.Answers.{with_disk}
-use Rattle.mb_core_state.specs.Redoing.{EndsByDevice, EndsIf, FailsStep, HasOpenRoom, IsReplayed, redoing, with_changes}
+use Rattle.mb_core_state.specs.Redoing.{EndsByDevice, EndsIf, FailsStep, HasOpenRoom, IsRemounted, IsReplayed, redoing, with_changes}
 use Rattle.mb_core_state.specs.Rooms.{HasPins}
 use Rattle.mb_core_state.specs.declared.answers.Phase.TheVariants as phase
 use Rattle.mb_core_events.specs.Callings.{MayReplayNow, phase_now}
@@ -97,10 +97,10 @@ module _ {F D : Type 0} (told : D → Option Image) (faults : D → ℕ) (core :
   -- ---- the file system is started anew
 
   pub remounted_right : (new : CoreState F D) (by : Option ℕ) (result : Result (Unit {0}) ReadFault) → phase_now core ≡ phase.Remount → IfSome by (λ caller. caller < length core.config.callers)
-      → OnOk result (new ≡ with_room (remounting core new.cache.disk) new) → IfErr result (FailsStep faults core new by) → told new.cache.disk ≡ told core.cache.disk → faults core.cache.disk ≤ faults new.cache.disk
+      → OnOk result (IsRemounted core new) → IfErr result (FailsStep faults core new by) → told new.cache.disk ≡ told core.cache.disk → faults core.cache.disk ≤ faults new.cache.disk
       → OnOk result (core.journal.room.history ≤ new.journal.room.history) → Right told faults new
-  remounted_right new by (Ok done) is low ok err same later history = carries told faults (remounting core new.cache.disk) new ok
-      (right_remounts told faults core r new.cache.disk new.journal.room history (remounts_at core.stage here log is) same later)
+  remounted_right new by (Ok done) is low ok err same later history = carries told faults (remounting core new.cache.disk new.journal.oplog) new ok.event
+      (right_remounts told faults core r new.cache.disk new.journal.oplog new.journal.room history (remounts_at core.stage here log is) ok.folds same later)
   remounted_right new by (Err fault) is low ok err same later history =
       fails_right new by fault low same later (λ failed. (let wrong : stage.Dropped ≡ stage.Failed = sym (remounts_at core.stage here log is) ∙ failed in cc)) err
 

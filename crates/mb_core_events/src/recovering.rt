@@ -6,10 +6,10 @@ ghost use Rattle.mb_cache.specs.Pages.{under};
 ghost use Rattle.mb_cache.specs.State.{Flushes};
 ghost use Rattle.mb_session.specs.OpenFiles.{TellsCounts};
 ghost use Rattle.mb_core_spec.specs.Events.{with_room};
-ghost use Rattle.mb_core_spec.specs.Recovery.{dropping, failing, flushing, remounting, reopening, resuming, sealing, striking_again};
+ghost use Rattle.mb_core_spec.specs.Recovery.{dropping, failing, flushing, reopening, resuming, sealing, striking_again};
 ghost use Rattle.mb_core_spec.specs.Right.{Right};
 ghost use Rattle.mb_core_spec.specs.State.{CallerState};
-ghost use Rattle.mb_core_state.specs.Redoing.{FailsStep, IsReplayed};
+ghost use Rattle.mb_core_state.specs.Redoing.{FailsStep, IsRemounted, IsReplayed};
 ghost use Rattle.mb_oplog.specs.declared.oplogs.Logged.{Logged};
 ghost use Rattle.mb_core_events.specs.Callings.{HasCall, MayMeetFault, MayReplayNow, Unwinds, phase_now};
 
@@ -88,18 +88,18 @@ impl<F: FileSys, D: Disk> Core<F, D> {
         self.fields.give_up();
     }
 
-    /// The file system is started anew, and block 1 is read. `Device` comes only where the disk's count of faults rose; the call
-    /// in flight of the caller `by` gets the entry `Device` then, where it has none.
-    pub fn remount(&mut self, by: Option<u8>) -> Result<(), ReadFault>
+    /// The file system is started anew: block 1 is read, and the operation log is folded. `Device` comes only where the disk's
+    /// count of faults rose; the call in flight of the caller `by` gets the entry `Device` then, where it has none.
+    pub fn remount(&mut self, alloc: Global, by: Option<u8>) -> Result<(), ReadFault>
         requires phase { phase_now self.old ≡ Phase.Remount }
         requires by { IfSome by (λ caller. caller < length self.old.config.callers) }
-        ensures ok { OnOk result (self.new ≡ with_room (remounting self.old self.new.cache.disk) self.new) }
+        ensures ok { OnOk result (IsRemounted self.old self.new) }
         ensures err { IfErr result (FailsStep D.faults self.old self.new by) }
         ensures told { D.told self.new.cache.disk ≡ D.told self.old.cache.disk }
         ensures later { D.faults self.old.cache.disk ≤ D.faults self.new.cache.disk }
         ensures right { Right D.told D.faults self.new }
     {
-        self.fields.remount(by)
+        self.fields.remount(alloc, by)
     }
 
     /// The next operation of the log is done again. `Device` comes only where the disk's count of faults rose; the call in flight

@@ -7,11 +7,13 @@ use Rattle.mb_kinds.specs.declared.entries.Entry.{Entry}
 use Rattle.mb_kinds.specs.declared.entries.Flight.{Flight}
 use Rattle.mb_tree.proofs.FiniteMaps.{one_or_not}
 use Rattle.mb_tree.specs.SessionLaws.{IsCall}
+use Rattle.mb_kinds.specs.Own.{own}
 use Rattle.mb_core_spec.specs.declared.config.Config.{Config}
 use Rattle.mb_core_spec.specs.declared.stages.Stage.{Stage}
+use Rattle.mb_core_order.proofs.Counting.{counted_moves}
 use Rattle.mb_core_order.proofs.Overlays.{same_some, total_set}
 use Rattle.mb_core_spec.specs.Callers.{EachCaller, one_if, total}
-use Rattle.mb_core_spec.specs.Numbers.{CanFollow, IsEntry, IsNumbered, IsOpen, is_open, open_calls, open_flight}
+use Rattle.mb_core_spec.specs.Numbers.{CanFollow, OwnsEntries, IsEntry, IsNumbered, IsOpen, is_open, open_calls, open_flight}
 use Rattle.mb_core_spec.specs.Events.{begins}
 use Rattle.mb_core_spec.specs.State.{CallerState, JournalState}
 
@@ -116,6 +118,9 @@ module _ (config : Config) (journal : JournalState) (callers : List CallerState)
     ordinals = each_set (λ caller d. AllByRecursion (λ (entry : Entry). entry.caller ≡ caller → entry.ordinal ≤ d.begun) journal.history) callers at desk new has
         (all_of (λ (entry : Entry). entry.caller ≡ at → entry.ordinal ≤ desk.begun) (λ (entry : Entry). entry.caller ≡ at → entry.ordinal ≤ desk.begun + 1) (λ entry o own. omega (arith, o own)) journal.history (h.ordinals at desk has))
         (λ caller d apart is. h.ordinals caller d is);
+    counted = each_set (λ caller d. OwnsEntries (own journal.history caller) d) callers at desk new has
+        (let none : one_if (is_open (open_flight desk.flight)) ≡ 0 = ap (λ f. one_if (is_open (open_flight f))) free in counted_moves (own journal.history at) desk new (omega (arith, none)) (h.counted at desk has))
+        (λ caller d apart is. h.counted caller d is);
     waiting = rw grown (each_set (λ caller d. (flight : Flight) → open_flight d.flight ≡ Some flight → IsOpen config.start (config.start + (sum + 1)) journal.history caller d.begun flight) callers at desk new has mine
         (λ caller d apart is flight waits. later flight caller d.begun (h.waiting caller d is flight waits)));
     apart = apart_all;

@@ -16,13 +16,14 @@ use Rattle.mb_cache.specs.State.{CacheState}
 use Rattle.mb_core_spec.specs.declared.config.Config.{Config}
 use Rattle.mb_core_spec.specs.declared.stages.Stage.TheVariants as stage
 use Rattle.mb_core_order.proofs.Keepings.{no_copies, no_true}
+use Rattle.mb_core_order.proofs.Logs.{log_sealed}
 use Rattle.mb_core_order.proofs.Overlays.{same_some}
 use Rattle.mb_core_spec.specs.Bounds.{IsConfig}
 use Rattle.mb_core_spec.specs.Callers.{EachCaller, one_if, total}
 use Rattle.mb_core_spec.specs.Copies.{AreTrue, KeepsCopies}
 use Rattle.mb_session.specs.OpenFiles.{TellsCounts}
 use Rattle.mb_core_spec.specs.Flights.{IsAnswered, IsFlying, IsUndoable, MayBeInside, is_pin}
-use Rattle.mb_core_spec.specs.Numbers.{is_open, open_flight}
+use Rattle.mb_core_spec.specs.Numbers.{OwnsEntries, is_open, open_flight}
 use Rattle.mb_core_spec.specs.Right.{IsOrderly, Right}
 use Rattle.mb_core_spec.specs.Seen.{Holds}
 use Rattle.mb_core_spec.specs.State.{CallerState, CoreState, JournalRoom}
@@ -70,6 +71,7 @@ module _ {F D : Type 0} (fs : F) (first : D) (config : Config) (cache : CacheSta
       entries = tt;
       pairs = tt;
       ordinals = all_idle n _ (λ caller. tt);
+      counted = all_idle n (λ caller d. OwnsEntries [] d) (λ caller. record { begun = omega arith; places = λ all. refl });
       waiting = λ caller d is flight waits. absurd (no_flight flight (ap (λ (x : CallerState). open_flight x.flight) (each_idle n caller d is) ∙ waits));
       apart = λ one other d next f g is at apart f_is g_is. absurd (no_flight f (ap (λ (x : CallerState). open_flight x.flight) (each_idle n one d is) ∙ f_is));
       says = tt;
@@ -120,7 +122,7 @@ module _ {F D : Type 0} (fs : F) (first : D) (config : Config) (cache : CacheSta
   holds_begins tree image base none volume kept valid counted = record {
     legal = record { legal = record { runs = tt; above = tt; order = tt }; valid = valid; seats = refl };
     checkpoint = record { within = omega arith; volume = volume; kept = kept; seats = refl };
-    replay = record { carried = refl; few = λ ino. few_opens (map first_seat config.callers) ino };
+    replay = record { carried = refl; few = λ ino. few_opens (map first_seat config.callers) ino; since = log_sealed (opening tree config.callers) [] };
     view = (let bare : under base cache.current ≡ base = ap (under base) none in record {
       volume = subst (λ (view : Image). IsVolume view (opening tree config.callers).tree) (sym bare) volume;
       kept = subst (λ (view : Image). Kept tree image (opening tree config.callers).tree view) (sym bare) kept;

@@ -1,7 +1,6 @@
 -- A history with one entry more, of any caller.
 use Rattle.std.proofs.Common.{List, [], ◌∷◌, ◌++◌, ℕ, zero, suc, ◌≡◌, ◌<◌, ◌≤◌, ◌*◌, Option, Some, None, Ok, IfSome, option_map, unwrap_or, length, slice_get, slice_set, refl, ap, sym, ◌∙◌, subst, arith, length-append}
 use Rattle.std.specs.List.{AllByRecursion}
-use Rattle.std.proofs.lemmas.List.{take-append-le}
 use Rattle.mb_kinds.specs.Image.{Image}
 use Rattle.mb_kinds.specs.declared.calls.Call.{Call}
 use Rattle.mb_kinds.specs.declared.entries.Entry.{Entry}
@@ -17,12 +16,14 @@ use Rattle.mb_tree.proofs.HistoryOperations.{callers_stay, few_opens}
 use Rattle.std.proofs.lemmas.List.{map-append}
 use Rattle.mb_tree.specs.Fits.{Fits}
 use Rattle.mb_tree.proofs.Histories.{after_both, legal_more}
+use Rattle.mb_core_order.proofs.Logs.{first_more, log_grown}
 use Rattle.mb_tree.proofs.OperationsFit.{operations_fit}
 use Rattle.mb_tree.proofs.ValidKept.{valid_kept}
 use Rattle.mb_tree.specs.Answers.{Answer, ◌>>=◌}
 use Rattle.mb_tree.specs.Effect.{TreeAndOpens}
 use Rattle.mb_tree.specs.History.{Follows, IsStep, IsUnserved, Runs, after, after_first, past, past_reply, stepped}
 use Rattle.mb_tree.specs.Machines.{IsValid}
+use Rattle.mb_tree.specs.Rows.{plan}
 use Rattle.mb_tree.specs.SessionLaws.{IsCall}
 use Rattle.mb_tree.specs.Sessions.{changed, counts, with_change}
 use Rattle.mb_tree.specs.Step.{IsFreeNumber, IsLawful, effect_of, or_refused, serve, step}
@@ -37,16 +38,11 @@ use Rattle.mb_tree.specs.declared.trees.Tree.{Tree}
 use Rattle.mb_tree.proofs.KeptVolumes.{kept_same}
 use Rattle.mb_oplog.specs.declared.oplogs.Logged.{Logged}
 use Rattle.mb_core_spec.specs.declared.ready.Ready.{Ready}
-use Rattle.mb_tree.specs.CarriedOut.{AreCarriedOut, FindFewOpens, tree_and_opens}
 use Rattle.mb_core_spec.specs.Events.{entry_for, logged_op}
 use Rattle.mb_core_spec.specs.Owed.{IsIdle, IsPlain}
-use Rattle.mb_core_spec.specs.Histories.{as_picked, picked_ops, IsCheckpointed, IsLegalSoFar, ReplaysToNow}
+use Rattle.mb_core_spec.specs.Histories.{as_picked, picked_ops, IsCheckpointed, IsLegalSoFar, IsLogOf, ReplaysToNow}
 use Rattle.mb_core_spec.specs.Performed.{IsAnsweredBy, IsRefusedBy, IsServedBy}
-use Rattle.mb_tree.specs.CarriedOut.{AreCarriedOut, FindFewOpens, tree_and_opens}
-
-pub first_more : (machine : Machine) (history : List Entry) (entry : Entry) (count : ℕ) → count ≤ length history
-    → after_first machine (history ++ entry ∷ []) count ≡ after_first machine history count
-first_more machine history entry count within = ap (after machine) (take-append-le count history (entry ∷ []) within)
+use Rattle.mb_tree.specs.CarriedOut.{AreCarriedOut, FindFewOpens, PickedOp, op_replied, picked_op, planned_op, tree_and_opens}
 
 -- ---- one entry more
 
@@ -54,6 +50,7 @@ first_more machine history entry count within = ap (after machine) (take-append-
 pub record MovesOn (now : Machine) (entry : Entry) (ops : List Logged) (sessions : List Seat) (next : Machine) : Type 0 where
   pub runs : Runs now entry entry.reply
   pub leads : past now entry ≡ next
+  pub made : op_replied now entry entry.reply ≡ picked_ops ops
   pub carried : AreCarriedOut (tree_and_opens now) (picked_ops ops) (tree_and_opens next)
   pub few : FindFewOpens (17 * length now.seats) (tree_and_opens now) (picked_ops ops)
   pub valid : IsValid next
@@ -87,6 +84,7 @@ module _ (machine : Machine) (history : List Entry) (entry : Entry) (ops : List 
         few = subst (λ (now : Machine). FindFewOpens (17 * length machine.seats) (tree_and_opens now) (picked_ops (oplog ++ ops))) (sym first)
             (subst (FindFewOpens (17 * length machine.seats) (tree_and_opens start)) (sym joined)
             (find_few_both (17 * length machine.seats) (tree_and_opens start) (tree_and_opens (after machine history)) (picked_ops oplog) (picked_ops ops) replay.carried replay.few few));
+        since = subst (IsLogOf machine (history ++ entry ∷ []) sealed_at) (sym joined) (log_grown machine history entry sealed_at (picked_ops oplog) (picked_ops ops) within more.made replay.since);
       }
 
 -- the checkpoint does not hear of it
@@ -122,10 +120,20 @@ idle_past now next (Restart first second) idle = refl
 idle_past now next Device idle = refl
 idle_past now next (Failed faults) idle = refl
 
+idle_made : (now : Machine) (entry : Entry) (reply : Reply) → IsIdle reply → op_replied now entry reply ≡ []
+idle_made now entry (Num number) idle = absurd idle
+idle_made now entry (Got bytes) idle = absurd idle
+idle_made now entry (Info stat) idle = absurd idle
+idle_made now entry (Refused e) idle = absurd idle
+idle_made now entry (Restart first second) idle = refl
+idle_made now entry Device idle = refl
+idle_made now entry (Failed faults) idle = refl
+
 pub idle_moves : (now : Machine) (entry : Entry) → IsValid now → IsIdle entry.reply → IsUnserved now entry → MovesOn now entry [] now.seats now
 idle_moves now entry valid idle none = record {
   runs = idle_runs now entry entry.reply idle none;
   leads = idle_past now (stepped now entry).1 entry.reply idle;
+  made = idle_made now entry entry.reply idle;
   carried = refl;
   few = λ ino. few_opens now.seats ino;
   valid = valid;
@@ -151,6 +159,11 @@ past_plain now next (Refused e) plain = refl
 past_plain now next (Restart first second) plain = absurd plain
 past_plain now next Device plain = absurd plain
 past_plain now next (Failed faults) plain = absurd plain
+
+-- the operation of a plan is the one that is logged
+picked_is_logged : (op : Option FsOp) (pick : Option ℕ) → picked_op op pick ≡ picked_ops (logged_op op pick)
+picked_is_logged None pick = refl
+picked_is_logged (Some op) pick = refl
 
 -- the operation of a call is carried out
 carries : (held next : TreeAndOpens) (op : Option FsOp) (pick : Option ℕ) → effect_of held.tree held.opens op pick ≡ Ok next → ((made : FsOp) → op ≡ Some made → Fits held.tree held.opens made pick)
@@ -217,8 +230,11 @@ module _ (now : Machine) (caller : ℕ) (flight : Flight) (ready : Ready) (view 
       ∙ ap (λ (r : Answer TreeAndOpens). r >>= (λ (held : TreeAndOpens). Ok (ready.reply, moved_to held))) by.effect in
       ap (or_refused now) serves
 
-  moved_served : IsServedBy view now caller flight.call flight.moment ready → IsMoved now caller flight ready view
-  moved_served by =
+  abbrev planned_here : List PickedOp
+  planned_here = planned_op (plan now caller flight.call flight.moment ready.pick) ready.pick
+
+  moved_served : op_replied now entry ready.reply ≡ planned_here → IsServedBy view now caller flight.call flight.moment ready → IsMoved now caller flight ready view
+  moved_served made by =
       let steps = served_by by in
       let follow = counts_follow now caller flight.call flight.moment ready.pick planned by.held (valid caller) by.planned by.effect in
       let carried : AreCarriedOut (tree_and_opens now) (picked_ops (logged_op ready.op ready.pick)) (tree_and_opens (moved_to by.held)) =
@@ -232,6 +248,7 @@ module _ (now : Machine) (caller : ℕ) (flight : Flight) (ready : Ready) (view 
         more = record {
           runs = runs_plain now entry ready.reply plain (step_is (moved_to by.held) steps);
           leads = leads;
+          made = made ∙ ap (λ answer. planned_op answer ready.pick) by.planned ∙ picked_is_logged ready.op ready.pick;
           carried = carried;
           few = finds_few (17 * length now.seats) (tree_and_opens now) (tree_and_opens (moved_to by.held)) ready.op ready.pick carried (λ ino. few_opens now.seats ino)
               (λ ino. (let end = few_opens (moved_to by.held).seats ino in omega (arith, end, stay)));
@@ -259,6 +276,7 @@ module _ (now : Machine) (caller : ℕ) (flight : Flight) (ready : Ready) (view 
         more = record {
           runs = runs_plain now entry ready.reply plain (step_is now steps);
           leads = leads_to now steps;
+          made = ap (op_replied now entry) refuses ∙ sym (ap picked_ops none);
           carried = subst (λ ops. AreCarriedOut (tree_and_opens now) (picked_ops ops) (tree_and_opens now)) (sym none) refl;
           few = subst (λ ops. FindFewOpens (17 * length now.seats) (tree_and_opens now) (picked_ops ops)) (sym none) (λ ino. few_opens now.seats ino);
           valid = valid;
@@ -272,9 +290,9 @@ module _ (now : Machine) (caller : ℕ) (flight : Flight) (ready : Ready) (view 
       }
 
   moved : IsVolume view now.tree → (reply : Reply) → ready.reply ≡ reply → IsPlain reply → IsAnsweredBy view now caller flight.call flight.moment ready reply → IsMoved now caller flight ready view
-  moved volume (Num number) is done by = moved_served by
-  moved volume (Got bytes) is done by = moved_served by
-  moved volume (Info stat) is done by = moved_served by
+  moved volume (Num number) is done by = moved_served (ap (op_replied now entry) is) by
+  moved volume (Got bytes) is done by = moved_served (ap (op_replied now entry) is) by
+  moved volume (Info stat) is done by = moved_served (ap (op_replied now entry) is) by
   moved volume (Refused e) is done by = moved_refused volume e is by
   moved volume (Restart first second) is done by = absurd done
   moved volume Device is done by = absurd done

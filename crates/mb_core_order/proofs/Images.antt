@@ -13,6 +13,7 @@ use Rattle.mb_edge.specs.declared.strokes.Stroke.{Stroke}
 use Rattle.mb_iface.specs.Acting.{Acts}
 use Rattle.mb_iface.specs.Changed.{ChangeList}
 use Rattle.mb_iface.specs.declared.replies.Acted.TheVariants as acted
+use Rattle.mb_folds.specs.Folded.{folded}
 use Rattle.mb_tree.proofs.KeptVolumes.{kept_composes}
 use Rattle.mb_tree.proofs.CarryingOut.{carried_out_once}
 use Rattle.mb_tree.proofs.HistoryOperations.{callers_stay, few_opens}
@@ -39,11 +40,11 @@ use Rattle.mb_core_spec.specs.declared.ready.Ready.{Ready}
 use Rattle.mb_core_spec.specs.declared.stages.Stage.{Stage}
 use Rattle.mb_core_spec.specs.declared.stages.Stage.TheVariants as stage
 use Rattle.mb_gate.specs.declared.ulogs.Undo.{Undo}
-use Rattle.mb_core_order.proofs.Growing.{IsMoved, MovesOn, after_grown, checkpoint_grown, first_more, idle_moves, legal_grown, performed, replay_grown}
+use Rattle.mb_core_order.proofs.Growing.{IsMoved, MovesOn, after_grown, checkpoint_grown, idle_moves, legal_grown, performed, replay_grown}
+use Rattle.mb_core_order.proofs.Logs.{first_more, log_sealed, replay_folded}
 use Rattle.mb_core_order.proofs.Overlays.{under_held}
 use Rattle.mb_core_order.proofs.Redoing.{counts_are}
 use Rattle.mb_core_order.proofs.Replaying.{replays_one}
-use Rattle.mb_tree.specs.CarriedOut.{AreCarriedOut, IsCarriedOut, tree_and_opens}
 use Rattle.mb_core_spec.specs.Copies.{PagesState}
 use Rattle.mb_session.specs.OpenFiles.{TellsCounts}
 use Rattle.mb_core_spec.specs.Events.{answered_by, ended, entering, entry_for, gathering, leaving, logged_op, logging, staling}
@@ -112,8 +113,13 @@ module _ {F D : Type 0} (before : Tree) (first base : Image) (core : CoreState F
   stands : (then : Stage) → core.stage ≡ then → ViewStands before first base (tree_and_opens start) (tree_and_opens now) core.journal.oplog core.cache.current core.tables.opens then
   stands then is = subst (ViewStands before first base (tree_and_opens start) (tree_and_opens now) core.journal.oplog core.cache.current core.tables.opens) is h.view
 
-  pub holds_remounts : (disk : D) → core.stage ≡ stage.Dropped → Holds before first base (remounting core disk)
-  holds_remounts disk is = record { legal = h.legal; checkpoint = h.checkpoint; replay = h.replay; view = stands stage.Dropped is }
+  pub holds_remounts : (disk : D) (oplog : List Logged) → core.stage ≡ stage.Dropped → picked_ops oplog ≡ folded (picked_ops core.journal.oplog) → Holds before first base (remounting core disk oplog)
+  holds_remounts disk oplog is folds = record {
+    legal = h.legal;
+    checkpoint = h.checkpoint;
+    replay = replay_folded begins_with core.journal.history core.journal.sealed_at core.journal.oplog oplog folds h.replay;
+    view = stands stage.Dropped is;
+  }
 
   pub holds_reopens : (opens : OpenCounts) → core.stage ≡ stage.Remounted → TellsCounts opens (counts core.tables.saved) → Holds before first base (reopening core opens)
   holds_reopens opens is counted =
@@ -184,6 +190,7 @@ module _ {F D : Type 0} (before : Tree) (first base : Image) (core : CoreState F
         replay = record {
           carried = ap tree_and_opens all;
           few = λ ino. subst (λ (machine : Machine). counts machine.seats ino ≤ 17 * length begins_with.seats) (sym all) (let few = few_opens now.seats ino in let stay = callers_stay begins_with core.journal.history in omega (arith, few, stay));
+          since = log_sealed begins_with core.journal.history;
         };
         view = subst (ViewStands before first (under base core.cache.current) (tree_and_opens (after_first begins_with core.journal.history (length core.journal.history))) (tree_and_opens now) [] [] core.tables.opens) (sym is) view;
       }

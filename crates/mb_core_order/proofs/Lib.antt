@@ -2,9 +2,12 @@ pub mod Conditions
 pub mod Copies
 pub mod Redoing
 pub mod Overlays
+pub mod OwnEntries
+pub mod Counting
 pub mod Beginning
 pub mod Replaying
 pub mod Trailing
+pub mod Logs
 pub mod Growing
 pub mod Images
 pub mod Numbers

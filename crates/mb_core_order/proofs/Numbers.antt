@@ -3,6 +3,7 @@ use Rattle.std.proofs.Common.{List, [], ◌∷◌, ◌++◌, ℕ, zero, suc, ◌
 use Rattle.std.specs.List.{AllByRecursion}
 use Rattle.std.proofs.lemmas.List.{length-set}
 use Rattle.std.proofs.lemmas.Option.{slice_get_within}
+use Rattle.mb_kinds.specs.Own.{own}
 use Rattle.mb_kinds.specs.declared.entries.Entry.{Entry}
 use Rattle.mb_kinds.specs.declared.entries.Flight.{Flight}
 use Rattle.mb_kinds.specs.declared.faults.FaultRecord.{FaultRecord}
@@ -17,10 +18,12 @@ use Rattle.mb_core_spec.specs.declared.stages.Stage.{Stage}
 use Rattle.mb_core_spec.specs.declared.stages.Stage.TheVariants as stage
 use Rattle.mb_core_spec.specs.declared.steps.Step.{Step}
 use Rattle.mb_core_order.proofs.Beginning.{all_of, each_set, set_here, set_there}
+use Rattle.mb_core_order.proofs.Counting.{counted_moves, counted_push}
+use Rattle.mb_core_order.proofs.OwnEntries.{own_mine, own_other}
 use Rattle.mb_core_order.proofs.Overlays.{same_some, total_set}
 use Rattle.mb_core_spec.specs.Callers.{one_if, total}
 use Rattle.mb_core_spec.specs.Faults.{MayNumber, Names, Says}
-use Rattle.mb_core_spec.specs.Numbers.{AreInOrder, CanFollow, IsNumbered, IsOpen, is_open, open_calls, open_flight}
+use Rattle.mb_core_spec.specs.Numbers.{AreInOrder, CanFollow, OwnsEntries, IsNumbered, IsOpen, is_open, open_calls, open_flight}
 use Rattle.mb_core_spec.specs.State.{CallerState, JournalRoom, JournalState}
 
 pub all_push : {X : Type 0} (P : X → Type 0) (xs : List X) (x : X) → AllByRecursion P xs → P x → AllByRecursion P (xs ++ x ∷ [])
@@ -120,6 +123,9 @@ module _ (config : Config) (journal : JournalState) (callers : List CallerState)
     pairs = h.pairs;
     ordinals = each_set (λ caller d. AllByRecursion (λ (entry : Entry). entry.caller ≡ caller → entry.ordinal ≤ d.begun) journal.history) callers at mine new has
         (subst (λ b. AllByRecursion (λ (entry : Entry). entry.caller ≡ at → entry.ordinal ≤ b) journal.history) (sym begun) (h.ordinals at mine has)) (λ caller d apart is. h.ordinals caller d is);
+    counted = each_set (λ caller d. OwnsEntries (own journal.history caller) d) callers at mine new has
+        (let less = not_more (open_flight mine.flight) (open_flight new.flight) (λ g is. (let one = keeps g is in (one.0, one.1))) in counted_moves (own journal.history at) mine new (omega (arith, less, begun)) (h.counted at mine has))
+        (λ caller d apart is. h.counted caller d is);
     waiting = rw same_sum (each_set (λ caller d. (flight : Flight) → open_flight d.flight ≡ Some flight → IsOpen config.start (config.start + sum) journal.history caller d.begun flight) callers at mine new has still_open
         (λ caller d apart is. h.waiting caller d is));
     apart = apart_all;
@@ -210,6 +216,10 @@ module _ (config : Config) (journal : JournalState) (callers : List CallerState)
         let number : new.begun ≡ d.begun = ap (λ (x : CallerState). x.begun) same in
         let last = its_open.last in
         omega (arith, number, last, begun, ordinal_is)));
+    counted = each_set (λ caller d. OwnsEntries (own (journal.history ++ entry ∷ []) caller) d) callers at mine new has
+        (subst (λ entries. OwnsEntries entries new) (sym (own_mine journal.history entry at caller_is))
+        (counted_push (own journal.history at) entry mine new begun (ap (λ o. one_if (is_open o)) flies) (ap (λ o. one_if (is_open o)) closed) (ordinal_is ∙ its_open.last) (h.counted at mine has)))
+        (λ caller d apart is. subst (λ entries. OwnsEntries entries d) (sym (own_other journal.history entry caller (λ same. apart (sym same ∙ caller_is)))) (h.counted caller d is));
     waiting = λ caller d is g waits. longer caller d.begun g _ (can caller d g is waits) (k.waiting caller d is g waits);
     apart = k.apart;
     says = all_push _ journal.history entry k.says said;
@@ -253,6 +263,7 @@ numbered_stage config journal callers was now trail oplog sealed_at room h lives
   entries = h.entries;
   pairs = h.pairs;
   ordinals = h.ordinals;
+  counted = h.counted;
   waiting = h.waiting;
   apart = h.apart;
   says = all_of _ _ (λ (entry : Entry) said. says_later journal.records journal.records (λ place fault is. is) config.limit was now lives entry.caller entry.ordinal entry.reply said) journal.history h.says;
@@ -270,6 +281,7 @@ numbered_strikes config journal callers was now fault trail room h lives low few
   entries = h.entries;
   pairs = h.pairs;
   ordinals = h.ordinals;
+  counted = h.counted;
   waiting = h.waiting;
   apart = h.apart;
   says = all_of _ _ (λ (entry : Entry) said. says_later journal.records (journal.records ++ fault ∷ []) (get_more journal.records fault) config.limit was now lives entry.caller entry.ordinal entry.reply said) journal.history h.says;

@@ -40,6 +40,7 @@ numbered_rest config journal callers now trail oplog sealed_at room h = record {
   entries = h.entries;
   pairs = h.pairs;
   ordinals = h.ordinals;
+  counted = h.counted;
   waiting = h.waiting;
   apart = h.apart;
   says = h.says;
@@ -184,13 +185,13 @@ module _ {F D : Type 0} (core : CoreState F D) (o : IsOrderly core) where
   -- ---- the steps of a recovery
 
   -- from one stage to the next, both with nobody inside and not running
-  onward : (now : Stage) (one : Step) (cache : CacheState D) (opens : OpenCounts) (room : JournalRoom) (lives : core.stage ≡ stage.Failed → ⊥) (few : MayNumber (length core.journal.records) core.config.limit now)
-      (trailed : IsTrailed (record core.journal { trail = core.journal.trail ++ one ∷ []; room = room }) core.callers now)
+  onward : (now : Stage) (one : Step) (cache : CacheState D) (opens : OpenCounts) (oplog : List Logged) (room : JournalRoom) (short : length oplog ≤ log) (lives : core.stage ≡ stage.Failed → ⊥) (few : MayNumber (length core.journal.records) core.config.limit now)
+      (trailed : IsTrailed (record core.journal { oplog = oplog; trail = core.journal.trail ++ one ∷ []; room = room }) core.callers now)
       (stays : runs core.stage ≡ false) (goes : runs now ≡ false) (out : EachCaller (λ caller d. MayBeInside now d.inside) core.callers) (pins : cache.pins ≡ core.cache.pins) (marks : HasMarks now (insiders core.callers) room)
-      (left : core.journal.room.history ≤ room.history) (stamps : StampsAreFew false (length core.journal.history) (length core.journal.records) (replayed now) cache.stamps) (dropped : now ≡ stage.Failed → cache.current ≡ []) (within : replayed now ≤ log)
-      → IsOrderly (record core { cache = cache; tables = record core.tables { opens = opens }; journal = record core.journal { trail = core.journal.trail ++ one ∷ []; room = room }; stage = now })
-  onward now one cache opens room lives few trailed stays goes out pins marks left stamps dropped within = record {
-    numbered = numbered_stage core.config core.journal core.callers core.stage now _ core.journal.oplog core.journal.sealed_at room o.numbered lives few;
+      (left : core.journal.room.history ≤ room.history) (stamps : StampsAreFew false (length core.journal.history) (length core.journal.records) (replayed now) cache.stamps) (dropped : now ≡ stage.Failed → cache.current ≡ []) (within : replayed now ≤ length oplog)
+      → IsOrderly (record core { cache = cache; tables = record core.tables { opens = opens }; journal = record core.journal { oplog = oplog; trail = core.journal.trail ++ one ∷ []; room = room }; stage = now })
+  onward now one cache opens oplog room short lives few trailed stays goes out pins marks left stamps dropped within = record {
+    numbered = numbered_stage core.config core.journal core.callers core.stage now _ oplog core.journal.sealed_at room o.numbered lives few;
     trailed = trailed;
     flying = λ caller d at. subst (λ b. IsFlying caller d.inside b core.incarnation d.answer d.flight) (stays ∙ sym goes) (o.flying caller d at);
     answers = o.answers;
@@ -204,7 +205,7 @@ module _ {F D : Type 0} (core : CoreState F D) (o : IsOrderly core) where
     marks = marks;
     entries = (let fit = o.entries in omega (arith, fit, left));
     stamps = subst (λ b. StampsAreFew b (length core.journal.history) (length core.journal.records) (replayed now) cache.stamps) (sym goes) stamps;
-    logged = o.logged;
+    logged = (let few = o.logged in omega (arith, few, short));
     sessions = o.sessions;
     saved = o.saved;
     dropped = dropped;
@@ -216,39 +217,39 @@ module _ {F D : Type 0} (core : CoreState F D) (o : IsOrderly core) where
   module _ (room : JournalRoom) (left : core.journal.room.history ≤ room.history) where
     -- the current pages are dropped, once nobody is inside, where the faults are few enough
     pub orderly_drops : core.stage ≡ stage.Struck → EachCaller (λ caller d. d.inside ≡ false) core.callers → length core.journal.records ≤ core.config.limit → IsOrderly (roomy (dropping core) room)
-    orderly_drops is out few = onward stage.Dropped step.Dropped (record core.cache { current = [] }) core.tables.opens room (λ failed. (let wrong : stage.Struck ≡ stage.Failed = sym is ∙ failed in cc)) few
+    orderly_drops is out few = onward stage.Dropped step.Dropped (record core.cache { current = [] }) core.tables.opens core.journal.oplog room (omega arith) (λ failed. (let wrong : stage.Struck ≡ stage.Failed = sym is ∙ failed in cc)) few
         (let mode = mode_at stage.Struck is in trailed_drops core.journal core.callers core.stage o.trailed mode.0 room mode.1) (ap runs is) refl out refl tt left (stamps_at stage.Struck is)
         (λ now. absurd (let wrong : stage.Dropped ≡ stage.Failed = now in cc)) (omega arith)
 
     pub orderly_drops_again : core.stage ≡ stage.Again → length core.journal.records ≤ core.config.limit → IsOrderly (roomy (dropping core) room)
-    orderly_drops_again is few = onward stage.Dropped step.Dropped (record core.cache { current = [] }) core.tables.opens room (λ failed. (let wrong : stage.Again ≡ stage.Failed = sym is ∙ failed in cc)) few
+    orderly_drops_again is few = onward stage.Dropped step.Dropped (record core.cache { current = [] }) core.tables.opens core.journal.oplog room (omega arith) (λ failed. (let wrong : stage.Again ≡ stage.Failed = sym is ∙ failed in cc)) few
         (trailed_drops_again core.journal core.callers core.stage o.trailed room (mode_at stage.Again is)) (ap runs is) refl (inside_at stage.Again is) refl tt left (stamps_at stage.Again is)
         (λ now. absurd (let wrong : stage.Dropped ≡ stage.Failed = now in cc)) (omega arith)
 
     -- the volume fails
     pub orderly_fails : core.stage ≡ stage.Struck → EachCaller (λ caller d. d.inside ≡ false) core.callers → core.config.limit < length core.journal.records → IsOrderly (roomy (failing core) room)
-    orderly_fails is out many = onward stage.Failed (step.Failed (length core.journal.records)) (record core.cache { current = [] }) core.tables.opens room (λ failed. (let wrong : stage.Struck ≡ stage.Failed = sym is ∙ failed in cc))
+    orderly_fails is out many = onward stage.Failed (step.Failed (length core.journal.records)) (record core.cache { current = [] }) core.tables.opens core.journal.oplog room (omega arith) (λ failed. (let wrong : stage.Struck ≡ stage.Failed = sym is ∙ failed in cc))
         (let few = number_at stage.Struck is in omega (arith, few, many))
         (let mode = mode_at stage.Struck is in trailed_fails core.journal core.callers core.stage o.trailed mode.0 room mode.1) (ap runs is) refl out refl tt left (stamps_at stage.Struck is) (λ now. refl) (omega arith)
 
     pub orderly_fails_again : core.stage ≡ stage.Again → core.config.limit < length core.journal.records → IsOrderly (roomy (failing core) room)
-    orderly_fails_again is many = onward stage.Failed (step.Failed (length core.journal.records)) (record core.cache { current = [] }) core.tables.opens room (λ failed. (let wrong : stage.Again ≡ stage.Failed = sym is ∙ failed in cc))
+    orderly_fails_again is many = onward stage.Failed (step.Failed (length core.journal.records)) (record core.cache { current = [] }) core.tables.opens core.journal.oplog room (omega arith) (λ failed. (let wrong : stage.Again ≡ stage.Failed = sym is ∙ failed in cc))
         (let few = number_at stage.Again is in omega (arith, few, many))
         (trailed_fails_again core.journal core.callers core.stage o.trailed room (mode_at stage.Again is)) (ap runs is) refl (inside_at stage.Again is) refl tt left (stamps_at stage.Again is) (λ now. refl) (omega arith)
 
-    pub orderly_remounts : (disk : D) → core.stage ≡ stage.Dropped → IsOrderly (roomy (remounting core disk) room)
-    orderly_remounts disk is = onward stage.Remounted step.Remounted (record core.cache { disk = disk }) core.tables.opens room (λ failed. (let wrong : stage.Dropped ≡ stage.Failed = sym is ∙ failed in cc)) (number_at stage.Dropped is)
-        (trailed_remounts core.journal core.callers core.stage o.trailed room (mode_at stage.Dropped is)) (ap runs is) refl (inside_at stage.Dropped is) refl tt left (stamps_at stage.Dropped is)
+    pub orderly_remounts : (disk : D) (oplog : List Logged) → length oplog ≤ log → core.stage ≡ stage.Dropped → IsOrderly (roomy (remounting core disk oplog) room)
+    orderly_remounts disk oplog short is = onward stage.Remounted step.Remounted (record core.cache { disk = disk }) core.tables.opens oplog room short (λ failed. (let wrong : stage.Dropped ≡ stage.Failed = sym is ∙ failed in cc)) (number_at stage.Dropped is)
+        (trailed_remounts core.journal core.callers core.stage o.trailed oplog room short (mode_at stage.Dropped is)) (ap runs is) refl (inside_at stage.Dropped is) refl tt left (stamps_at stage.Dropped is)
         (λ now. absurd (let wrong : stage.Remounted ≡ stage.Failed = now in cc)) (omega arith)
 
     pub orderly_reopens : (opens : OpenCounts) → core.stage ≡ stage.Remounted → IsOrderly (roomy (reopening core opens) room)
-    orderly_reopens opens is = onward (stage.Restored 0) step.Reopened core.cache opens room (λ failed. (let wrong : stage.Remounted ≡ stage.Failed = sym is ∙ failed in cc)) (number_at stage.Remounted is)
+    orderly_reopens opens is = onward (stage.Restored 0) step.Reopened core.cache opens core.journal.oplog room (omega arith) (λ failed. (let wrong : stage.Remounted ≡ stage.Failed = sym is ∙ failed in cc)) (number_at stage.Remounted is)
         (trailed_reopens core.journal core.callers core.stage o.trailed room (mode_at stage.Remounted is)) (ap runs is) refl (inside_at stage.Remounted is) refl tt left (stamps_at stage.Remounted is)
         (λ now. absurd (let wrong : stage.Restored 0 ≡ stage.Failed = now in cc)) (omega arith)
 
     pub orderly_replays : (cache : CacheState D) (opens : OpenCounts) (done : ℕ) → core.stage ≡ stage.Restored done → done < log → ((block : ℕ) → stamp_of cache.stamps block ≤ stamp_of core.cache.stamps block + 1)
         → IsOrderly (roomy (replaying core cache opens done) room)
-    orderly_replays cache opens done is low rise = onward (stage.Restored (done + 1)) (step.Replayed (done + 1)) (record core.cache { disk = cache.disk; current = cache.current; stamps = cache.stamps; room = cache.room }) opens room
+    orderly_replays cache opens done is low rise = onward (stage.Restored (done + 1)) (step.Replayed (done + 1)) (record core.cache { disk = cache.disk; current = cache.current; stamps = cache.stamps; room = cache.room }) opens core.journal.oplog room (omega arith)
         (λ failed. (let wrong : stage.Restored done ≡ stage.Failed = sym is ∙ failed in cc)) (number_at (stage.Restored done) is)
         (trailed_replays core.journal core.callers core.stage o.trailed done room (mode_at (stage.Restored done) is) low) (ap runs is) refl (inside_at (stage.Restored done) is) refl tt left
         (stamps_replay (length core.journal.history) (length core.journal.records) done core.cache.stamps cache.stamps rise (stamps_at (stage.Restored done) is))

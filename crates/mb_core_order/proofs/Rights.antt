@@ -11,6 +11,7 @@ use Rattle.mb_kinds.specs.declared.faults.Kind.{Kind}
 use Rattle.mb_kinds.specs.declared.faults.Ticket.{Ticket}
 use Rattle.mb_kinds.specs.declared.replies.Reply.{Reply}
 use Rattle.mb_edge.specs.declared.strokes.Stroke.{Stroke}
+use Rattle.mb_folds.specs.Folded.{folded}
 use Rattle.mb_tree.specs.History.{after, after_first}
 use Rattle.mb_tree.specs.Opening.{opening}
 use Rattle.mb_tree.specs.Sessions.{counts, with_change}
@@ -20,6 +21,8 @@ use Rattle.mb_tree.specs.declared.trees.Tree.{Tree}
 use Rattle.mb_cache.specs.Stamps.{Stamps}
 use Rattle.mb_cache.specs.CacheLaws.{Moves}
 use Rattle.mb_cache.specs.Pages.{PageList, under}
+use Rattle.mb_oplog.specs.declared.oplogs.Logged.{Logged}
+use Rattle.mb_core_spec.specs.Histories.{picked_ops}
 use Rattle.mb_core_spec.specs.declared.ready.Ready.{Ready}
 use Rattle.mb_core_spec.specs.declared.stages.Stage.{Stage}
 use Rattle.mb_core_spec.specs.declared.stages.Stage.TheVariants as stage
@@ -29,6 +32,7 @@ use Rattle.mb_core_order.proofs.Copies.{finish_performs, true_moves}
 use Rattle.mb_core_order.proofs.Enterings.{orderly_logs}
 use Rattle.mb_core_order.proofs.Images.{holds_drops, holds_flushed, holds_logs, holds_remounts, holds_resumes, holds_seals, holds_strikes}
 use Rattle.mb_core_order.proofs.Keepings.{no_true, none_true}
+use Rattle.mb_core_order.proofs.Logs.{folds_short}
 use Rattle.mb_core_order.proofs.Numbers.{follows_all}
 use Rattle.mb_core_order.proofs.Orderlies.{inside_at, orderly_drops, orderly_flushes, orderly_remounts, orderly_resumes, orderly_seals, orderly_strikes}
 use Rattle.mb_tree.specs.CarriedOut.{tree_and_opens}
@@ -118,14 +122,14 @@ module _ {F D : Type 0} (told : D → Option Image) (faults : D → ℕ) (core :
   }
 
   -- the disk is opened again: it tells what it told, or its count rose
-  pub right_remounts : (disk : D) (room : JournalRoom) → core.journal.room.history ≤ room.history → core.stage ≡ stage.Dropped → told disk ≡ told core.cache.disk → faults core.cache.disk ≤ faults disk
-      → Right told faults (roomy (remounting core disk) room)
-  right_remounts disk room left is same more = record {
-    holds = λ first image tree began now volume. holds_roomy tree first (under image core.cache.sealed) (remounting core disk)
-        (holds_remounts tree first (under image core.cache.sealed) core (r.holds first image tree began (sym same ∙ now) volume) disk is) room;
+  pub right_remounts : (disk : D) (oplog : List Logged) (room : JournalRoom) → core.journal.room.history ≤ room.history → core.stage ≡ stage.Dropped → picked_ops oplog ≡ folded (picked_ops core.journal.oplog)
+      → told disk ≡ told core.cache.disk → faults core.cache.disk ≤ faults disk → Right told faults (roomy (remounting core disk oplog) room)
+  right_remounts disk oplog room left is folds same more = record {
+    holds = λ first image tree began now volume. holds_roomy tree first (under image core.cache.sealed) (remounting core disk oplog)
+        (holds_remounts tree first (under image core.cache.sealed) core (r.holds first image tree began (sym same ∙ now) volume) disk oplog is folds) room;
     seen = λ first image began now runs. absurd (let wrong : stage.Remounted ≡ stage.Running = runs in cc);
     tells = λ first began. subst (λ (t : Option Image). IsSome t) (sym same) (r.tells first began);
-    orderly = orderly_remounts core o room left disk is;
+    orderly = orderly_remounts core o room left disk oplog (folds_short core.journal.oplog oplog folds) is;
     later = (let low = r.later in omega (arith, low, more));
     devices = few_later (faults core.first) (faults core.cache.disk) (faults disk) core.journal.history r.devices more;
   }

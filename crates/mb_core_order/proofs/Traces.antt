@@ -214,14 +214,18 @@ module _ (journal : JournalState) (callers : List CallerState) (was : Stage) (h 
   struck_so : (mode : Mode) → Some (record h.watch { mode = mode }) ≡ Some (record h.watch { mode = mode; struck = length journal.records })
   struck_so mode = ap (λ n. Some (record h.watch { mode = mode; struck = n })) h.struck
 
-  -- a recovery goes on: dropped, remounted, reopened, resumed
+  -- a recovery goes on: dropped, reopened, resumed
   goes_on : (from to : Mode) (now : Stage) (one : Step) (room : JournalRoom) → h.watch.mode ≡ from → next_in h.watch from one ≡ Some (record h.watch { mode = to }) → IsMode now to callers → logged_key one ≡ []
       → IsTrailed (record journal { trail = journal.trail ++ one ∷ []; room = room }) callers now
   goes_on from to now one room is goes stands key =
       trailed_steps now one to journal.records h.watch.since h.watch.sealed journal.oplog journal.sealed_at room (at_mode from one _ is goes ∙ struck_so to) stands h.covers h.sealed key
 
-  pub trailed_remounts : (room : JournalRoom) → h.watch.mode ≡ Dropped → IsTrailed (record journal { trail = journal.trail ++ step.Remounted ∷ []; room = room }) callers stage.Remounted
-  trailed_remounts room is = goes_on Dropped Remounted stage.Remounted step.Remounted room is refl refl refl
+  -- remounted, with a log that is no longer
+  pub trailed_remounts : (oplog : List Logged) (room : JournalRoom) → length oplog ≤ length journal.oplog → h.watch.mode ≡ Dropped
+      → IsTrailed (record journal { oplog = oplog; trail = journal.trail ++ step.Remounted ∷ []; room = room }) callers stage.Remounted
+  trailed_remounts oplog room short is =
+      trailed_steps stage.Remounted step.Remounted Remounted journal.records h.watch.since h.watch.sealed oplog journal.sealed_at room (at_mode Dropped step.Remounted _ is refl ∙ struck_so Remounted) refl
+      (let covered = h.covers in omega (arith, short, covered)) h.sealed refl
 
   pub trailed_reopens : (room : JournalRoom) → h.watch.mode ≡ Remounted → IsTrailed (record journal { trail = journal.trail ++ step.Reopened ∷ []; room = room }) callers (stage.Restored 0)
   trailed_reopens room is = goes_on Remounted (Restored 0) (stage.Restored 0) step.Reopened room is refl refl refl

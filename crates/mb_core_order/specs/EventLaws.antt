@@ -114,10 +114,10 @@ abbrev pub VolumeFails : (F D : Type 0) → (D → Option Image) → (D → ℕ)
 VolumeFails F D told faults = (core : CoreState F D) (room : JournalRoom) → Right told faults core → MayFail core room
     → Right told faults (roomy (failing core) room)
 
--- the file system is started anew
+-- the file system is started anew, and the log is folded
 abbrev pub VolumeIsRemounted : (F D : Type 0) → (D → Option Image) → (D → ℕ) → Type 0
-VolumeIsRemounted F D told faults = (core : CoreState F D) (disk : D) (room : JournalRoom) → Right told faults core → MayRemount told faults core disk room
-    → Right told faults (roomy (remounting core disk) room)
+VolumeIsRemounted F D told faults = (core : CoreState F D) (disk : D) (oplog : List Logged) (room : JournalRoom) → Right told faults core → MayRemount told faults core disk oplog room
+    → Right told faults (roomy (remounting core disk oplog) room)
 
 -- the open files are restored
 abbrev pub FilesAreReopened : (F D : Type 0) → (D → Option Image) → (D → ℕ) → Type 0

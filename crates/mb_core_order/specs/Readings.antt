@@ -1,5 +1,6 @@
 -- What code and its callers read off a core in order.
 use Rattle.std.specs.Prelude.{List, [], ◌∷◌, ◌++◌, ℕ, ◌+◌, ◌<◌, ◌≤◌, ◌≡◌, ◌≢◌, Bool, true, false, Option, Some, length, slice_get, slice_set}
+use Rattle.mb_kinds.specs.Own.{own}
 use Rattle.mb_kinds.specs.declared.calls.Call.{Call}
 use Rattle.mb_kinds.specs.declared.entries.Entry.{Entry}
 use Rattle.mb_kinds.specs.declared.entries.Flight.{Flight}
@@ -11,11 +12,11 @@ use Rattle.mb_tree.specs.Views.{IsPart}
 use Rattle.mb_tree.specs.declared.seats.SessionChange.{SessionChange}
 use Rattle.mb_tree.specs.declared.seats.SessionChange.TheVariants as change
 use Rattle.mb_cache.specs.Stamps.{Stamps}
-use Rattle.mb_core_spec.specs.Callers.{insiders, one_if}
+use Rattle.mb_core_spec.specs.Callers.{begun, insiders, one_if}
 use Rattle.mb_core_spec.specs.Copies.{AreFresh, AreTrue, CopyList, HoldsFloor, LiveTables, PagesState, shown}
 use Rattle.mb_core_spec.specs.Events.{beginning, begins, entering}
 use Rattle.mb_core_spec.specs.Flights.{IsFlying, IsTicket}
-use Rattle.mb_core_spec.specs.Numbers.{CanFollow}
+use Rattle.mb_core_spec.specs.Numbers.{AreInPlace, CanFollow}
 use Rattle.mb_core_spec.specs.Owed.{TablesMove}
 use Rattle.mb_core_spec.specs.Right.{IsOrderly}
 use Rattle.mb_core_spec.specs.State.{CallerState, CoreState, records_of, stand_at}
@@ -78,6 +79,11 @@ EntersAtOnce F D = (core : CoreState F D) (at : ℕ) (mine : CallerState) (call 
 abbrev pub EntriesRise : (F D : Type 0) → Type 0
 EntriesRise F D = (core : CoreState F D) → IsOrderly core → (one other : ℕ) (earlier later : Entry) → slice_get core.journal.history one ≡ Some earlier → slice_get core.journal.history other ≡ Some later → one < other
     → CanFollow later.caller later.ordinal later.moment earlier
+
+-- where every call that was begun has its entry, each caller's entries have the ordinals from 1 on, each in its place
+abbrev pub OrdinalsArePlaces : (F D : Type 0) → Type 0
+OrdinalsArePlaces F D = (core : CoreState F D) → IsOrderly core → begun core.callers ≡ length core.journal.history
+    → (caller : ℕ) → caller < length core.callers → AreInPlace (own core.journal.history caller)
 
 -- the log of a core in order has at most 2 ^ 32 operations
 abbrev pub LogIsShort : (F D : Type 0) → Type 0

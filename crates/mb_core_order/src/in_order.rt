@@ -1,4 +1,4 @@
-ghost use Rattle.mb_core_order.specs.Readings.{FreshIsPart, FloorIsNotStale, FourStalesAreAll, InsideFlies, OneIsInside, RecordsOfOthers, OthersStand, TablesByRule, EntersAtOnce, EntriesRise, LogIsShort};
+ghost use Rattle.mb_core_order.specs.Readings.{FreshIsPart, FloorIsNotStale, FourStalesAreAll, InsideFlies, OneIsInside, RecordsOfOthers, OthersStand, TablesByRule, EntersAtOnce, EntriesRise, OrdinalsArePlaces, LogIsShort};
 
 use mb_edge::Disk;
 
@@ -43,6 +43,11 @@ pub fn enters_at_once<F, D: Disk>()
 /// Of two entries of one caller the later has the greater ordinal and moment, and no two entries have one moment.
 pub fn entries_rise<F, D: Disk>()
     ensures { EntriesRise F D }
+{}
+
+/// Where every call that was begun has its entry, each caller's entries have the ordinals from 1 on, each in its place.
+pub fn ordinals_are_places<F, D: Disk>()
+    ensures { OrdinalsArePlaces F D }
 {}
 
 /// The log is short.

@@ -14,8 +14,8 @@ mod in_order;
 mod laws;
 
 pub use in_order::{
-    enters_at_once, floor_is_not_stale, fresh_is_part, inside_flies, log_is_short, others_stand,
-    tables_by_rule,
+    enters_at_once, floor_is_not_stale, fresh_is_part, inside_flies, log_is_short,
+    ordinals_are_places, others_stand, tables_by_rule,
 };
 pub use laws::{
     call_begins, call_ends, call_enters, call_gathers, call_is_answered, call_is_logged,

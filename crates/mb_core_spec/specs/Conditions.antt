@@ -7,6 +7,7 @@ use Rattle.mb_kinds.specs.declared.entries.Flight.{Flight}
 use Rattle.mb_kinds.specs.declared.faults.Ticket.{Ticket}
 use Rattle.mb_kinds.specs.declared.replies.Reply.{Reply}
 use Rattle.mb_edge.specs.Damage.{OpenCounts}
+use Rattle.mb_folds.specs.Folded.{folded}
 use Rattle.mb_tree.specs.CarriedOut.{IsCarriedOut}
 use Rattle.mb_tree.specs.Effect.{TreeAndOpens}
 use Rattle.mb_tree.specs.History.{IsFailed}
@@ -32,7 +33,7 @@ use Rattle.mb_session.specs.OpenFiles.{TellsCounts}
 use Rattle.mb_core_spec.specs.Events.{Gathers, GivesBack, Leaves, entry_for}
 use Rattle.mb_core_spec.specs.Faults.{FewDevices, Says}
 use Rattle.mb_core_spec.specs.Flights.{IsMine, is_pin}
-use Rattle.mb_core_spec.specs.Histories.{as_picked}
+use Rattle.mb_core_spec.specs.Histories.{as_picked, picked_ops}
 use Rattle.mb_core_spec.specs.Numbers.{open_calls, open_flight}
 use Rattle.mb_core_spec.specs.Owed.{Installs, IsIdle, IsPlain, Rises, TablesMove}
 use Rattle.mb_core_spec.specs.Performed.{IsReadyFor}
@@ -221,9 +222,10 @@ pub record MayFail {F D : Type 0} (core : CoreState F D) (room : JournalRoom) : 
   pub many : core.config.limit < length core.journal.records
   pub entries : core.journal.room.history ≤ room.history
 
--- the file system is started anew, on a disk that tells what it told
-pub record MayRemount {F D : Type 0} (told : D → Option Image) (faults : D → ℕ) (core : CoreState F D) (disk : D) (room : JournalRoom) : Type 0 where
+-- the file system is started anew, on a disk that tells what it told, and the log is folded
+pub record MayRemount {F D : Type 0} (told : D → Option Image) (faults : D → ℕ) (core : CoreState F D) (disk : D) (oplog : List Logged) (room : JournalRoom) : Type 0 where
   pub dropped : core.stage ≡ stage.Dropped
+  pub folds : picked_ops oplog ≡ folded (picked_ops core.journal.oplog)
   pub same : told disk ≡ told core.cache.disk
   pub later : faults core.cache.disk ≤ faults disk
   pub entries : core.journal.room.history ≤ room.history

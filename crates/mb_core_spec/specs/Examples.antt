@@ -1,13 +1,21 @@
 -- Worked examples: definitions evaluated on small cores.
-use Rattle.std.specs.Prelude.{List, [], ◌∷◌, ℕ, ◌+◌, ◌≡◌, Bool, true, false, Some, None}
+use Rattle.std.specs.Prelude.{List, [], ◌∷◌, ℕ, ◌+◌, ◌≡◌, Bool, true, false, Some, None, drop}
 use Rattle.mb_kinds.specs.declared.calls.Call.{Call}
+use Rattle.mb_kinds.specs.declared.entries.Entry.{Entry}
 use Rattle.mb_kinds.specs.declared.faults.FaultRecord.{FaultRecord}
 use Rattle.mb_kinds.specs.declared.faults.Kind.TheVariants.{Enter, Finish, Replay}
 use Rattle.mb_kinds.specs.declared.faults.Ticket.{Ticket}
+use Rattle.mb_kinds.specs.declared.replies.Reply.TheVariants.{Num}
+use Rattle.mb_tree.specs.CarriedOut.{PickedOp, operations}
+use Rattle.mb_tree.specs.History.{after_first}
+use Rattle.mb_tree.specs.declared.machines.Machine.{Machine}
+use Rattle.mb_tree.specs.declared.operations.FsOp.TheVariants.{Put}
 use Rattle.mb_core_spec.specs.Begun.{idle}
 use Rattle.mb_core_spec.specs.Callers.{begun}
 use Rattle.mb_core_spec.specs.Events.{begins, floor_after, without}
 use Rattle.mb_core_spec.specs.Faults.{IsTwice}
+use Rattle.mb_core_spec.specs.Histories.{IsLogOf, all_parts, relogged}
+use Rattle.mb_core_spec.specs.Numbers.{OwnsEntries}
 use Rattle.mb_core_spec.specs.State.{CallerState}
 use Rattle.mb_core_spec.specs.Trail.{Place, folds, next, watch_from}
 use Rattle.mb_core_spec.specs.Trail.Mode.{Runs}
@@ -76,6 +84,46 @@ WorkedNumbers = (call other : Call) →
     (begins 1000 (idle ∷ idle ∷ []) idle call ≡ with_first call 1001)
     × (begins 1000 (idle ∷ with_first call 1001 ∷ []) idle other ≡ with_first other 1002)
     × (begun (with_first other 1002 ∷ with_first call 1001 ∷ []) ≡ 2)
+
+-- a caller's entry of its call with that ordinal
+abbrev pub answered_entry : Call → ℕ → Entry
+answered_entry call ordinal = record { caller = 1; ordinal = ordinal; call = call; pick = None; moment = 1000 + ordinal; reply = Num 0 }
+
+-- a caller began three calls: two have their entries, and the third is in flight; or the second quit, and the third has its
+-- entry. Without a call that quit the third entry is not the second one
+abbrev pub WorkedCounts : Type 0
+WorkedCounts = (call : Call) →
+    OwnsEntries (answered_entry call 1 ∷ answered_entry call 2 ∷ []) (record (with_first call 1003) { begun = 3 })
+    × OwnsEntries (answered_entry call 1 ∷ answered_entry call 3 ∷ []) (record idle { begun = 3 })
+    × (OwnsEntries (answered_entry call 1 ∷ answered_entry call 3 ∷ []) (record idle { begun = 2 }) → ⊥)
+
+-- one byte put behind the others of a file
+abbrev pub put_one : ℕ → ℕ → PickedOp
+put_one offset byte = record { op = Put 3 offset (byte ∷ []) (1001 + offset); pick = None }
+
+abbrev pub first_two : PickedOp
+first_two = record { op = Put 3 0 (97 ∷ 98 ∷ []) 1002; pick = None }
+
+abbrev pub all_three : PickedOp
+all_three = record { op = Put 3 0 (97 ∷ 98 ∷ 99 ∷ []) 1003; pick = None }
+
+-- two writes in a row are folded by a recovery, a third one behind them comes later and stays until the next recovery folds all
+abbrev pub two_parts : List (List PickedOp)
+two_parts = (put_one 2 99 ∷ []) ∷ (put_one 0 97 ∷ put_one 1 98 ∷ []) ∷ []
+
+abbrev pub WorkedLogs : Type 0
+WorkedLogs =
+    (relogged two_parts ≡ first_two ∷ put_one 2 99 ∷ [])
+    × (relogged ([] ∷ two_parts) ≡ all_three ∷ [])
+    × (all_parts two_parts ≡ put_one 0 97 ∷ put_one 1 98 ∷ put_one 2 99 ∷ [])
+
+-- the logs that three entries may have, those with these writes
+abbrev pub WorkedLogsOf : Type 0
+WorkedLogsOf = (machine : Machine) (history : List Entry) (sealed_at : ℕ)
+    → operations (after_first machine history sealed_at) (drop sealed_at history) ≡ put_one 0 97 ∷ put_one 1 98 ∷ put_one 2 99 ∷ []
+    → IsLogOf machine history sealed_at (put_one 0 97 ∷ put_one 1 98 ∷ put_one 2 99 ∷ [])
+    × IsLogOf machine history sealed_at (first_two ∷ put_one 2 99 ∷ [])
+    × IsLogOf machine history sealed_at (all_three ∷ [])
 
 -- the fourth stale answer gives the right to commit alone, a fifth one leaves it, and giving it back is no other caller's
 abbrev pub WorkedFloor : Type 0

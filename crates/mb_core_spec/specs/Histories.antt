@@ -1,8 +1,9 @@
 -- The history, the checkpoint, and the operations since it that lead to now.
-use Rattle.std.specs.Prelude.{List, ℕ, ◌*◌, ◌≤◌, ◌≡◌, length, map}
+use Rattle.std.specs.Prelude.{List, [], ◌∷◌, ◌++◌, ℕ, ◌*◌, ◌≤◌, ◌≡◌, drop, length, map}
 use Rattle.mb_kinds.specs.Image.{Image}
 use Rattle.mb_kinds.specs.declared.entries.Entry.{Entry}
-use Rattle.mb_tree.specs.CarriedOut.{AreCarriedOut, FindFewOpens, PickedOp, tree_and_opens}
+use Rattle.mb_folds.specs.Folded.{folded}
+use Rattle.mb_tree.specs.CarriedOut.{AreCarriedOut, FindFewOpens, PickedOp, operations, tree_and_opens}
 use Rattle.mb_tree.specs.History.{Legal, after, after_first}
 use Rattle.mb_tree.specs.Machines.{IsValid}
 use Rattle.mb_tree.specs.Views.{Kept}
@@ -33,8 +34,25 @@ as_picked logged = record { op = logged.op; pick = logged.pick }
 abbrev pub picked_ops : List Logged → List PickedOp
 picked_ops oplog = map as_picked oplog
 
+-- operations in parts, the latest part first: what is left of them where all before a part were folded when it began
+abbrev pub relogged : List (List PickedOp) → List PickedOp
+relogged [] = []
+relogged (part ∷ before) = folded (relogged before) ++ part
+
+-- the parts one behind the other, the latest part last
+abbrev pub all_parts : List (List PickedOp) → List PickedOp
+all_parts [] = []
+all_parts (part ∷ before) = all_parts before ++ part
+
+-- a log is the list of operations of the entries after the checkpoint, with fronts of it folded
+pub record IsLogOf (machine : Machine) (history : List Entry) (sealed_at : ℕ) (ops : List PickedOp) : Type 0 where
+  pub parts : List (List PickedOp)
+  pub whole : all_parts parts ≡ operations (after_first machine history sealed_at) (drop sealed_at history)
+  pub left : relogged parts ≡ ops
+
 -- the logged operations lead from the checkpoint to now, and none of them finds more open files on an inode than 17 for
--- each caller
+-- each caller; they are those of the entries after the checkpoint, with fronts folded
 pub record ReplaysToNow (machine : Machine) (history : List Entry) (sealed_at : ℕ) (oplog : List Logged) : Type 0 where
   pub carried : AreCarriedOut (tree_and_opens (after_first machine history sealed_at)) (picked_ops oplog) (tree_and_opens (after machine history))
   pub few : FindFewOpens (17 * length machine.seats) (tree_and_opens (after_first machine history sealed_at)) (picked_ops oplog)
+  pub since : IsLogOf machine history sealed_at (picked_ops oplog)

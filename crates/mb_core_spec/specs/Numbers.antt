@@ -1,6 +1,7 @@
 -- The numbers of calls and their moments, and what the entries say of the fault records.
-use Rattle.std.specs.Prelude.{List, [], ◌∷◌, ℕ, ◌+◌, ◌<◌, ◌≤◌, ◌≡◌, ◌≢◌, Bool, true, false, if◌then◌else◌, Option, Some, None, length, slice_get}
-use Rattle.std.specs.List.{AllByRecursion}
+use Rattle.std.specs.Prelude.{List, [], ◌∷◌, ℕ, ◌+◌, ◌<◌, ◌≤◌, ◌≡◌, ◌≢◌, Bool, true, false, if◌then◌else◌, Option, Some, None, length, map, slice_get}
+use Rattle.std.specs.List.{AllByRecursion, range_with_len}
+use Rattle.mb_kinds.specs.Own.{own}
 use Rattle.mb_kinds.specs.declared.entries.Entry.{Entry}
 use Rattle.mb_kinds.specs.declared.entries.Flight.{Flight}
 use Rattle.mb_kinds.specs.declared.faults.FaultRecord.{FaultRecord}
@@ -43,6 +44,20 @@ is_open (Some flight) = true
 abbrev pub open_calls : List CallerState → ℕ
 open_calls callers = total (λ (mine : CallerState). one_if (is_open (open_flight mine.flight))) callers
 
+-- how many of a caller's calls have one of these entries, or are in flight without one
+abbrev pub known_calls : List Entry → CallerState → ℕ
+known_calls entries mine = length entries + one_if (is_open (open_flight mine.flight))
+
+-- entries have the ordinals from 1 on, each in its place
+abbrev pub AreInPlace : List Entry → Type 0
+AreInPlace entries = map (λ (entry : Entry). entry.ordinal) entries ≡ range_with_len 1 (length entries)
+
+-- a caller's own entries: each call that it began has one of them, or is in flight without one, or quit; where none quit, each
+-- entry has the ordinal of its place
+pub record OwnsEntries (entries : List Entry) (mine : CallerState) : Type 0 where
+  pub begun : known_calls entries mine ≤ mine.begun
+  pub places : mine.begun ≡ known_calls entries mine → AreInPlace entries
+
 -- an entry is a call of a declared caller, with a moment of those that were given out
 pub record IsEntry (start bound callers : ℕ) (entry : Entry) : Type 0 where
   pub caller : entry.caller < callers
@@ -58,6 +73,7 @@ pub record IsNumbered (config : Config) (journal : JournalState) (callers : List
   pub entries : AllByRecursion (IsEntry config.start (config.start + total (λ (mine : CallerState). mine.begun) callers) (length config.callers)) journal.history
   pub pairs : AreInOrder journal.history
   pub ordinals : EachCaller (λ caller mine. AllByRecursion (λ (entry : Entry). entry.caller ≡ caller → entry.ordinal ≤ mine.begun) journal.history) callers
+  pub counted : EachCaller (λ caller mine. OwnsEntries (own journal.history caller) mine) callers
   pub waiting : EachCaller (λ caller mine. (flight : Flight) → open_flight mine.flight ≡ Some flight
       → IsOpen config.start (config.start + total (λ (other : CallerState). other.begun) callers) journal.history caller mine.begun flight) callers
   pub apart : (one other : ℕ) (mine next : CallerState) (f g : Flight) → slice_get callers one ≡ Some mine → slice_get callers other ≡ Some next → one ≢ other

@@ -7,6 +7,7 @@ use Rattle.mb_edge.specs.declared.strokes.Stroke.{Stroke}
 use Rattle.mb_cache.specs.Pages.{PageList}
 use Rattle.mb_cache.specs.Stamps.{Stamps}
 use Rattle.mb_cache.specs.State.{CacheState}
+use Rattle.mb_oplog.specs.declared.oplogs.Logged.{Logged}
 use Rattle.mb_core_spec.specs.Events.{given_back, marked}
 use Rattle.mb_core_spec.specs.State.{CallerState, CoreState, JournalState}
 use Rattle.mb_core_spec.specs.declared.stages.Stage.TheVariants as stage
@@ -69,9 +70,13 @@ dropping core = record core { cache = record core.cache { current = [] }; journa
 abbrev pub failing : {F D : Type 0} → CoreState F D → CoreState F D
 failing core = record core { cache = record core.cache { current = [] }; journal = marked core.journal (step.Failed (length core.journal.records)); stage = stage.Failed }
 
--- the file system is started anew on the disk
-abbrev pub remounting : {F D : Type 0} → CoreState F D → D → CoreState F D
-remounting core disk = record core { cache = record core.cache { disk = disk }; journal = marked core.journal step.Remounted; stage = stage.Remounted }
+-- the file system is started anew on the disk, with a log that was folded
+abbrev pub remounting : {F D : Type 0} → CoreState F D → D → List Logged → CoreState F D
+remounting core disk oplog = record core {
+  cache = record core.cache { disk = disk };
+  journal = record (marked core.journal step.Remounted) { oplog = oplog };
+  stage = stage.Remounted;
+}
 
 -- the open files are those of the saved sessions
 abbrev pub reopening : {F D : Type 0} → CoreState F D → OpenCounts → CoreState F D

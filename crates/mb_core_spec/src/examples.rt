@@ -1,4 +1,4 @@
-ghost use Rattle.mb_core_spec.specs.Examples.{RefusedTraces, WorkedFloor, WorkedNumbers, WorkedRecords, WorkedTraces};
+ghost use Rattle.mb_core_spec.specs.Examples.{RefusedTraces, WorkedCounts, WorkedFloor, WorkedLogs, WorkedLogsOf, WorkedNumbers, WorkedRecords, WorkedTraces};
 
 /// Two callers who create one file, and a call that is struck twice: what their traces come to.
 pub fn worked_traces()
@@ -18,6 +18,17 @@ pub fn worked_records()
 /// The numbers and moments of two callers' first calls.
 pub fn worked_numbers()
     ensures { WorkedNumbers }
+{}
+
+/// The ordinals of a caller's entries, and a call that quit.
+pub fn worked_counts()
+    ensures { WorkedCounts }
+{}
+
+/// A log of three writes, as they came and folded.
+pub fn worked_logs()
+    ensures folded { WorkedLogs }
+    ensures entries { WorkedLogsOf }
 {}
 
 /// Who has the right to commit alone.

@@ -22,7 +22,10 @@ mod stages;
 mod steps;
 
 pub use config::Config;
-pub use examples::{refused_traces, worked_floor, worked_numbers, worked_records, worked_traces};
+pub use examples::{
+    refused_traces, worked_counts, worked_floor, worked_logs, worked_numbers, worked_records,
+    worked_traces,
+};
 pub use ready::Ready;
 pub use stages::Stage;
 pub use steps::Step;

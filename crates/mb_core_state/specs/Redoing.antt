@@ -1,10 +1,12 @@
--- What the steps of a recovery that read come to: the start of the file system, and an operation of the log that is done again.
+-- What the steps of a recovery that read come to: the start of the file system, where the log is folded, and an operation of
+-- the log that is done again.
 use Rattle.std.specs.Prelude.{List, ℕ, ◌<◌, ◌≡◌, Option, None, Some, slice_get}
 use Rattle.mb_kinds.specs.Image.{Image}
 use Rattle.mb_kinds.specs.declared.entries.Flight.{Flight}
 use Rattle.mb_kinds.specs.declared.replies.Reply.TheVariants as reply
 use Rattle.mb_edge.specs.Causes.{Rose}
 use Rattle.mb_edge.specs.Damage.{OpenCounts}
+use Rattle.mb_folds.specs.Folded.{folded}
 use Rattle.mb_tree.specs.Views.{IsPart}
 use Rattle.mb_tree.specs.Volume.{IsVolume}
 use Rattle.mb_tree.specs.declared.operations.FsOp.{FsOp}
@@ -21,8 +23,9 @@ use Rattle.mb_cache.specs.declared.answers.ReadFault.TheVariants as fault
 use Rattle.mb_tables.specs.Follows.{followed}
 use Rattle.mb_journal.specs.Room.{KeepsRoom}
 use Rattle.mb_core_spec.specs.Events.{GivesBack, Leaves, answered_by, with_room}
+use Rattle.mb_core_spec.specs.Histories.{picked_ops}
 use Rattle.mb_core_spec.specs.Numbers.{open_flight}
-use Rattle.mb_core_spec.specs.Recovery.{replaying}
+use Rattle.mb_core_spec.specs.Recovery.{remounting, replaying}
 use Rattle.mb_core_spec.specs.State.{CallerState, CoreState}
 use Rattle.mb_core_state.specs.Answers.{with_disk}
 
@@ -46,6 +49,13 @@ EndsByDevice old new (Some caller) = (mine : CallerState) → slice_get old.call
 abbrev pub FailsStep : {F D : Type 0} → (D → ℕ) → CoreState F D → CoreState F D → Option ℕ → ReadFault → Type 0
 FailsStep faults old new by fault.NoMemory = (new ≡ with_room (with_disk old new.cache.disk) new) × KeepsRoom old.journal.room new.journal.room
 FailsStep faults old new by fault.Device = Rose (faults old.cache.disk) (faults new.cache.disk) × EndsByDevice (with_disk old new.cache.disk) new by
+
+-- ---- the file system is started anew
+
+-- and the log was folded
+pub record IsRemounted {F D : Type 0} (old new : CoreState F D) : Type 0 where
+  pub folds : picked_ops new.journal.oplog ≡ folded (picked_ops old.journal.oplog)
+  pub event : new ≡ with_room (remounting old new.cache.disk new.journal.oplog) new
 
 -- ---- an operation is done again
 

@@ -1,7 +1,7 @@
 ghost use Rattle.std.specs.Prelude.{◌≡◌, ◌<◌, ◌≤◌, ◌+◌, length, nat_lt, OnOk, OnErr, IsOk};
 ghost use Rattle.mb_session.specs.OpenFiles.{TellsCounts};
 ghost use Rattle.mb_core_spec.specs.Events.{Leaves, with_room};
-ghost use Rattle.mb_core_spec.specs.Recovery.{dropping, failing, flushing, remounting, reopening, resuming, sealing};
+ghost use Rattle.mb_core_spec.specs.Recovery.{dropping, failing, flushing, reopening, resuming, sealing};
 ghost use Rattle.mb_tree.specs.Sessions.{counts};
 ghost use Rattle.mb_cache.specs.Pages.{under};
 ghost use Rattle.mb_cache.specs.State.{Flushes};

@@ -5,10 +5,9 @@ ghost use Rattle.mb_cache.specs.State.{ReadHasCause};
 ghost use Rattle.mb_journal.specs.Room.{KeepsRoom};
 ghost use Rattle.mb_core_spec.specs.Events.{Leaves, with_room};
 ghost use Rattle.mb_core_spec.specs.Numbers.{open_flight};
-ghost use Rattle.mb_core_spec.specs.Recovery.{remounting};
 ghost use Rattle.mb_core_spec.specs.State.{CallerState};
 ghost use Rattle.mb_core_state.specs.Answers.{with_disk};
-ghost use Rattle.mb_core_state.specs.Redoing.{ActsSeen, EndsByDevice, FailsStep, HasOpenRoom, IsReplayed, redoing};
+ghost use Rattle.mb_core_state.specs.Redoing.{ActsSeen, EndsByDevice, FailsStep, HasOpenRoom, IsRemounted, IsReplayed, redoing};
 ghost use Rattle.mb_core_state.specs.Rooms.{HasPins};
 
 use crate::acting::act_seen;
@@ -54,13 +53,14 @@ impl<F: FileSys, D: Disk> Fields<F, D> {
     }
 }
 
-// ---- the file system is started anew
+// ---- the file system is started anew, and the log is folded
 
 impl<F: FileSys, D: Disk> Fields<F, D> {
-    /// Nothing is kept of what was read, and block 1 is read. `Device` comes only where the disk's count of faults rose; on
-    /// an error nothing has changed but the disk.
-    fn start_anew(&mut self) -> Result<(), ReadFault>
-        ensures ok { OnOk result (self.new ≡ with_room (remounting self.old self.new.cache.disk) self.new) }
+    /// Nothing is kept of what was read, block 1 is read, and the log is folded. `Device` comes only where the disk's count
+    /// of faults rose; on an error nothing has changed but the disk.
+    fn start_anew(&mut self, alloc: Global) -> Result<(), ReadFault>
+        requires { length self.old.journal.oplog < 4294967296 }
+        ensures ok { OnOk result (IsRemounted self.old self.new) }
         ensures err { OnErr result ((self.new ≡ with_room (with_disk self.old self.new.cache.disk) self.new) × KeepsRoom self.old.journal.room self.new.journal.room) }
         ensures told { D.told self.new.cache.disk ≡ D.told self.old.cache.disk }
         ensures cause { ReadHasCause (D.faults self.old.cache.disk) (D.faults self.new.cache.disk) result }
@@ -69,24 +69,26 @@ impl<F: FileSys, D: Disk> Fields<F, D> {
         self.journal.reserve_steps(1)?;
         self.cache.forget_clean();
         self.cache.read(1)?;
+        self.journal.fold(alloc)?;
         self.journal.mark(Step::Remounted);
         self.stage = Stage::Remounted;
         Ok(())
     }
 
-    /// The file system is started anew, where the dirty pages were dropped. `Device` comes only where the disk's count of
-    /// faults rose; the call for which the step is made ends with that entry then, where it has none.
-    pub fn remount(&mut self, by: Option<u8>) -> Result<(), ReadFault>
+    /// The file system is started anew, where the dirty pages were dropped, and the log is folded. `Device` comes only where
+    /// the disk's count of faults rose; the call for which the step is made ends with that entry then, where it has none.
+    pub fn remount(&mut self, alloc: Global, by: Option<u8>) -> Result<(), ReadFault>
+        requires few { length self.old.journal.oplog < 4294967296 }
         requires caller { IfSome by (λ caller. caller < length self.old.callers) }
         requires pins { IfSome by (HasPins self.old) }
         requires room { IfSome by (HasOpenRoom self.old) }
-        ensures ok { OnOk result (self.new ≡ with_room (remounting self.old self.new.cache.disk) self.new) }
+        ensures ok { OnOk result (IsRemounted self.old self.new) }
         ensures err { IfErr result (FailsStep D.faults self.old self.new by) }
         ensures told { D.told self.new.cache.disk ≡ D.told self.old.cache.disk }
         ensures later { D.faults self.old.cache.disk ≤ D.faults self.new.cache.disk }
         ensures room { OnOk result (self.old.journal.room.history ≤ self.new.journal.room.history) }
     {
-        match self.start_anew() {
+        match self.start_anew(alloc) {
             Ok(()) => Ok(()),
             Err(ReadFault::NoMemory) => Err(ReadFault::NoMemory),
             Err(ReadFault::Device) => {

@@ -1,6 +1,6 @@
 use crate::checks::{all_answered_once, is_legal, replayed, stale, unwound};
 use crate::examples::{
-    Example, FAILING_REMOUNT, FLOOR_TAKEN, LIMIT_PASSED, RACED_CREAT, RESUMED_BY_OTHER,
+    Example, FAILING_REMOUNT, FLOOR_TAKEN, FOLDED_RUN, LIMIT_PASSED, RACED_CREAT, RESUMED_BY_OTHER,
     STRUCK_TWICE, TWO_CALLERS_WIPED,
 };
 use crate::walks::{Failing, NOTHING_FAILS, job, walk};
@@ -87,6 +87,11 @@ fn struck_twice(rt: HostRuntime) -> Result<(), Fail> {
 #[test]
 fn limit_passed(rt: HostRuntime) -> Result<(), Fail> {
     goes(&rt, LIMIT_PASSED, NOTHING_FAILS, GIVEN_UP)
+}
+
+#[test]
+fn folded_run(rt: HostRuntime) -> Result<(), Fail> {
+    goes(&rt, FOLDED_RUN, NOTHING_FAILS, END)
 }
 
 #[test]

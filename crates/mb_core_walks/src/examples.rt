@@ -257,6 +257,74 @@ a enter done
     replayed: 1,
 };
 
+/// The recovery folds the log: a mode that was set twice is set once, and writes that meet are one. What is done again is a
+/// Create, a SetMode and two Puts.
+pub const FOLDED_RUN: Example = Example {
+    job: "\
+threshold = 4096
+calls = ['a creat /f 644', 'a chmod /f 600', 'a chmod /f 640', 'a text 3 ab', 'a text 3 cd', 'a lseek 3 0 0',
+    'a text 3 e', 'a stat /f']
+faults = ['8 enter 0 1 wipe 4']
+",
+    lines: "\
+1 a creat /f 644 = 3
+2 a chmod /f 600 = 0
+3 a chmod /f 640 = 0
+4 a text 3 ab = 2
+5 a text 3 cd = 2
+6 a lseek 3 0 0 = 0
+7 a text 3 e = 1
+8 a stat /f = ino 3 mode 100640 nlink 1 uid 0 gid 0 size 4 atime 1 mtime 7 ctime 7
+9 a exit = 0
+",
+    events: "\
+a enter inside
+a finish logged
+a leave left
+a enter inside
+a finish logged
+a leave left
+a enter inside
+a finish logged
+a leave left
+a enter inside
+a finish logged
+a leave left
+a enter inside
+a finish logged
+a leave left
+a enter inside
+a finish logged
+a leave left
+a enter inside
+a finish logged
+a leave left
+a enter inside
+a struck 1
+a enter shut
+a unwinds
+a unwound
+a dropped
+a remounted
+a reopened
+a replayed 1
+a replayed 2
+a replayed 3
+a replayed 4
+a resumed
+a enter inside
+a finish logged
+a leave left
+a enter inside
+a finish logged
+a leave left
+",
+    faults: 1,
+    stale: 0,
+    unwound: 1,
+    replayed: 4,
+};
+
 /// A fault of the disk in a recovery ends the call that runs the step.
 pub const FAILING_REMOUNT: Example = Example {
     job: "\

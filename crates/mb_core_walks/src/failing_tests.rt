@@ -1,6 +1,6 @@
 use crate::checks::{all_answered_once, is_legal};
 use crate::examples::{
-    Example, FAILING_REMOUNT, FLOOR_TAKEN, LIMIT_PASSED, RACED_CREAT, RESUMED_BY_OTHER,
+    Example, FAILING_REMOUNT, FLOOR_TAKEN, FOLDED_RUN, LIMIT_PASSED, RACED_CREAT, RESUMED_BY_OTHER,
     STRUCK_TWICE, TWO_CALLERS_WIPED,
 };
 use crate::walks::{Failing, NOTHING_FAILS, Walked, job, walk};
@@ -162,6 +162,11 @@ fn struck_twice(rt: HostRuntime) -> Result<(), Fail> {
 #[test]
 fn limit_passed(rt: HostRuntime) -> Result<(), Fail> {
     fails_at_each_call(&rt, LIMIT_PASSED)
+}
+
+#[test]
+fn folded_run(rt: HostRuntime) -> Result<(), Fail> {
+    fails_at_each_call(&rt, FOLDED_RUN)
 }
 
 #[test]

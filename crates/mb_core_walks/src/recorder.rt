@@ -22,8 +22,6 @@ impl<C: EventCore> EventCore for Recorder<C> {
 
     ghost sight = { λ recorder. C.sight recorder.core };
 
-    ghost may_seal = { λ recorder. C.may_seal recorder.core };
-
     ghost faults = { λ recorder. C.faults recorder.core };
 
     ghost origin = { λ recorder. C.origin recorder.core };
@@ -66,8 +64,15 @@ impl<C: EventCore> EventCore for Recorder<C> {
         answer
     }
 
-    fn finish(&mut self, alloc: Global, ticket: &Ticket, pages: &Pages, ready: Ready) -> Finished {
-        let answer = self.core.finish(alloc, ticket, pages, ready);
+    fn finish(
+        &mut self,
+        alloc: Global,
+        ticket: &Ticket,
+        pages: &Pages,
+        call: &Call,
+        ready: Ready,
+    ) -> Finished {
+        let answer = self.core.finish(alloc, ticket, pages, call, ready);
         note_finish(&mut self.notes, ticket.caller, answer);
         answer
     }

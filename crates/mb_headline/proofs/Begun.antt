@@ -36,6 +36,12 @@ total_idle (suc n) f none = let rest = total_idle n f none in omega (arith, rest
 no_stage : stage.Running ≡ stage.Failed → ⊥
 no_stage same = cc
 
+no_fault : stage.Running ≡ stage.Struck → ⊥
+no_fault same = cc
+
+no_recovery : stage.Running ≡ stage.Again → ⊥
+no_recovery same = cc
+
 module _ {F D : Type 0} (fs : F) (first : D) (config : Config) (cache : CacheState D) (opens : OpenCounts) (room : JournalRoom) (good : IsConfig config) where
   abbrev core : CoreState F D
   core = begun_core fs first config cache opens room
@@ -49,9 +55,12 @@ module _ {F D : Type 0} (fs : F) (first : D) (config : Config) (cache : CacheSta
     limit = good.limit;
     callers = good.callers;
     left = omega arith;
+    struck = λ is. absurd (no_fault is);
+    again = λ is. absurd (no_recovery is);
     floor = λ holder is. absurd (no_some holder is);
     fresh = λ holder is runs. absurd (no_some holder is);
     open_calls = λ free. total_idle (length config.callers) _ refl;
+    seals = record { few = (let due = good.due in omega (arith, due)); synced = tt };
     dropped = λ failed. absurd (no_stage failed);
   }
 

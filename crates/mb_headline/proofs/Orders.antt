@@ -42,6 +42,7 @@ driven_apart job test old new drives = record {
   config = drives.config;
   free = drives.free;
   own_calls = drives.own_calls;
+  begun = drives.begun;
   moments = drives.moments;
   sound = sound_by_all test new.records drives.sound;
 }

@@ -1,9 +1,13 @@
 -- A job that was begun, driven and ended.
-use Rattle.std.proofs.Common.{◌≡◌, ◌≢◌, List, [], ◌∷◌, ℕ, ◌≤◌, true, false, Option, None, Some, IsSome, length, refl, ap, sym, subst, ◌∙◌, arith}
+use Rattle.std.proofs.Common.{◌≡◌, ◌≢◌, List, [], ◌∷◌, ℕ, suc, ◌≤◌, true, false, Option, None, Some, IsSome, length, slice_get, refl, ap, sym, subst, ◌∙◌, arith}
+use Rattle.std.proofs.lemmas.List.{length-map}
 use Rattle.std.specs.List.{AllByRecursion}
+use Rattle.mb_core_order.proofs.Readings.{in_places}
+use Rattle.mb_core_spec.specs.Callers.{total}
 use Rattle.mb_core_spec.specs.Faults.{FewDevices, MayNumber, Says}
-use Rattle.mb_core_spec.specs.State.{CoreState}
+use Rattle.mb_core_spec.specs.State.{CallerState, CoreState}
 use Rattle.mb_core_spec.specs.declared.stages.Stage.{Stage}
+use Rattle.mb_jobs.specs.declared.jobs.Caller.{Caller}
 use Rattle.mb_jobs.specs.declared.jobs.Job.{Job}
 use Rattle.mb_kinds.specs.Image.{Image}
 use Rattle.mb_kinds.specs.declared.entries.Entry.{Entry}
@@ -12,14 +16,17 @@ use Rattle.mb_kinds.specs.declared.replies.Reply.{Reply}
 use Rattle.mb_kinds.specs.declared.replies.Reply.TheVariants as reply
 use Rattle.mb_plan.specs.Fires.{fires}
 use Rattle.mb_plan.specs.declared.rules.Rule.{Rule}
+use Rattle.mb_run.specs.CoreSight.{seat_of}
 use Rattle.mb_run.specs.Drives.{HasEachMoment}
+use Rattle.mb_run.specs.Sights.{Seat}
 use Rattle.mb_run.specs.Recovering.{crossing_of}
 use Rattle.mb_run.specs.Runs.{AreDistinct, HasFailed, HasRecords, NamesTwo}
+use Rattle.mb_run.specs.Seals.{AreInTime}
 use Rattle.mb_run.specs.Served.{AreApart, AreSoundBy, IsApart, calls_in}
 use Rattle.mb_tree.specs.History.{Legal}
 use Rattle.mb_tree.specs.Opening.{opening}
 use Rattle.mb_tree.specs.declared.trees.Tree.{Tree}
-use Rattle.mb_headline.specs.Headline.{HasHistory, HasOwnCalls, IsConfigOf, IsRun, opened}
+use Rattle.mb_headline.specs.Headline.{HasHistory, HasOrdinals, HasOwnCalls, IsConfigOf, IsRun, opened}
 use Rattle.mb_headline.specs.Laws.{IsEarly, IsPath}
 use Rattle.mb_headline.proofs.Planned.{fires_early}
 
@@ -79,6 +86,25 @@ all_failed : (records : List FaultRecord) (limit : ℕ) (now : Stage) (history :
 all_failed records limit now [] few says = tt
 all_failed records limit now (entry ∷ history) few says = (says_failed records limit now entry.caller entry.ordinal entry.reply few says.0, all_failed records limit now history few says.1)
 
+-- ---- how many calls were begun
+
+-- callers that began as many calls each began as many together
+same_begun : (now old : List CallerState) → ((caller : ℕ) → (seat_of (slice_get now caller)).begun ≡ (seat_of (slice_get old caller)).begun)
+    → total (λ (mine : CallerState). mine.begun) now ≡ total (λ (mine : CallerState). mine.begun) old
+same_begun [] [] each = refl
+same_begun [] (mine ∷ old) each =
+    let none : 0 ≡ mine.begun = each 0 in
+    let rest = same_begun [] old (λ caller. each (suc caller)) in
+    omega (arith, none, rest)
+same_begun (mine ∷ now) [] each =
+    let none : mine.begun ≡ 0 = each 0 in
+    let rest = same_begun now [] (λ caller. each (suc caller)) in
+    omega (arith, none, rest)
+same_begun (mine ∷ now) (one ∷ old) each =
+    let first : mine.begun ≡ one.begun = each 0 in
+    let rest = same_begun now old (λ caller. each (suc caller)) in
+    omega (arith, first, rest)
+
 -- ---- the path
 
 module _ {F D : Type 0} (fs : F) (told : D → Option Image) (faults : D → ℕ) (job : Job) (disk : D) (begun driven ended : CoreState F D) (path : IsPath fs told faults job disk begun driven ended) where
@@ -110,6 +136,15 @@ module _ {F D : Type 0} (fs : F) (told : D → Option Image) (faults : D → ℕ
   path_calls : HasOwnCalls job ended.journal.history
   path_calls caller low = ap (λ h. calls_in h caller) path_history ∙ path.drives.own_calls caller low
 
+  path_begun : total (λ (mine : CallerState). mine.begun) ended.callers ≡ length ended.journal.history
+  path_begun = same_begun ended.callers driven.callers (λ caller. ap (λ (seat : Seat). seat.begun) (path.keeps.seats caller)) ∙ path.drives.begun ∙ ap length (sym path_history)
+
+  path_ordinals : HasOrdinals job ended.journal.history
+  path_ordinals caller low =
+      let declared : length ended.config.callers ≡ length job.callers = ap length path_config.callers ∙ length-map job.callers (λ (one : Caller). one.cred) in
+      let seated = path.right.orderly.numbered.callers_are in
+      in_places ended path.right.orderly path_begun caller (omega (arith, low, declared, seated))
+
   path_sound : AreSoundBy (λ (caller : ℕ). Some (fires job.plan)) ended.journal.records
   path_sound = subst (AreSoundBy (λ (caller : ℕ). Some (fires job.plan))) (sym path_records) path.drives.sound
 
@@ -138,8 +173,10 @@ module _ {F D : Type 0} (fs : F) (told : D → Option Image) (faults : D → ℕ
     config = path_config;
     legal = path_legal;
     own_calls = path_calls;
+    ordinals = path_ordinals;
     moments = subst (HasEachMoment job.start) (sym path_history) path.drives.moments;
     records = path_recorded early;
     failures = all_failed ended.journal.records job.limit ended.stage ended.journal.history path_few path_says;
     devices = path_devices;
+    seals = subst (λ n. AreInTime n (length ended.journal.oplog) ended.journal.sealed_at ended.journal.history) path_config.threshold path.seals;
   }

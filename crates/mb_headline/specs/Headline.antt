@@ -3,6 +3,7 @@ use Rattle.std.specs.Prelude.{List, [], ℕ, ◌+◌, ◌-◌, ◌^◌, ◌<◌,
 use Rattle.std.specs.List.{AllByRecursion}
 use Rattle.mb_core_spec.specs.Callers.{EachCaller}
 use Rattle.mb_core_spec.specs.Faults.{FewDevices, is_device}
+use Rattle.mb_core_spec.specs.Numbers.{AreInPlace}
 use Rattle.mb_core_spec.specs.Right.{Right}
 use Rattle.mb_core_spec.specs.State.{CoreState}
 use Rattle.mb_core_spec.specs.declared.config.Config.{Config}
@@ -10,12 +11,14 @@ use Rattle.mb_core_spec.specs.declared.stages.Stage.TheVariants as stage
 use Rattle.mb_jobs.specs.declared.jobs.Caller.{Caller}
 use Rattle.mb_jobs.specs.declared.jobs.Job.{Job}
 use Rattle.mb_kinds.specs.Image.{Image}
+use Rattle.mb_kinds.specs.Own.{own}
 use Rattle.mb_kinds.specs.declared.entries.Entry.{Entry}
 use Rattle.mb_kinds.specs.declared.faults.FaultRecord.{FaultRecord}
 use Rattle.mb_run.specs.Drives.{HasEachMoment, IsLinedUp}
 use Rattle.mb_run.specs.Letters.{letters_of}
 use Rattle.mb_plan.specs.declared.rules.Rule.{Rule}
 use Rattle.mb_run.specs.Runs.{FirstsRise, HasFailed, HasRecords, HasTakenFaults}
+use Rattle.mb_run.specs.Seals.{AreInTime}
 use Rattle.mb_run.specs.Served.{calls_in, calls_of}
 use Rattle.mb_tree.specs.History.{Legal, after_first}
 use Rattle.mb_tree.specs.Opening.{opening}
@@ -57,19 +60,26 @@ abbrev pub RiseAsOrdered : Option (List ℕ) → List Caller → List Entry → 
 RiseAsOrdered None callers history = Unit {0}
 RiseAsOrdered (Some order) callers history = FirstsRise order (letters_of callers) history
 
+-- each caller's entries have the ordinals from 1 on, each in its place
+abbrev pub HasOrdinals : Job → List Entry → Type 0
+HasOrdinals job history = (caller : ℕ) → caller < length job.callers → AreInPlace (own history caller)
+
 -- a job that was run over a disk, however its callers were run: the core began over it for the job; its history is a legal one,
--- in which each caller's calls stand once, in its order, each at one of the moments after the start; its fault records are of
--- faults of the plan; and the disk ended at most as many calls as it had faults
+-- in which each caller's calls stand once, in its order, with the ordinals from 1 on, each at one of the moments after the start;
+-- its fault records are of faults of the plan; the disk ended at most as many calls as it had faults; and checkpoints were taken in
+-- time: since the last one no sync(2) was done and fewer operations than the threshold are logged, also where the volume failed
 pub record IsRun {F D : Type 0} (told : D → Option Image) (faults : D → ℕ) (job : Job) (disk : D) (core : CoreState F D) : Type 0 where
   pub right : Right told faults core
   pub first : told core.first ≡ told disk
   pub config : IsConfigOf job core.config
   pub legal : HasHistory told job disk core.journal.history
   pub own_calls : HasOwnCalls job core.journal.history
+  pub ordinals : HasOrdinals job core.journal.history
   pub moments : HasEachMoment job.start core.journal.history
   pub records : HasRecords job.plan core.journal.history core.journal.records
   pub failures : AllByRecursion (λ (entry : Entry). HasFailed job.limit core.journal.records entry.reply) core.journal.history
   pub devices : FewDevices (faults disk) (faults core.cache.disk) core.journal.history
+  pub seals : AreInTime job.threshold (length core.journal.oplog) core.journal.sealed_at core.journal.history
 
 -- in list order the faults of the plan are taken: a call with a plain reply met each that a rule has at its first fault points
 abbrev pub TakesPlanned : Option (List ℕ) → List Rule → List Entry → List FaultRecord → Type 0

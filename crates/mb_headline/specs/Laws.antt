@@ -19,6 +19,7 @@ use Rattle.mb_run.specs.CoreSight.{sight_of}
 use Rattle.mb_run.specs.Drives.{IsBegun, IsDriven, IsDrivenApart, IsRunnable}
 use Rattle.mb_run.specs.Letters.{AreLetters, letters_of}
 use Rattle.mb_run.specs.Runs.{AllStrike}
+use Rattle.mb_run.specs.Seals.{AreInTime}
 use Rattle.mb_run.specs.Settling.{IsSettled, Keeps}
 use Rattle.mb_run.specs.Sights.{Sight}
 use Rattle.mb_headline.specs.Headline.{FewerDevices, IsConfigOf, IsDone, IsGivenUp, IsRun, KeepsOrder, LeavesImage}
@@ -78,6 +79,7 @@ pub record IsPath {F D : Type 0} (fs : F) (told : D → Option Image) (faults : 
   pub first : ended.first ≡ begun.first
   pub same_config : ended.config ≡ begun.config
   pub keeps : Keeps (sight_of driven) (sight_of ended)
+  pub seals : AreInTime ended.config.threshold (length ended.journal.oplog) ended.journal.sealed_at ended.journal.history
   pub right : Right told faults ended
 
 -- such a run is one of the job, where that is fit to be run

@@ -1,5 +1,7 @@
-ghost use Rattle.std.specs.Prelude.{◌≡◌, ◌∷◌, ◌++◌, ◌+◌, ◌<◌, ◌≤◌, [], ℕ, Some, length, slice_get, OnOk, IsOk};
+ghost use Rattle.std.specs.Prelude.{◌≡◌, ◌∷◌, ◌++◌, ◌+◌, ◌<◌, ◌≤◌, [], ℕ, Some, length, slice_get, OnErr, OnOk, IsOk};
+ghost use Rattle.mb_folds.specs.Folded.{folded};
 ghost use Rattle.mb_core_spec.specs.Events.{Leaves, booked, logged_op, marked};
+ghost use Rattle.mb_core_spec.specs.Histories.{picked_ops};
 ghost use Rattle.mb_journal.specs.Room.{HasEntryRoom, KeepsRoom, LeavesFault};
 
 use mb_core_spec::Step;
@@ -80,7 +82,7 @@ impl Journal {
         self.sealed_at
     }
 
-    /// How many operations were logged since the last checkpoint.
+    /// How many operations the log has: those since the last checkpoint, as they were logged or folded.
     pub fn logged(&self) -> u32
         requires { length self.now.oplog < 4294967296 }
         ensures { result ≡ length self.now.oplog }
@@ -194,6 +196,18 @@ impl Journal {
         self.records.push(fault);
         self.trail.push(Step::Struck(number));
         number
+    }
+
+    /// Folds the log of operations, before a recovery does it again. Nothing else changes. The only error is want of
+    /// memory, and nothing has changed then.
+    pub fn fold(&mut self, alloc: Global) -> Result<(), NoMemory>
+        requires { length self.old.oplog < 4294967296 }
+        ensures same { self.new ≡ record self.old { oplog = self.new.oplog; room = record self.old.room { oplog = self.new.room.oplog } } }
+        ensures ok { OnOk result (picked_ops self.new.oplog ≡ folded (picked_ops self.old.oplog)) }
+        ensures err { OnErr result (self.new ≡ self.old) }
+        ensures kept { self.old.room.oplog ≤ self.new.room.oplog }
+    {
+        mb_oplog_fold::fold(alloc, &mut self.oplog)
     }
 
     /// A checkpoint at the present number of entries: the log is empty after it. Needs no memory.

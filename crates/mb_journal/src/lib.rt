@@ -3,8 +3,8 @@
 //!
 //! A contract sees a `Journal` as `mb_core_spec`'s `JournalState`, and each thing that is added to it is an equation of
 //! that crate's (`specs/Events.antt`, `specs/Recovery.antt`). The room is a number for each of its four lists: so many
-//! elements are added without memory. `reserve_entry` and the other calls named `reserve` take it, and no other call may
-//! want memory, so that who reserved first can carry an event through.
+//! elements are added without memory. `reserve_entry` and the other calls named `reserve` take it, and beside them `fold`
+//! alone, which folds the log before it is done again, may want memory: who reserved first can carry an event through.
 #![tactic(auto)]
 
 mod journals;

@@ -12,10 +12,10 @@ use Rattle.mb_oplog.specs.declared.oplogs.Logged.{Logged}
 use Rattle.mb_session.specs.OpenFiles.{TellsCounts}
 use Rattle.mb_cache.specs.declared.answers.ReadFault.TheVariants as read
 use Rattle.mb_core_spec.specs.Events.{with_room}
-use Rattle.mb_core_spec.specs.Recovery.{dropping, failing, remounting, reopening, resuming, striking_again}
+use Rattle.mb_core_spec.specs.Recovery.{dropping, failing, reopening, resuming, striking_again}
 use Rattle.mb_core_spec.specs.State.{CoreState}
 use Rattle.mb_core_spec.specs.declared.stages.Stage.TheVariants as stage
-use Rattle.mb_core_state.specs.Redoing.{FailsStep, IsReplayed}
+use Rattle.mb_core_state.specs.Redoing.{FailsStep, IsRemounted, IsReplayed}
 use Rattle.mb_core_state.specs.declared.answers.Phase.{Phase}
 use Rattle.mb_core_state.specs.declared.answers.Phase.TheVariants as phase
 use Rattle.mb_core_events.specs.Callings.{HasOpenCall, MayReplayNow, Unwinds, phase_now}
@@ -81,11 +81,11 @@ Drops old new stepped.Dropped = (phase_now old ≡ phase.Drop) × (length old.jo
 Drops old new (stepped.Failed faults) = (phase_now old ≡ phase.Drop) × (faults ≡ length old.journal.records) × (old.config.limit < faults) × (new ≡ with_room (failing old) new)
 Drops old new _ = ⊥
 
--- the file system is started anew
+-- the file system is started anew, and the log is folded
 abbrev pub Remounts : {F D : Type 0} → (D → ℕ) → CoreState F D → CoreState F D → Option ℕ → Stepped → Type 0
-Remounts faults old new by stepped.Remounted = (phase_now old ≡ phase.Remount) × (new ≡ with_room (remounting old new.cache.disk) new)
+Remounts faults old new by stepped.Remounted = (phase_now old ≡ phase.Remount) × IsRemounted old new
 Remounts faults old new by stepped.Device = (phase_now old ≡ phase.Remount) × FailsStep faults old new by read.Device
-Remounts faults old new by stepped.NoMemory = FailsStep faults old new by read.NoMemory
+Remounts faults old new by stepped.NoMemory = (phase_now old ≡ phase.Remount) × FailsStep faults old new by read.NoMemory
 Remounts faults old new by _ = ⊥
 
 -- an operation of the log is done again
@@ -93,7 +93,7 @@ abbrev pub Replays : {F D : Type 0} → (D → Option Image) → (D → ℕ) →
 Replays told faults old new by (stepped.Replayed number) = (phase_now old ≡ phase.Replay number)
     × ((done : ℕ) (logged : Logged) → old.stage ≡ stage.Restored done → slice_get old.journal.oplog done ≡ Some logged → IsReplayed told old new done logged)
 Replays told faults old new by stepped.Device = MayReplayNow (phase_now old) × FailsStep faults old new by read.Device
-Replays told faults old new by stepped.NoMemory = FailsStep faults old new by read.NoMemory
+Replays told faults old new by stepped.NoMemory = MayReplayNow (phase_now old) × FailsStep faults old new by read.NoMemory
 Replays told faults old new by _ = ⊥
 
 -- the steps that are no fault points

@@ -22,7 +22,7 @@ pub enum Stepped {
     Failed { faults: u32 },
     /// The dirty pages were dropped.
     Dropped,
-    /// The file system was started anew.
+    /// The file system was started anew, and the operation log was folded.
     Remounted,
     /// The open files are those of the last checkpoint.
     Reopened,
@@ -58,7 +58,7 @@ pub fn recover_step<F: FileSys, D: Disk, H: Hook>(
         Phase::Idle => Stepped::Idle,
         Phase::Unwind => Stepped::Unwound(core.unwind()),
         Phase::Drop => drop_pages(core),
-        Phase::Remount => remount(core, by, hook),
+        Phase::Remount => remount(alloc, core, by, hook),
         Phase::Reopen => match core.reopen(alloc) {
             Ok(()) => Stepped::Reopened,
             Err(NoMemory) => Stepped::NoMemory,
@@ -87,8 +87,9 @@ fn drop_pages<F: FileSys, D: Disk>(core: &mut Core<F, D>) -> Stepped
     }
 }
 
-/// The file system is started anew, where the hook does not fault.
+/// The file system is started anew and the log is folded, where the hook does not fault.
 fn remount<F: FileSys, D: Disk, H: Hook>(
+    alloc: Global,
     core: &mut Core<F, D>,
     by: &mut Option<Crossings>,
     hook: &mut H,
@@ -105,7 +106,7 @@ fn remount<F: FileSys, D: Disk, H: Hook>(
         return strike(core, at, hook);
     }
     callers_declared(core);
-    match core.remount(caller_of(by)) {
+    match core.remount(alloc, caller_of(by)) {
         Ok(()) => Stepped::Remounted,
         Err(ReadFault::Device) => Stepped::Device,
         Err(ReadFault::NoMemory) => Stepped::NoMemory,

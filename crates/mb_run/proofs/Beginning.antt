@@ -91,6 +91,7 @@ listed job test old new callers begun none same ran config right taken =
       config = config;
       free = λ caller low. (let few : caller < callers = omega (arith, low, same, declared job old new begun config) in ran.free caller few);
       own_calls = λ caller low. (let few : caller < callers = omega (arith, low, same) in ran.own_calls caller few);
+      begun = ran.begun;
       moments = subst (λ n. HasEachMoment n new.history) start (each_moment new right ran.begun);
       lined = subst (λ order. IsLinedUp order job.calls job.start new.history) (sym none) (ran.listed, subst (λ n. moments_in new.history ≡ range_with_len (n + 1) (length new.history)) start ran.moments);
       firsts = subst (λ order. RisesByOrder order job.callers new.history) (sym none) tt;
@@ -106,6 +107,7 @@ ordered job test old new callers order begun some same done config right rises =
       config = config;
       free = λ caller low. (let few : caller < callers = omega (arith, low, same, declared job old new begun config) in done.free caller few);
       own_calls = λ caller low. (let few : caller < callers = omega (arith, low, same) in done.own_calls caller few);
+      begun = done.begun;
       moments = subst (λ n. HasEachMoment n new.history) start (each_moment new right done.begun);
       lined = subst (λ given. IsLinedUp given job.calls job.start new.history) (sym some) tt;
       firsts = subst (λ given. RisesByOrder given job.callers new.history) (sym some) rises;

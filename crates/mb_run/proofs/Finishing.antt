@@ -6,7 +6,6 @@ use Rattle.mb_calls.specs.declared.performing.Performed.TheVariants as performed
 use Rattle.mb_calls.specs.declared.performing.Ready.{Ready}
 use Rattle.mb_core_spec.specs.Copies.{KeptBlock, PagesState, kept_at, shown}
 use Rattle.mb_core_spec.specs.declared.stages.Stage.TheVariants as stage
-use Rattle.mb_core_state.specs.declared.answers.Finished.TheVariants as finished
 use Rattle.mb_iface.specs.Needs.{IsNeed}
 use Rattle.mb_iface.specs.declared.replies.Need.{Need}
 use Rattle.mb_jobs.specs.declared.jobs.JobCall.{JobCall}
@@ -14,9 +13,9 @@ use Rattle.mb_kinds.specs.declared.calls.Call.{Call}
 use Rattle.mb_kinds.specs.declared.entries.Flight.{Flight}
 use Rattle.mb_kinds.specs.declared.faults.Kind.{Kind}
 use Rattle.mb_kinds.specs.declared.faults.Ticket.{Ticket}
-use Rattle.mb_run.specs.Events.{Finishes, IsReadyAt, sealed}
+use Rattle.mb_run.specs.Events.{IsCallOf, IsReadyAt, SealsIf, sealed}
 use Rattle.mb_run.specs.Pages.{HasTablesFor, Performs, has}
-use Rattle.mb_run.specs.Served.{Acts, Asks, Did, IsAtBy, IsHeld, IsServed, IsStanding, MayStep, SealsIf, calls_in, calls_of}
+use Rattle.mb_run.specs.Served.{Acts, Asks, Did, IsAtBy, IsHeld, IsServed, IsStanding, MayStep, calls_in, calls_of}
 use Rattle.mb_run.specs.Sights.{HasTicket, Sight}
 use Rattle.mb_run.specs.declared.progress.Went.TheVariants as went
 use Rattle.mb_run.specs.declared.runner.At.{At}
@@ -48,19 +47,20 @@ module _ (calls : List JobCall) (test : Option (Crossing → Bool)) (old : Sight
   pub held_declared : ticket.caller < old.config.callers
   held_declared = subst (λ n. n < old.config.callers) (sym stood.1.mine) may.within
 
+  -- the call in flight is that one
+  pub call_at : IsCallOf (old.seats ticket.caller) call
+  call_at flight here =
+      let is : flight ≡ stood.0.flight = same_Some flight stood.0.flight (sym here ∙ ap (λ n. (old.seats n).flight) stood.1.mine ∙ stood.0.here) in
+      let at_it = subst (IsAtBy (calls_of calls runner.crossings.caller) (calls_in old.history runner.crossings.caller) runner.done (old.seats runner.crossings.caller).begun) stood.0.here may.served.calls in
+      ap (λ (f : Flight). f.call) is ∙ sym (same_Some call stood.0.flight.call (sym may.next ∙ at_it.2))
+
   -- what was performed is of the call in flight
   pub ready_at : (ready : Ready) → Performs runner.pages ticket.caller call ticket.moment (performed.Ready ready) → IsReadyAt old ticket runner.pages ready
   ready_at ready performs flight here =
       let is : flight ≡ stood.0.flight = same_Some flight stood.0.flight (sym here ∙ ap (λ n. (old.seats n).flight) stood.1.mine ∙ stood.0.here) in
-      let at_it = subst (IsAtBy (calls_of calls runner.crossings.caller) (calls_in old.history runner.crossings.caller) runner.done (old.seats runner.crossings.caller).begun) stood.0.here may.served.calls in
-      let call_is : call ≡ flight.call = same_Some call stood.0.flight.call (sym may.next ∙ at_it.2) ∙ ap (λ (f : Flight). f.call) (sym is) in
       let moment_is : ticket.moment ≡ flight.moment = stood.0.moment ∙ ap (λ (f : Flight). f.moment) (sym is) in
       subst (λ m. Performs runner.pages ticket.caller flight.call m (performed.Ready ready)) moment_is
-      (subst (λ made. Performs runner.pages ticket.caller made ticket.moment (performed.Ready ready)) call_is performs)
-
-  -- a volume on which a call was logged runs
-  pub logged_runs : (new : Sight) → Finishes old new ticket runner.pages finished.Logged → new.stage ≡ stage.Running
-  logged_runs new finishes = finishes.2.stays.stage ∙ stood.1.runs finishes.0
+      (subst (λ made. Performs runner.pages ticket.caller made ticket.moment (performed.Ready ready)) (sym (call_at flight here)) performs)
 
 -- the fault injector let the call go on: its pages are as before
 pub asked_ready : (test : Option (Crossing → Bool)) (old mid : Sight) (before m : Runner) (ticket : Ticket) (kind : Kind) (call : Call) (ready : Ready) → Asks test old mid before m ticket kind false

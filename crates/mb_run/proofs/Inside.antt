@@ -152,7 +152,7 @@ module _ (calls : List JobCall) (test : Option (Crossing → Bool)) (old : Sight
         (λ made line. line_open runner.crossings.caller stood.0.flight reply.Device old new made stood.0.here line)
         (λ made. inl (record { was = stood.0.flight; here = stood.0.here; ordinal = refl; moment = refl }))
 
-    pub did_busy : (new : Sight) (holder : Ticket) → Finishes old new ticket runner.pages (finished.Busy holder) → Did calls test old new runner (record runner { asked = true }) (went.Busy holder)
+    pub did_busy : (new : Sight) (holder : Ticket) → Finishes old new ticket runner.pages call (finished.Busy holder) → Did calls test old new runner (record runner { asked = true }) (went.Busy holder)
     did_busy new holder finishes = subst (λ (s : Sight). Did calls test old s runner (record runner { asked = true }) (went.Busy holder)) (sym finishes.3) (record {
       nears = record {
         same = refl;
@@ -166,7 +166,7 @@ module _ (calls : List JobCall) (test : Option (Crossing → Bool)) (old : Sight
       goes = (refl, omega arith, refl, finishes.1, (λ same. finishes.2 (same ∙ sym own_ticket)), stood.1.runs finishes.0);
     })
 
-    pub did_stale : (new : Sight) (block : ℕ) → Finishes old new ticket runner.pages (finished.Stale block) → Did calls test old new runner (record runner { asked = false; pages = no_pages }) went.On
+    pub did_stale : (new : Sight) (block : ℕ) → Finishes old new ticket runner.pages call (finished.Stale block) → Did calls test old new runner (record runner { asked = false; pages = no_pages }) went.On
     did_stale new block finishes =
         let present = finishes.0 in
         let stale = subst (λ n. IsStale n old new runner.pages) own_ticket finishes.1 in
@@ -206,10 +206,9 @@ module _ (calls : List JobCall) (test : Option (Crossing → Bool)) (old : Sight
           goes = (refl, omega (arith, same.0, same.1, same.2, free, is, rank_was present, few, missing_most (has no_pages) 262144));
         }
 
-    pub did_log : (new : Sight) → Finishes old new ticket runner.pages finished.Logged → Did calls test old new runner (record runner { at = at.Logged ticket; answered = true }) went.On
-    did_log new finishes =
-        let present = finishes.0 in
-        let logs = subst (λ n. Logs n old new ticket) own_ticket finishes.2 in
+    pub did_log : (new : Sight) → ticket.incarnation ≡ old.incarnation → Logs ticket.caller old new ticket → Did calls test old new runner (record runner { at = at.Logged ticket; answered = true }) went.On
+    did_log new present of =
+        let logs = subst (λ n. Logs n old new ticket) own_ticket of in
         let same = same_work new logs.stays.config logs.stays.records logs.stays.stage in
         let free : busy runner.crossings.caller new.floor ≡ 0 = ap (busy runner.crossings.caller) logs.floor in
         let after : ticket.incarnation ≡ new.incarnation = present ∙ sym logs.stays.incarnation in

@@ -6,6 +6,7 @@ pub mod TallySteps
 pub mod TallyRolls
 pub mod Firsts
 pub mod Acting
+pub mod InTime
 pub mod Places
 pub mod Missing
 pub mod Balance

@@ -134,6 +134,10 @@ module _ (calls : List JobCall) (test : Option (Crossing → Bool)) (old : Sight
     | inr same ↦ (let is : busy runner.crossings.caller new.floor ≡ busy runner.crossings.caller old.floor = ap (busy runner.crossings.caller) same in omega (arith, is))
   ]
 
+  -- a step forward leaves fewer steps
+  left_less : (new : Sight) → Rolls old new → new.left < old.left
+  left_less new rolls = let shorter = rolls.waits.log.ops in let fewer = rolls.fewer in omega (arith, shorter, fewer)
+
   pub rolled_on : (new : Sight) (crossings : Crossings) → GoesOn runner.crossings crossings → IsWaiting (old.seats runner.crossings.caller) → Rolls old new → recovers new.stage ≡ true → Rolled calls test old new runner (with_crossings runner crossings) went.On
   rolled_on new crossings on waiting rolls still =
       let same : length new.records ≡ length old.records = ap length rolls.records in
@@ -146,7 +150,7 @@ module _ (calls : List JobCall) (test : Option (Crossing → Bool)) (old : Sight
           refl,
           rw (rolls.waits.seats runner.crossings.caller) waiting,
           still,
-          (omega (arith, same, limits new rolls.waits, rolls.fewer)),
+          (omega (arith, same, limits new rolls.waits, left_less new rolls)),
           omega (arith, same, limits new rolls.waits, now, was, busy_less new rolls.waits, ranks new rolls.waits),
         );
       }

@@ -17,11 +17,12 @@ use Rattle.mb_kinds.specs.declared.faults.Kind.TheVariants.{Enter, Gather, Finis
 use Rattle.mb_kinds.specs.declared.faults.Ticket.{Ticket}
 use Rattle.mb_kinds.specs.declared.replies.Reply.{Reply}
 use Rattle.mb_kinds.specs.declared.replies.Reply.TheVariants as reply
-use Rattle.mb_run.specs.Events.{Answers, Enters, EntersInside, Finishes, Gains, Gathers, IsUnplain, LeavesWith, Logs, entry_of}
+use Rattle.mb_run.specs.Events.{Answers, Enters, EntersInside, Finishes, Gains, Gathers, IsUnplain, LeavesWith, Logs, SealsIf, entry_of}
+use Rattle.mb_run.specs.Seals.{is_due}
 use Rattle.mb_run.specs.Pages.{has}
 use Rattle.mb_run.specs.Recovering.{awaits_remount}
 use Rattle.mb_run.specs.Runs.{is_plain}
-use Rattle.mb_run.specs.Served.{Asks, IsAtBy, IsHeld, IsMarked, IsStanding, MayStep, SealsIf, advanced, calls_in, calls_of}
+use Rattle.mb_run.specs.Served.{Asks, IsAtBy, IsHeld, IsMarked, IsStanding, MayStep, advanced, calls_in, calls_of}
 use Rattle.mb_run.specs.Sights.{HasTicket, Sight, flight_of}
 use Rattle.mb_run.specs.Tallies.{IsBetween, IsEntering, IsFinishing, IsPast, IsTallied}
 use Rattle.mb_run.specs.declared.answers.Enter.TheVariants as enter
@@ -106,10 +107,10 @@ module _ (calls : List JobCall) (test : Option (Crossing → Bool)) (old : Sight
       subst (λ (s : Sight). IsFinishing test s m ticket) (sym asks.0) (subst (λ (r : Runner). IsFinishing test old r ticket) (sym asks.1)
       (record { tallied = finish_go test old runner may.counts ticket (here tally) lacks asks.2 there; fresh = (here tally).present.1 }))
 
-  pub finishing_skip : (new : Sight) (mine was : ℕ) (now : Runner) → Finishes old new ticket runner.pages (finished.Skip mine was) → IsFinishing test old runner ticket → IsTallied test new now now.at
+  pub finishing_skip : (new : Sight) (mine was : ℕ) (now : Runner) → Finishes old new ticket runner.pages call (finished.Skip mine was) → IsFinishing test old runner ticket → IsTallied test new now now.at
   finishing_skip new mine was now finishes finishing = absurd (finishes.0 finishing.tallied.present)
 
-  pub finishing_stale : (new : Sight) (block : ℕ) (now : Runner) → Finishes old new ticket runner.pages (finished.Stale block) → IsFinishing test old runner ticket → IsTallied test new now now.at
+  pub finishing_stale : (new : Sight) (block : ℕ) (now : Runner) → Finishes old new ticket runner.pages call (finished.Stale block) → IsFinishing test old runner ticket → IsTallied test new now now.at
   finishing_stale new block now finishes finishing =
       let spoiled : old.fresh ticket.caller ≡ false = finishes.1.spoiled (ap old.copies own ∙ stood.1.same finishes.0) in
       absurd (let wrong : true ≡ false = sym finishing.fresh ∙ ap old.fresh (sym own) ∙ spoiled in cc)
@@ -121,19 +122,18 @@ module _ (calls : List JobCall) (test : Option (Crossing → Bool)) (old : Sight
   now_past e (inl mine) = absurd (let wrong : false ≡ true = mine.2 in cc)
   now_past e (inr past) = inr past
 
-  logs_tally : (mid : Sight) → Finishes old mid ticket runner.pages finished.Logged → IsFinishing test old runner ticket → IsTallied test mid logged (at.Logged ticket)
-  logs_tally mid finishes finishing =
-      let logs : Logs ticket.caller old mid ticket = finishes.2 in
+  logs_tally : (mid : Sight) → ticket.incarnation ≡ old.incarnation → Logs ticket.caller old mid ticket → IsFinishing test old runner ticket → IsTallied test mid logged (at.Logged ticket)
+  logs_tally mid now logs finishing =
       let tally = finishing.tallied in
       let one : logs.flight ≡ stood.0.flight = same_Some logs.flight stood.0.flight (sym logs.was ∙ ap (λ n. (old.seats n).flight) own ∙ stood.0.here) in
       let entry : Entry = entry_of ticket.caller logs.flight logs.pick logs.answer in
       let place : entry.ordinal ≡ runner.crossings.ordinal = ap (λ (f : Flight). f.ordinal) one ∙ sym stood.0.ordinal ∙ ordinal in
-      let runs = stood.1.runs finishes.0 in
+      let runs = stood.1.runs now in
       let past = subst (λ (b : Bool). AllByRecursion (IsPast test old.records runner.crossings b) old.history) lacks tally.entries in
       let same = logs.stays.records in
       record {
         asked = tally.asked;
-        present = finishes.0 ∙ sym logs.stays.incarnation;
+        present = now ∙ sym logs.stays.incarnation;
         records = rw same tally.records;
         enters = rw same tally.enters;
         finishes = rw same tally.finishes;
@@ -151,15 +151,19 @@ module _ (calls : List JobCall) (test : Option (Crossing → Bool)) (old : Sight
             (all_both (IsPast test old.records runner.crossings true) old.history (entry ∷ []) (all_map (IsPast test old.records runner.crossings false) (IsPast test old.records runner.crossings true) old.history now_past past) (inl (own, place, refl), tt));
       }
 
-  pub finishing_logged : (mid new : Sight) (due : Bool) → Finishes old mid ticket runner.pages finished.Logged → SealsIf due mid new → IsFinishing test old runner ticket → IsTallied test new logged (at.Logged ticket)
-  finishing_logged mid new true finishes seals finishing =
-      let was = logs_tally mid finishes finishing in
+  seals_tally : (mid new : Sight) (due : Bool) → IsTallied test mid logged (at.Logged ticket) → SealsIf due mid new → IsTallied test new logged (at.Logged ticket)
+  seals_tally mid new true was seals =
       let records : new.records ≡ mid.records = ap (λ (s : Sight). s.records) seals in
       let on : new.stage ≡ mid.stage = ap (λ (s : Sight). s.stage) seals in
       let history : new.history ≡ mid.history = ap (λ (s : Sight). s.history) seals in
       let incarnation : new.incarnation ≡ mid.incarnation = ap (λ (s : Sight). s.incarnation) seals in
       tally_on test mid new logged logged (at.Logged ticket) (at.Logged ticket) was records on history refl refl was.asked (was.present ∙ sym incarnation) was.passed (omega arith) (omega arith)
-  finishing_logged mid new false finishes seals finishing = subst (λ (s : Sight). IsTallied test s logged (at.Logged ticket)) (sym seals) (logs_tally mid finishes finishing)
+  seals_tally mid new false was seals = subst (λ (s : Sight). IsTallied test s logged (at.Logged ticket)) (sym seals) was
+
+  pub finishing_logged : (new : Sight) → Finishes old new ticket runner.pages call finished.Logged → IsFinishing test old runner ticket → IsTallied test new logged (at.Logged ticket)
+  finishing_logged new finishes finishing =
+      let of = finishes.2 in
+      seals_tally of.logged new (is_due of.logged.config.threshold of.logged.ops call) (logs_tally of.logged finishes.0 of.logs finishing) of.seals
 
 -- ---- a call leaves
 

@@ -1,5 +1,5 @@
 -- What a driver sees of a core for eight callers.
-use Rattle.std.specs.Prelude.{[], ◌∷◌, ℕ, Bool, true, ◌&&◌, nat_eq, nat_le, Option, None, Some, length, slice_get}
+use Rattle.std.specs.Prelude.{[], ◌∷◌, ℕ, Bool, true, ◌&&◌, nat_eq, Option, None, Some, length, slice_get}
 use Rattle.mb_cache.specs.Stamps.{Stamps, stamp_of}
 use Rattle.mb_core_spec.specs.Callers.{begun, insiders}
 use Rattle.mb_core_spec.specs.Copies.{CopyList, KeptBlock, LiveTables, PagesState, TableCopy, kept_at, no_pages}
@@ -59,7 +59,3 @@ sight_of core = record {
   sealed = length core.cache.sealed;
   config = limits_of core.config;
 }
-
--- there is room for the step of a checkpoint, and for ten more
-abbrev pub has_seal_room : {F D : Type 0} → CoreState F D → Bool
-has_seal_room core = nat_le 11 core.journal.room.trail

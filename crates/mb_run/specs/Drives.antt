@@ -70,6 +70,7 @@ pub record IsDriven (job : Job) (test : Option (Crossing → Bool)) (old new : S
   pub config : new.config ≡ old.config
   pub free : (caller : ℕ) → caller < new.config.callers → (new.seats caller).flight ≡ None
   pub own_calls : (caller : ℕ) → caller < length job.callers → calls_in new.history caller ≡ calls_of job.calls caller
+  pub begun : new.begun ≡ length new.history
   pub moments : HasEachMoment job.start new.history
   pub lined : IsLinedUp job.order job.calls job.start new.history
   pub firsts : RisesByOrder job.order job.callers new.history
@@ -103,5 +104,6 @@ pub record IsDrivenApart (job : Job) (tests : ℕ → Option (Crossing → Bool)
   pub config : new.config ≡ old.config
   pub free : (caller : ℕ) → caller < new.config.callers → (new.seats caller).flight ≡ None
   pub own_calls : (caller : ℕ) → caller < length job.callers → calls_in new.history caller ≡ calls_of job.calls caller
+  pub begun : new.begun ≡ length new.history
   pub moments : HasEachMoment job.start new.history
   pub sound : AreSoundBy tests new.records

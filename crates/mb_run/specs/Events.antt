@@ -1,5 +1,5 @@
 -- What the events of a core make of what the driver sees, by their answers.
-use Rattle.std.specs.Prelude.{ℕ, ◌+◌, ◌<◌, ◌≡◌, ◌≢◌, ◌⊎◌, List, [], ◌∷◌, ◌++◌, length, min, true, false, Option, Some, None}
+use Rattle.std.specs.Prelude.{ℕ, ◌+◌, ◌<◌, ◌≤◌, ◌≡◌, ◌≢◌, ◌⊎◌, List, [], ◌∷◌, ◌++◌, length, min, Bool, true, false, Option, Some, None}
 use Rattle.std.specs.List.{Contains}
 use Rattle.mb_kinds.specs.declared.calls.Call.{Call}
 use Rattle.mb_kinds.specs.declared.entries.Entry.{Entry}
@@ -10,7 +10,8 @@ use Rattle.mb_kinds.specs.declared.replies.Reply.{Reply}
 use Rattle.mb_kinds.specs.declared.replies.Reply.TheVariants as reply
 use Rattle.mb_core_spec.specs.Copies.{PagesState, no_pages, shown}
 use Rattle.mb_run.specs.Pages.{HasTablesFor, Performs, has}
-use Rattle.mb_run.specs.Sights.{Sight, one_if, recovers, flight_of, is_new, IsOld}
+use Rattle.mb_run.specs.Seals.{is_due}
+use Rattle.mb_run.specs.Sights.{Seat, Sight, one_if, recovers, flight_of, is_new, IsOld}
 use Rattle.mb_calls.specs.declared.performing.Ready.{Ready}
 use Rattle.mb_calls.specs.declared.performing.Performed.{Performed}
 use Rattle.mb_calls.specs.declared.performing.Performed.TheVariants as performed
@@ -47,6 +48,11 @@ pub record Counts (old new : Sight) : Type 0 where
   pub begun : new.begun ≡ old.begun
   pub open_calls : new.open_calls ≡ old.open_calls
 
+-- no checkpoint is taken, and no operation is logged; the log of a recovery may have been folded
+pub record KeepsLog (old new : Sight) : Type 0 where
+  pub sealed_at : new.sealed_at ≡ old.sealed_at
+  pub ops : new.ops ≤ old.ops
+
 -- the call is in flight and waits
 pub record Begins (caller : ℕ) (flight : Flight) (old new : Sight) : Type 0 where
   pub stays : Stays caller old new
@@ -54,6 +60,7 @@ pub record Begins (caller : ℕ) (flight : Flight) (old new : Sight) : Type 0 wh
   pub history : new.history ≡ old.history
   pub begun : new.begun ≡ old.begun + one_if (is_new (old.seats caller).flight)
   pub open_calls : new.open_calls ≡ old.open_calls + one_if (is_new (old.seats caller).flight)
+  pub log : KeepsLog old new
   pub floor : new.floor ≡ old.floor
 
 abbrev pub entry_of : ℕ → Flight → Option ℕ → Reply → Entry
@@ -66,6 +73,7 @@ pub record Answers (caller : ℕ) (flight : Flight) (answer : Reply) (old new : 
   pub history : new.history ≡ old.history ++ entry_of caller flight None answer ∷ []
   pub begun : new.begun ≡ old.begun + one_if (is_new (old.seats caller).flight)
   pub open_calls : new.open_calls + 1 ≡ old.open_calls + one_if (is_new (old.seats caller).flight)
+  pub log : KeepsLog old new
   pub floor : (new.floor ≡ None) ⊎ (new.floor ≡ old.floor)
 
 -- the flight, which has its entry, ends
@@ -75,6 +83,7 @@ pub record Leaves (caller : ℕ) (flight : Flight) (old new : Sight) : Type 0 wh
   pub answered : flight.answered ≡ true
   pub mine : new.seats caller ≡ record { begun = (old.seats caller).begun; flight = None }
   pub counts : Counts old new
+  pub log : KeepsLog old new
   pub floor : (new.floor ≡ None) ⊎ (new.floor ≡ old.floor)
 
 -- EIO for a restart, or the failed volume's answer
@@ -119,6 +128,7 @@ pub record Gains (caller : ℕ) (old new : Sight) (need : Need) (before now : Pa
   pub stays : Stays caller old new
   pub mine : new.seats caller ≡ old.seats caller
   pub counts : Counts old new
+  pub log : KeepsLog old new
   pub floor : new.floor ≡ old.floor
   pub same : old.copies caller ≡ before → new.copies caller ≡ now
   pub stales : new.stales caller ≡ old.stales caller
@@ -139,6 +149,7 @@ pub record IsStale (caller : ℕ) (old new : Sight) (pages : PagesState) : Type 
   pub stays : Stays caller old new
   pub mine : new.seats caller ≡ old.seats caller
   pub counts : Counts old new
+  pub log : KeepsLog old new
   pub was : (old.floor ≡ None) ⊎ (old.floor ≡ Some caller)
   pub floor : (new.floor ≡ None) ⊎ (new.floor ≡ Some caller)
   pub empty : new.copies caller ≡ no_pages
@@ -157,15 +168,36 @@ pub record Logs (caller : ℕ) (old new : Sight) (ticket : Ticket) : Type 0 wher
   pub history : new.history ≡ old.history ++ entry_of caller flight pick answer ∷ []
   pub begun : new.begun ≡ old.begun
   pub open_calls : new.open_calls + 1 ≡ old.open_calls
+  pub sealed_at : new.sealed_at ≡ old.sealed_at
   pub floor : new.floor ≡ None
   pub trail : new.trail ≡ old.trail ++ step.Logged ticket ∷ []
 
-abbrev pub Finishes : Sight → Sight → Ticket → PagesState → Finished → Type 0
-Finishes old new ticket pages (finished.Skip mine was) = (ticket.incarnation ≢ old.incarnation) × (new ≡ old)
-Finishes old new ticket pages (finished.Busy holder) = (ticket.incarnation ≡ old.incarnation) × (old.floor ≡ Some holder.caller) × (holder.caller ≢ ticket.caller) × (new ≡ old)
-Finishes old new ticket pages (finished.Stale block) = (ticket.incarnation ≡ old.incarnation) × IsStale ticket.caller old new pages
-Finishes old new ticket pages finished.NoMemory = (ticket.incarnation ≡ old.incarnation) × (new ≡ old)
-Finishes old new ticket pages finished.Logged = (ticket.incarnation ≡ old.incarnation) × ((old.floor ≡ None) ⊎ (old.floor ≡ Some ticket.caller)) × Logs ticket.caller old new ticket
+-- a checkpoint is taken
+abbrev pub sealed : Sight → Sight → Sight
+sealed old new = record old {
+  trail = old.trail ++ step.Sealed (length old.history) ∷ [];
+  ops = 0;
+  sealed_at = length old.history;
+  current = 0;
+  sealed = new.sealed;
+}
+
+abbrev pub SealsIf : Bool → Sight → Sight → Type 0
+SealsIf true old new = new ≡ sealed old new
+SealsIf false old new = new ≡ old
+
+-- the call is logged, and the checkpoint that is then due is taken
+pub record LogsInTime (caller : ℕ) (old new : Sight) (ticket : Ticket) (made : Call) : Type 0 where
+  pub logged : Sight
+  pub logs : Logs caller old logged ticket
+  pub seals : SealsIf (is_due logged.config.threshold logged.ops made) logged new
+
+abbrev pub Finishes : Sight → Sight → Ticket → PagesState → Call → Finished → Type 0
+Finishes old new ticket pages made (finished.Skip mine was) = (ticket.incarnation ≢ old.incarnation) × (new ≡ old)
+Finishes old new ticket pages made (finished.Busy holder) = (ticket.incarnation ≡ old.incarnation) × (old.floor ≡ Some holder.caller) × (holder.caller ≢ ticket.caller) × (new ≡ old)
+Finishes old new ticket pages made (finished.Stale block) = (ticket.incarnation ≡ old.incarnation) × IsStale ticket.caller old new pages
+Finishes old new ticket pages made finished.NoMemory = (ticket.incarnation ≡ old.incarnation) × (new ≡ old)
+Finishes old new ticket pages made finished.Logged = (ticket.incarnation ≡ old.incarnation) × ((old.floor ≡ None) ⊎ (old.floor ≡ Some ticket.caller)) × LogsInTime ticket.caller old new ticket made
 
 abbrev pub LeavesWith : Sight → Sight → Ticket → Left → Type 0
 LeavesWith old new ticket (left.Skip mine was) = (ticket.incarnation ≢ old.incarnation) × (new ≡ old)
@@ -175,6 +207,10 @@ LeavesWith old new ticket (left.Left answer) = (ticket.incarnation ≡ old.incar
 abbrev pub IsReadyAt : Sight → Ticket → PagesState → Ready → Type 0
 IsReadyAt sight ticket pages ready = (flight : Flight) → (sight.seats ticket.caller).flight ≡ Some flight
     → Performs pages ticket.caller flight.call flight.moment (performed.Ready ready)
+
+-- the call in flight is that one
+abbrev pub IsCallOf : Seat → Call → Type 0
+IsCallOf seat made = (flight : Flight) → seat.flight ≡ Some flight → flight.call ≡ made
 
 -- what is asked for is not there yet
 abbrev pub IsAsked : PagesState → Performed → Type 0
@@ -189,6 +225,7 @@ pub record Strikes (old new : Sight) (ticket : Ticket) (kind : Kind) (nth : ℕ)
   pub incarnation : new.incarnation ≡ old.incarnation + 1
   pub seats : (other : ℕ) → new.seats other ≡ old.seats other
   pub counts : Counts old new
+  pub log : KeepsLog old new
   pub floor : new.floor ≡ old.floor
 
 abbrev pub FaultsWith : Sight → Sight → Ticket → Kind → ℕ → Fault → Type 0
@@ -196,16 +233,6 @@ FaultsWith old new ticket kind nth (fault.Skip mine was) = (ticket.incarnation �
 FaultsWith old new ticket kind nth (fault.Struck number) = (ticket.incarnation ≡ old.incarnation) × Strikes old new ticket kind nth
 
 -- ---- what no caller does
-
--- a checkpoint is taken
-abbrev pub sealed : Sight → Sight → Sight
-sealed old new = record old {
-  trail = old.trail ++ step.Sealed (length old.history) ∷ [];
-  ops = 0;
-  sealed_at = length old.history;
-  current = 0;
-  sealed = new.sealed;
-}
 
 -- a checkpointed page is written back
 abbrev pub FlushesWith : Sight → Sight → Flushed → Type 0
@@ -218,4 +245,5 @@ pub record Quits (caller : ℕ) (old new : Sight) : Type 0 where
   pub stays : Stays caller old new
   pub mine : (new.seats caller).flight ≡ None
   pub history : new.history ≡ old.history
+  pub log : KeepsLog old new
   pub trail : new.trail ≡ old.trail

@@ -1,5 +1,5 @@
 -- Worked examples: the definitions of a run, evaluated.
-use Rattle.std.specs.Prelude.{List, [], ◌∷◌, ℕ, ◌+◌, ◌≡◌, true, false, Some, None}
+use Rattle.std.specs.Prelude.{List, [], ◌∷◌, ℕ, ◌+◌, ◌≡◌, true, false, None}
 use Rattle.mb_core_spec.specs.declared.steps.Step.TheVariants as step
 use Rattle.mb_jobs.specs.declared.jobs.JobCall.{JobCall}
 use Rattle.mb_kinds.specs.declared.calls.Call.TheVariants.{Sync, Exit}
@@ -8,7 +8,8 @@ use Rattle.mb_kinds.specs.declared.faults.FaultRecord.{FaultRecord}
 use Rattle.mb_kinds.specs.declared.faults.Kind.TheVariants.{Finish, Gather}
 use Rattle.mb_kinds.specs.declared.faults.Ticket.{Ticket}
 use Rattle.mb_kinds.specs.declared.replies.Reply.TheVariants as reply
-use Rattle.mb_run.specs.Runs.{AreNear, EntersFirst, IsSealedAsAsked, Mark, begun_from, calm_prefix, is_near, is_struck_first, pair_rises, sealings}
+use Rattle.mb_run.specs.Runs.{AreNear, EntersFirst, begun_from, calm_prefix, is_near, is_struck_first, pair_rises}
+use Rattle.mb_run.specs.Seals.{AreInTime, is_due, is_synced}
 
 -- callers a and b
 abbrev pub letters : List ℕ
@@ -66,19 +67,17 @@ struck = record { caller = 0; ordinal = 2; kind = Gather; nth = 1 } ∷ record {
 abbrev pub WorkedFaults : Type 0
 WorkedFaults = AreNear 0 struck × (is_struck_first struck 0 2 Gather ≡ true) × (is_near 0 Finish 3 ≡ false)
 
-abbrev pub grows : Mark
-grows = record { grows = true; syncs = false }
+-- a call that ended after the first one of its caller, and a sync(2) that the failed volume answered
+abbrev pub ended : Entry
+ended = record (entry 0 2 2) { call = Exit }
 
-abbrev pub reads : Mark
-reads = record { grows = false; syncs = false }
+abbrev pub given_up : Entry
+given_up = record (entry 0 1 1) { reply = reply.Failed 1 }
 
-abbrev pub syncs : Mark
-syncs = record { grows = false; syncs = true }
-
--- with a threshold of 1: a checkpoint after an operation and after sync(2), none after a call without an operation; one that
--- is left out is told
+-- with a threshold of 2 a checkpoint is due after two operations and after sync(2), and not after one; behind one that was taken
+-- after sync(2) stands a call that is none; a sync(2) that was not done asks for no checkpoint
 abbrev pub WorkedCheckpoints : Type 0
 WorkedCheckpoints =
-    IsSealedAsAsked 1 (grows ∷ syncs ∷ []) [] (step.Logged (ticket 0 1) ∷ step.Sealed 1 ∷ step.Left (ticket 0 1) ∷ step.Logged (ticket 0 2) ∷ step.Sealed 2 ∷ [])
-    × IsSealedAsAsked 2 (grows ∷ reads ∷ []) [] (step.Logged (ticket 0 1) ∷ step.Left (ticket 0 1) ∷ step.Logged (ticket 0 2) ∷ [])
-    × (sealings 1 (Some (record { marks = grows ∷ []; ops = 0; due = false; others = 0 })) (step.Logged (ticket 0 1) ∷ step.Left (ticket 0 1) ∷ []) ≡ None)
+    (is_due 2 2 Exit ≡ true) × (is_due 2 1 Exit ≡ false) × (is_due 2 0 Sync ≡ true)
+    × (is_synced (entry 0 1 1) ≡ true) × (is_synced ended ≡ false) × (is_synced given_up ≡ false)
+    × AreInTime 2 1 1 (entry 0 1 1 ∷ ended ∷ [])

@@ -1,4 +1,5 @@
 pub mod Pages
+pub mod Seals
 pub mod Sights
 pub mod CoreSight
 pub mod Events

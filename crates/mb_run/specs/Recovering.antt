@@ -1,5 +1,5 @@
 -- What a step of a recovery makes of what the driver sees, and of the crossings of the call that runs it.
-use Rattle.std.specs.Prelude.{ℕ, ◌<◌, ◌≤◌, ◌≡◌, ◌⊎◌, [], ◌∷◌, ◌++◌, length, slice_index, slice_set, Bool, true, false, Option, Some, None, IfSome}
+use Rattle.std.specs.Prelude.{ℕ, ◌+◌, ◌<◌, ◌≤◌, ◌≡◌, ◌⊎◌, [], ◌∷◌, ◌++◌, length, slice_index, slice_set, Bool, true, false, Option, Some, None, IfSome}
 use Rattle.mb_edge.specs.Crossings.{next_nth, place_of}
 use Rattle.mb_edge.specs.declared.crossings.Crossing.{Crossing}
 use Rattle.mb_edge.specs.declared.crossings.Crossings.{Crossings}
@@ -8,7 +8,7 @@ use Rattle.mb_kinds.specs.declared.faults.FaultRecord.{FaultRecord}
 use Rattle.mb_kinds.specs.declared.faults.Kind.{Kind}
 use Rattle.mb_kinds.specs.declared.faults.Kind.TheVariants.{Remount, Replay}
 use Rattle.mb_kinds.specs.declared.replies.Reply.TheVariants as reply
-use Rattle.mb_run.specs.Events.{Counts, Answers}
+use Rattle.mb_run.specs.Events.{Answers, Counts, KeepsLog}
 use Rattle.mb_run.specs.Sights.{Sight, recovers}
 use Rattle.mb_core_spec.specs.declared.stages.Stage.{Stage}
 use Rattle.mb_core_spec.specs.declared.stages.Stage.TheVariants as stage
@@ -52,14 +52,15 @@ pub record Waits (old new : Sight) : Type 0 where
   pub incarnation : new.incarnation ≡ old.incarnation
   pub seats : (other : ℕ) → new.seats other ≡ old.seats other
   pub counts : Counts old new
+  pub log : KeepsLog old new
   pub floor : (new.floor ≡ None) ⊎ (new.floor ≡ old.floor)
 
--- a step forward: no fault came
+-- a step forward: no fault came, and the end came nearer by more than the log grew shorter
 pub record Rolls (old new : Sight) : Type 0 where
   pub waits : Waits old new
   pub records : new.records ≡ old.records
   pub recovered : recovers old.stage ≡ true
-  pub fewer : new.left < old.left
+  pub fewer : new.left + old.ops < old.left + new.ops
 
 -- the file system is to be started anew
 abbrev pub awaits_remount : Stage → Bool

@@ -1,5 +1,5 @@
 -- What a run of a job over a core was: the clauses of the headline, over the readers of a core and the job alone.
-use Rattle.std.specs.Prelude.{ℕ, ◌+◌, ◌<◌, ◌≤◌, ◌≡◌, ◌≢◌, List, [], ◌∷◌, ◌++◌, length, map, filter, nat_eq, nat_lt, nat_le, ◌&&◌, ◌||◌, not, slice_get, Bool, true, false, cond, Option, Some, None, IfSome, count_by, option_and_then}
+use Rattle.std.specs.Prelude.{ℕ, ◌+◌, ◌<◌, ◌≤◌, ◌≡◌, ◌≢◌, List, [], ◌∷◌, ◌++◌, length, map, filter, nat_eq, nat_lt, nat_le, ◌&&◌, ◌||◌, not, slice_get, Bool, true, false, cond, Option, Some, None, IfSome, count_by}
 use Rattle.std.specs.List.{AllByRecursion, list_any, range_with_len}
 use Rattle.mb_core_spec.specs.Faults.{IsTwice}
 use Rattle.mb_edge.specs.declared.crossings.Crossing.{Crossing}
@@ -12,6 +12,7 @@ use Rattle.mb_kinds.specs.declared.replies.Reply.TheVariants as reply
 use Rattle.mb_plan.specs.Fires.{fires, same_kind}
 use Rattle.mb_plan.specs.declared.rules.Rule.{Rule}
 use Rattle.mb_run.specs.Recovering.{crossing_of}
+pub use Rattle.mb_run.specs.Seals.{is_plain}
 use Rattle.mb_run.specs.Served.{calls_in, calls_of}
 use Rattle.mb_jobs.specs.declared.jobs.JobCall.{JobCall}
 use Rattle.mb_core_spec.specs.declared.steps.Step.{Step}
@@ -91,12 +92,6 @@ pub record HasRecords (plan : List Rule) (history : List Entry) (records : List 
 
 -- ---- in list order: faults that are planned are taken
 
-abbrev pub is_plain : Reply → Bool
-is_plain (reply.Restart first second) = false
-is_plain reply.Device = false
-is_plain (reply.Failed faults) = false
-is_plain _ = true
-
 abbrev pub is_of : ℕ → ℕ → Kind → FaultRecord → Bool
 is_of caller ordinal kind fault = (nat_eq fault.caller caller && nat_eq fault.ordinal ordinal) && same_kind fault.kind kind
 
@@ -173,41 +168,6 @@ devices history = count_by (λ (entry : Entry). cond (is_plain entry.reply) fals
   is_device : Reply → Bool
   is_device reply.Device = true
   is_device _ = false
-
--- ---- checkpoints in a trace
-
--- what a logged call does to the operation log, and whether a checkpoint comes after it
-pub record Mark : Type 0 where
-  pub grows : Bool
-  pub syncs : Bool
-
-pub record Sealing : Type 0 where
-  pub marks : List Mark  -- of the plain entries still to be logged
-  pub ops : ℕ  -- operations since the last checkpoint
-  pub due : Bool  -- a checkpoint comes next
-  pub others : ℕ  -- checkpoints that nothing asked for
-
-abbrev pub logs_one : ℕ → ℕ → List Mark → ℕ → Option Sealing
-logs_one threshold ops [] others = None
-logs_one threshold ops (mark ∷ marks) others =
-    let more = ops + cond mark.grows 1 0 in
-    Some (record { marks = marks; ops = more; due = nat_le threshold more || mark.syncs; others = others })
-
-abbrev pub next_sealing : ℕ → Sealing → Step → Option Sealing
-next_sealing threshold now (step.Sealed n) = Some (record { marks = now.marks; ops = 0; due = false; others = now.others + cond now.due 0 1 })
-next_sealing threshold now (step.Logged ticket) = cond now.due None (logs_one threshold now.ops now.marks now.others)
-next_sealing threshold now _ = cond now.due None (Some now)
-
-abbrev pub sealings : ℕ → Option Sealing → List Step → Option Sealing
-sealings threshold now [] = now
-sealings threshold now (next ∷ trail) = sealings threshold (option_and_then (λ (s : Sealing). next_sealing threshold s next) now) trail
-
-abbrev pub equals_signs : List ℕ → ℕ
-equals_signs order = count_by (λ character. nat_eq character 61) order
-
--- right after each call that wants a checkpoint there is one; the others number at most the characters `=`
-abbrev pub IsSealedAsAsked : ℕ → List Mark → List ℕ → List Step → Type 0
-IsSealedAsAsked threshold marks order trail = IfSome (sealings threshold (Some (record { marks = marks; ops = 0; due = false; others = 0 })) trail) (λ end. (end.due ≡ false) × (end.others ≤ equals_signs order))
 
 -- ---- an order without faults: whose calls enter first
 

@@ -17,7 +17,7 @@ pub use Rattle.mb_run.specs.Recovering.{counted}
 use Rattle.mb_run.specs.Recovering.{crossing_of, next_of}
 use Rattle.mb_run.specs.Sights.{Sight, Seat, HasTicket, IsOld, IsOrderly, IsWaiting, one_if, recovers}
 use Rattle.mb_kinds.specs.declared.calls.Call.TheVariants as call
-use Rattle.mb_run.specs.Events.{Strikes, sealed}
+use Rattle.mb_run.specs.Events.{Strikes}
 use Rattle.mb_run.specs.Firsts.{KeepsFirsts}
 use Rattle.mb_jobs.specs.declared.jobs.JobCall.{JobCall}
 use Rattle.mb_run.specs.declared.runner.At.{At}
@@ -328,7 +328,7 @@ pub record IsRunInOrder (calls : List JobCall) (callers : ℕ) (test : Option (C
   pub begun : sight.begun ≡ length sight.history
   pub sound : AreSound test sight.records
 
--- ---- a call that met want of memory, and a checkpoint
+-- ---- a call that met want of memory
 
 -- the call is in flight without an entry exactly where it was begun
 pub record MayGiveUp (sight : Sight) (runner : Runner) : Type 0 where
@@ -337,15 +337,3 @@ pub record MayGiveUp (sight : Sight) (runner : Runner) : Type 0 where
   pub within : runner.crossings.caller < sight.config.callers
   pub lacks : runner.answered ≡ false
   pub right : IsOrderly sight
-
-abbrev pub is_sync : Call → Bool
-is_sync call.Sync = true
-is_sync _ = false
-
--- a checkpoint is due once so many operations were logged, or after sync(2)
-abbrev pub is_due : Sight → Call → Bool
-is_due sight made = nat_le sight.config.threshold sight.ops || is_sync made
-
-abbrev pub SealsIf : Bool → Sight → Sight → Type 0
-SealsIf true old new = new ≡ sealed old new
-SealsIf false old new = new ≡ old

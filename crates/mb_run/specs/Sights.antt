@@ -11,6 +11,7 @@ use Rattle.mb_core_spec.specs.declared.config.Config.{Config}
 use Rattle.mb_core_spec.specs.declared.stages.Stage.{Stage}
 use Rattle.mb_core_spec.specs.declared.stages.Stage.TheVariants as stage
 use Rattle.mb_core_spec.specs.declared.steps.Step.{Step}
+use Rattle.mb_run.specs.Seals.{AreInTime}
 
 -- of one caller: how many calls it began, and its call in flight
 pub record Seat : Type 0 where
@@ -128,10 +129,18 @@ pub record IsOrderly (sight : Sight) : Type 0 where
   pub callers : sight.config.callers ≤ 8
   -- a recovery has fewer steps than 2 ^ 33
   pub left : sight.left < 8589934592
+  -- and after a fault a step for each caller inside, one for each operation of the log, and four more. Each step brings the
+  -- end nearer, and by more than it makes the log shorter (`Rolls` of Recovering.antt): with c callers and a log of n
+  -- operations once it is folded, at most c + 4 + n steps lie between a fault on a running volume and the end of its
+  -- recovery, and 4 + n after a fault in a recovery
+  pub struck : sight.stage ≡ stage.Struck → sight.left ≤ sight.config.callers + sight.ops + 4
+  pub again : sight.stage ≡ stage.Again → sight.left ≤ sight.ops + 4
   -- who has the right to commit alone is a declared caller with a call in flight, and nothing that it gathered is stale
   pub floor : (holder : ℕ) → sight.floor ≡ Some holder → (flight : Flight) × ((sight.seats holder).flight ≡ Some flight) × (holder < sight.config.callers)
   pub fresh : (holder : ℕ) → sight.floor ≡ Some holder → sight.stage ≡ stage.Running → sight.fresh holder ≡ true
   -- without calls in flight none is open
   pub open_calls : ((caller : ℕ) → caller < sight.config.callers → (sight.seats caller).flight ≡ None) → sight.open_calls ≡ 0
+  -- checkpoints are taken in time
+  pub seals : AreInTime sight.config.threshold sight.ops sight.sealed_at sight.history
   -- a failed volume has no dirty page
   pub dropped : sight.stage ≡ stage.Failed → sight.current ≡ 0

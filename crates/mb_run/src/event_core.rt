@@ -1,10 +1,9 @@
-ghost use Rattle.std.specs.Prelude.{◌≡◌, ◌<◌, ◌≤◌, ℕ, Bool, Some, false, true, IfSome, IsOk, OnErr, OnOk};
+ghost use Rattle.std.specs.Prelude.{◌≡◌, ◌<◌, ◌≤◌, ℕ, Some, false, true, IfSome, OnErr, OnOk};
 ghost use Rattle.mb_core_spec.specs.declared.stages.Stage.TheVariants as stage;
-ghost use Rattle.mb_core_state.specs.declared.answers.Finished.TheVariants as finished;
 ghost use Rattle.mb_cache.specs.declared.answers.Flushed.TheVariants as flushed;
 ghost use Rattle.mb_edge.specs.Causes.{Rose};
 ghost use Rattle.mb_run.specs.declared.answers.Stepped.TheVariants as stepped;
-ghost use Rattle.mb_run.specs.Events.{Enters, FaultsWith, Finishes, FlushesWith, Gathers, IsAsked, IsReadyAt, LeavesWith, Quits, sealed};
+ghost use Rattle.mb_run.specs.Events.{Enters, FaultsWith, Finishes, FlushesWith, Gathers, IsAsked, IsCallOf, IsReadyAt, LeavesWith, Quits, sealed};
 ghost use Rattle.mb_run.specs.Pages.{HasTablesFor, Performs, has};
 ghost use Rattle.mb_run.specs.Recovering.{GoOn, RunsFor, Steps};
 ghost use Rattle.mb_run.specs.Served.{MayEnter};
@@ -21,16 +20,14 @@ use mb_iface::Need;
 use mb_kinds::{Call, Kind, Ticket};
 use std::alloc::Global;
 
-/// A core as its driver calls it: each call is one event. `sight` is what a driver sees of it, and `may_seal` whether a
-/// checkpoint can be taken without memory, `faults` the disk's count of faults, and `origin` what the core was
-/// begun on, which no event changes. Every event keeps a sight in order (`IsOrderly`).
+/// A core as its driver calls it: each call is one event. `sight` is what a driver sees of it, `faults` the disk's count of
+/// faults, and `origin` what the core was begun on, which no event changes. Every event keeps a sight in order
+/// (`IsOrderly`); so checkpoints are taken in time (`AreInTime`), whatever drives it.
 pub trait EventCore {
     /// What a core was begun on: plain data that contracts alone speak of.
     type Origin;
 
     ghost sight: { Self → Sight };
-
-    ghost may_seal: { Self → Bool };
 
     ghost faults: { Self → ℕ };
 
@@ -81,16 +78,24 @@ pub trait EventCore {
         ensures origin { origin self.new ≡ origin self.old }
         ensures right { IsOrderly (sight self.new) };
 
-    /// A call inside, without its entry, finishes with what was performed over its pages, which have the tables. After
-    /// `Logged` a checkpoint is not refused.
-    fn finish(&mut self, alloc: Global, ticket: &Ticket, pages: &Pages, ready: Ready) -> Finished
+    /// A call inside, without its entry, finishes with what was performed over its pages, which have the tables. The
+    /// checkpoint that is due once it is logged is taken with it: after `sync(2)`, and where as many operations are logged as
+    /// the threshold says.
+    fn finish(
+        &mut self,
+        alloc: Global,
+        ticket: &Ticket,
+        pages: &Pages,
+        call: &Call,
+        ready: Ready,
+    ) -> Finished
         requires ticket { HasTicket false ((sight self.old).seats ticket.now.caller) ticket.now }
         requires there { has pages.now 0 ≡ true }
         requires tables { HasTablesFor (sight self.old).config.callers pages.now }
+        requires call { IsCallOf ((sight self.old).seats ticket.now.caller) call.now }
         requires ready { IsReadyAt (sight self.old) ticket.now pages.now ready }
         requires right { IsOrderly (sight self.old) }
-        ensures finishes { Finishes (sight self.old) (sight self.new) ticket.now pages.now result }
-        ensures may_seal { result ≡ finished.Logged → may_seal self.new ≡ true }
+        ensures finishes { Finishes (sight self.old) (sight self.new) ticket.now pages.now call.now result }
         ensures origin { origin self.new ≡ origin self.old }
         ensures right { IsOrderly (sight self.new) };
 
@@ -143,7 +148,6 @@ pub trait EventCore {
         requires right { IsOrderly (sight self.old) }
         ensures ok { OnOk result (sight self.new ≡ sealed (sight self.old) (sight self.new)) }
         ensures err { OnErr result (sight self.new ≡ sight self.old) }
-        ensures sure { may_seal self.old ≡ true → IsOk result }
         ensures later { faults self.old ≤ faults self.new }
         ensures origin { origin self.new ≡ origin self.old }
         ensures right { IsOrderly (sight self.new) };

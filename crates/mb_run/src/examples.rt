@@ -20,7 +20,7 @@ pub fn worked_faults()
     ensures { WorkedFaults }
 {}
 
-/// Traces with the checkpoints that are due.
+/// When a checkpoint is due, and what stands behind one that was taken in time.
 pub fn worked_checkpoints()
     ensures { WorkedCheckpoints }
 {}

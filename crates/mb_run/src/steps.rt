@@ -2,7 +2,7 @@ ghost use Rattle.std.specs.Prelude.{◌≡◌, ◌≢◌, ◌<◌, ◌≤◌, So
 ghost use Rattle.mb_calls.specs.declared.performing.Performed.TheVariants as performed;
 ghost use Rattle.mb_core_spec.specs.declared.stages.Stage.TheVariants as stage;
 ghost use Rattle.mb_run.specs.Pages.{Performs, has};
-ghost use Rattle.mb_run.specs.Served.{Asks, Did, GoesIn, MayStep, SealsIf, is_due};
+ghost use Rattle.mb_run.specs.Served.{Asks, Did, GoesIn, MayStep};
 ghost use Rattle.mb_run.specs.Sights.{IsOrderly, IsTicketOf};
 ghost use Rattle.mb_run.specs.Tallies.{IsEntering, IsFinishing, Tallies, TalliedBy};
 ghost use Rattle.mb_run.specs.declared.progress.Went.TheVariants as went;
@@ -143,24 +143,6 @@ fn gather<C: EventCore, H: Hook>(
     }
 }
 
-/// Takes a checkpoint where one is due after a call was logged.
-fn seal_if_due<C: EventCore>(core: &mut C, call: &Call)
-    requires runs { (C.sight core.old).stage ≡ stage.Running }
-    requires may_seal { C.may_seal core.old ≡ true }
-    requires right { IsOrderly (C.sight core.old) }
-    ensures seals { SealsIf (is_due (C.sight core.old) call.now) (C.sight core.old) (C.sight core.new) }
-    ensures origin { C.origin core.new ≡ C.origin core.old }
-    ensures right { IsOrderly (C.sight core.new) }
-{
-    let threshold = core.config().threshold;
-    if core.logged() >= threshold || matches!(call, Call::Sync) {
-        match core.seal() {
-            Ok(()) => {}
-            Err(_) => unreachable!(),
-        }
-    }
-}
-
 fn finish_now<C: EventCore, H: Hook>(
     alloc: Global,
     core: &mut C,
@@ -180,7 +162,7 @@ fn finish_now<C: EventCore, H: Hook>(
     ensures origin { C.origin core.new ≡ C.origin core.old }
     ensures right { IsOrderly (C.sight core.new) }
 {
-    let finished = core.finish(alloc, ticket, &runner.pages, ready);
+    let finished = core.finish(alloc, ticket, &runner.pages, call, ready);
     match finished {
         Finished::Skip { .. } => {
             runner.back();
@@ -199,7 +181,6 @@ fn finish_now<C: EventCore, H: Hook>(
         Finished::Logged => {
             runner.at = At::Logged(*ticket);
             runner.answered = true;
-            seal_if_due(core, call);
             return Went::On;
         }
     }

@@ -23,10 +23,11 @@ use Rattle.mb_run.specs.Recovering.{crossing_of}
 use Rattle.mb_run.specs.Served.{AreApart, AreSound, calls_of}
 use Rattle.mb_run.specs.Sights.{Limits, Seat, limits_of}
 use Rattle.mb_turn.specs.Passes.{known}
+use Rattle.mb_run.proofs.InTime.{InTime}
 use Rattle.mb_volume_core.proofs.Orderly.{orderly}
 use Rattle.mb_volume.specs.Called.{AreOfFirst}
 use Rattle.mb_volume.specs.Parts.{Part, part_of}
-use Rattle.mb_volume.specs.declared.shared.SharedCore.{SharedCore}
+use Rattle.mb_volume.specs.Shared.{Shared}
 use Rattle.mb_threads.specs.Driven.{test_of}
 use Rattle.mb_threads.specs.Workers.{HasMade, IsReady}
 use Rattle.mb_threads.proofs.Covering.{all_and}
@@ -34,7 +35,7 @@ use Rattle.mb_threads.proofs.Gathering.{apart_by, begun_all}
 use Rattle.mb_threads.proofs.Together.{holds_by, map_long, none_other}
 
 -- a core that was begun for a job: each caller may make its calls
-pub ready_new : {F D : Type 0} (table : TableId) (value : SharedCore F D) (job : Job) → IsBegun job (sight_of value.core.core) → (caller : ℕ) (t : Option (Crossing → Bool)) → IsReady table (known table caller value false) t job.calls
+pub ready_new : {F D : Type 0} (table : TableId) (value : Shared F D) (job : Job) → IsBegun job (sight_of value.core.core) → (caller : ℕ) (t : Option (Crossing → Bool)) → IsReady table (known table caller value false) t job.calls
 ready_new table value job begun caller t =
     let none : (part_of (sight_of value.core.core) caller).struck ≡ [] = ap (λ (rs : List FaultRecord). records_of rs caller) begun.records in
     record {
@@ -56,7 +57,7 @@ records_callers (fault ∷ records) caller =
       | false ↦ λ other. records_callers records caller
     ] refl
 
-module _ {F D : Type 0} (told : D → Option Image) (faults : D → ℕ) (core old : CoreState F D) (r : Right told faults core) (job : Job) (tests : List (Option (Crossing → Bool))) (same : core.config ≡ old.config) (begun : IsBegun job (sight_of old))
+module _ {F D : Type 0} (told : D → Option Image) (faults : D → ℕ) (core old : CoreState F D) (r : Right told faults core) (job : Job) (tests : List (Option (Crossing → Bool))) (seals : InTime (sight_of core)) (same : core.config ≡ old.config) (begun : IsBegun job (sight_of old))
     (made : (caller : ℕ) → caller < length job.callers → HasMade (calls_of job.calls caller) (test_of tests caller) (part_of (sight_of core) caller)) where
   size : length core.config.callers ≡ length job.callers
   size = ap (λ (k : Config). length k.callers) same ∙ begun.callers
@@ -88,7 +89,8 @@ module _ {F D : Type 0} (told : D → Option Image) (faults : D → ℕ) (core o
     config = ap limits_of same;
     free = λ caller low. ap (λ (s : Seat). s.flight) (made caller (omega (arith, low, size))).seat;
     own_calls = λ caller low. (made caller low).calls;
-    moments = subst (λ n. HasEachMoment n core.journal.history) (ap (λ (k : Config). k.start) same ∙ begun.start) (each_moment (sight_of core) (orderly told faults core r) all_begun);
+    begun = all_begun;
+    moments = subst (λ n. HasEachMoment n core.journal.history) (ap (λ (k : Config). k.start) same ∙ begun.start) (each_moment (sight_of core) (orderly told faults core r seals) all_begun);
     sound = record {
       holds = holds_by (λ (f : FaultRecord). IfSome (test_of tests f.caller) (λ fires. fires (crossing_of f) ≡ true)) core.journal.records (length job.callers)
           (λ caller low. all_and (λ (f : FaultRecord). f.caller ≡ caller) (λ (f : FaultRecord). IfSome (test_of tests caller) (λ fires. fires (crossing_of f) ≡ true)) (λ (f : FaultRecord). IfSome (test_of tests f.caller) (λ fires. fires (crossing_of f) ≡ true)) (records_of core.journal.records caller)

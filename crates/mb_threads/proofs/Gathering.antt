@@ -2,6 +2,7 @@
 use Rattle.std.proofs.Common.{◌≡◌, ◌≢◌, List, [], ◌∷◌, ◌++◌, ℕ, zero, suc, ◌+◌, ◌<◌, ◌≤◌, Bool, true, false, cond, nat_eq, length, map, inl, inr, refl, ap, sym, subst, ◌∙◌, arith, Option, None, Some, slice_get, IfSome}
 use Rattle.std.proofs.lemmas.Bool.{eq-eqb, eqb-false, eqb-true}
 use Rattle.std.specs.List.{AllByRecursion, filter}
+use Rattle.mb_core_order.proofs.OwnEntries.{AreOf, none_left, others, others_above, own_and_others, own_others}
 use Rattle.mb_core_spec.specs.Callers.{begun, total}
 use Rattle.mb_core_spec.specs.State.{CallerState, records_of}
 use Rattle.mb_kinds.specs.Own.{own}
@@ -12,51 +13,15 @@ use Rattle.mb_run.specs.Served.{AreApart, IsApart}
 
 -- ---- every call that was begun has its entry
 
--- the entries of the other callers
-abbrev others : List Entry → ℕ → List Entry
-others [] caller = []
-others (entry ∷ history) caller = cond (nat_eq entry.caller caller) (others history caller) (entry ∷ others history caller)
-
-split : (history : List Entry) (caller : ℕ) → length history ≡ length (own history caller) + length (others history caller)
-split [] caller = refl
-split (entry ∷ history) caller = let rest = split history caller in
-    elim (nat_eq entry.caller caller) as (λ b. length (entry ∷ history) ≡ length (cond b (entry ∷ own history caller) (own history caller)) + length (cond b (others history caller) (entry ∷ others history caller))) [
-      | true ↦ omega (arith, rest)
-      | false ↦ omega (arith, rest)
-    ]
-
-own_others : (history : List Entry) (caller other : ℕ) → other ≢ caller → own (others history caller) other ≡ own history other
-own_others [] caller other apart = refl
-own_others (entry ∷ history) caller other apart = let rest = own_others history caller other apart in
-    elim (nat_eq entry.caller caller) as (λ b. nat_eq entry.caller caller ≡ b → own (cond b (others history caller) (entry ∷ others history caller)) other ≡ own (entry ∷ history) other) [
-      | true ↦ λ same. rest ∙ sym (ap (λ b. cond b (entry ∷ own history other) (own history other)) (neq entry.caller other (λ is. apart (sym is ∙ eqb-true entry.caller caller same))))
-      | false ↦ λ differs. ap (λ es. cond (nat_eq entry.caller other) (entry ∷ es) es) rest
-    ] refl
-
-above : (n m : ℕ) → nat_eq n m ≡ false → m ≤ n → m + 1 ≤ n
-above n m differs low = let apart = eqb-false n m differs in omega (arith, apart, low)
-
-others_above : (history : List Entry) (caller count : ℕ) → AllByRecursion (λ (e : Entry). (caller ≤ e.caller) × (e.caller < caller + count + 1)) history → AllByRecursion (λ (e : Entry). (caller + 1 ≤ e.caller) × (e.caller < caller + 1 + count)) (others history caller)
-others_above [] caller count all = tt
-others_above (entry ∷ history) caller count all = let rest = others_above history caller count all.1 in
-    elim (nat_eq entry.caller caller) as (λ b. nat_eq entry.caller caller ≡ b → AllByRecursion (λ (e : Entry). (caller + 1 ≤ e.caller) × (e.caller < caller + 1 + count)) (cond b (others history caller) (entry ∷ others history caller))) [
-      | true ↦ λ same. rest
-      | false ↦ λ differs. ((above entry.caller caller differs all.0.0, (omega (arith, all.0.1))), rest)
-    ] refl
-
-none_left : (history : List Entry) (caller : ℕ) → AllByRecursion (λ (e : Entry). (caller ≤ e.caller) × (e.caller < caller + 0)) history → history ≡ []
-none_left [] caller all = refl
-none_left (entry ∷ history) caller all = absurd (omega (arith, all.0.0, all.0.1))
-
 pub begun_all : (callers : List CallerState) (history : List Entry) (first : ℕ) → ((place : ℕ) (mine : CallerState) → slice_get callers place ≡ Some mine → mine.begun ≡ length (own history (first + place)))
-    → AllByRecursion (λ (e : Entry). (first ≤ e.caller) × (e.caller < first + length callers)) history → begun callers ≡ length history
+    → AreOf first (length callers) history → begun callers ≡ length history
 begun_all [] history first each all = sym (ap length (none_left history first all))
 begun_all (mine ∷ callers) history first each all =
     let here : mine.begun ≡ length (own history first) = each 0 mine refl ∙ ap (λ n. length (own history n)) (omega arith) in
     let rest : begun callers ≡ length (others history first) = begun_all callers (others history first) (first + 1)
     (λ place one there. each (suc place) one there ∙ ap (λ n. length (own history n)) (omega arith) ∙ ap length (sym (own_others history first (first + 1 + place) (λ same. absurd (omega (arith, same))))))
-    (others_above history first (length callers) (all_map (λ (e : Entry). (first ≤ e.caller) × (e.caller < first + length (mine ∷ callers))) (λ (e : Entry). (first ≤ e.caller) × (e.caller < first + length callers + 1)) history (λ e is. (is.0, omega (arith, is.1))) all)) in
-    omega (arith, here, rest, split history first)
+    (others_above history first (length callers) (all_map (λ (e : Entry). (first ≤ e.caller) × (e.caller < first + length (mine ∷ callers))) (λ (e : Entry). (first ≤ e.caller) × (e.caller < first + (length callers + 1))) history (λ e is. (is.0, omega (arith, is.1))) all)) in
+    omega (arith, here, rest, own_and_others history first)
 
 -- ---- fault records are apart where each caller's are
 

@@ -28,7 +28,7 @@ use Rattle.mb_turn.specs.Passes.{IsIdle, Known, dealt, known}
 use Rattle.mb_volume.proofs.Changing.{part_follows}
 use Rattle.mb_volume.specs.Parts.{Part, part_of, stand_in}
 use Rattle.mb_volume.specs.Passing.{IsLater, part_in, seen_by}
-use Rattle.mb_volume.specs.declared.shared.SharedCore.{SharedCore}
+use Rattle.mb_volume.specs.Shared.{Shared}
 use Rattle.mb_threads.specs.Driven.{test_of}
 use Rattle.mb_threads.specs.Workers.{HasMade, IsReady, IsWorked}
 use Rattle.mb_threads.proofs.Covering.{all_and, all_in, all_out, dealt_are, dealt_callers, one_with, taken, tests_are, zip_all, zip_map}
@@ -82,24 +82,24 @@ holds_by P (fault ∷ records) count each all =
 
 -- ---- the workers
 
-module _ {F D W : Type 0} (pass : W → Known (SharedCore F D)) (test : W → Option (Crossing → Bool)) (calls : W → List JobCall) (stopped : W → Bool) (table : TableId) (value : SharedCore F D) (count : ℕ) (job : List JobCall) (tests : List (Option (Crossing → Bool)))
+module _ {F D W : Type 0} (pass : W → Known (Shared F D)) (test : W → Option (Crossing → Bool)) (calls : W → List JobCall) (stopped : W → Bool) (table : TableId) (value : Shared F D) (count : ℕ) (job : List JobCall) (tests : List (Option (Crossing → Bool)))
     (ws : List W) (passes : map pass ws ≡ dealt table count value) (hooks : map test ws ≡ tests) (all : AllByRecursion (λ w. calls w ≡ job) ws) where
   callers_are : map (λ w. (pass w).caller) ws ≡ range_with_len 0 count
-  callers_are = sym (map_twice (λ (p : Known (SharedCore F D)). p.caller) pass ws) ∙ ap (map (λ (p : Known (SharedCore F D)). p.caller)) passes ∙ dealt_callers table value (range_with_len 0 count)
+  callers_are = sym (map_twice (λ (p : Known (Shared F D)). p.caller) pass ws) ∙ ap (map (λ (p : Known (Shared F D)). p.caller)) passes ∙ dealt_callers table value (range_with_len 0 count)
 
   are_dealt : AllByRecursion (λ w. pass w ≡ known table (pass w).caller value false) ws
-  are_dealt = all_in (λ (p : Known (SharedCore F D)). p ≡ known table p.caller value false) pass ws (subst (AllByRecursion (λ (p : Known (SharedCore F D)). p ≡ known table p.caller value false)) (sym passes) (dealt_are table value (range_with_len 0 count)))
+  are_dealt = all_in (λ (p : Known (Shared F D)). p ≡ known table p.caller value false) pass ws (subst (AllByRecursion (λ (p : Known (Shared F D)). p ≡ known table p.caller value false)) (sym passes) (dealt_are table value (range_with_len 0 count)))
 
   pub ready : ((caller : ℕ) (t : Option (Crossing → Bool)) → IsReady table (known table caller value false) t job) → AllByRecursion (λ w. IsReady table (pass w) (test w) (calls w)) ws
   ready each = all_and (λ w. pass w ≡ known table (pass w).caller value false) (λ w. calls w ≡ job) (λ w. IsReady table (pass w) (test w) (calls w)) ws
-      (λ w is its. subst (λ (p : Known (SharedCore F D)). IsReady table p (test w) (calls w)) (sym is) (subst (IsReady table (known table (pass w).caller value false) (test w)) (sym its) (each (pass w).caller (test w)))) are_dealt all
+      (λ w is its. subst (λ (p : Known (Shared F D)). IsReady table p (test w) (calls w)) (sym is) (subst (IsReady table (known table (pass w).caller value false) (test w)) (sym its) (each (pass w).caller (test w)))) are_dealt all
 
   module _ (done : List W) (zip : AllZip (λ w d. IsWorked table (pass w) (pass d) (test w) (calls w) (stopped d)) ws done) where
     done_callers : map (λ d. (pass d).caller) done ≡ range_with_len 0 count
     done_callers = zip_map (λ w d. IsWorked table (pass w) (pass d) (test w) (calls w) (stopped d)) (λ w. (pass w).caller) (λ d. (pass d).caller) ws done (λ w d is. is.later.caller) zip ∙ callers_are
 
     pub done_long : length (map pass done) ≡ count
-    done_long = sym (map_long (λ (p : Known (SharedCore F D)). p.caller) (map pass done)) ∙ ap length (map_twice (λ (p : Known (SharedCore F D)). p.caller) pass done) ∙ ap length done_callers ∙ range_long 0 count
+    done_long = sym (map_long (λ (p : Known (Shared F D)). p.caller) (map pass done)) ∙ ap length (map_twice (λ (p : Known (Shared F D)). p.caller) pass done) ∙ ap length done_callers ∙ range_long 0 count
 
     pub done_idle : AllByRecursion (IsIdle table) (map pass done)
     done_idle = all_out (IsIdle table) pass done (zip_all (λ w d. IsWorked table (pass w) (pass d) (test w) (calls w) (stopped d)) (λ w. calls w ≡ job) (λ d. IsIdle table (pass d)) ws done (λ w d its is. is.later.idle) zip all)
@@ -112,8 +112,8 @@ module _ {F D W : Type 0} (pass : W → Known (SharedCore F D)) (test : W → Op
     all_done : AllByRecursion IsDone done
     all_done = zip_all (λ w d. IsWorked table (pass w) (pass d) (test w) (calls w) (stopped d)) (λ w. (pass w ≡ known table (pass w).caller value false) × (calls w ≡ job) × (test w ≡ test_of tests (pass w).caller)) IsDone ws done
         (λ w d its is. record {
-          config = is.later.config ∙ ap (λ (p : Known (SharedCore F D)). p.value.core.core.config) its.0;
-          first = is.later.first ∙ ap (λ (p : Known (SharedCore F D)). p.value.core.core.first) its.0;
+          config = is.later.config ∙ ap (λ (p : Known (Shared F D)). p.value.core.core.config) its.0;
+          first = is.later.first ∙ ap (λ (p : Known (Shared F D)). p.value.core.core.first) its.0;
           made = λ going. subst (λ n. HasMade (calls_of job n) (test_of tests n) (part_in (pass d))) (sym is.later.caller)
               (subst (λ (t : Option (Crossing → Bool)). HasMade (calls_of job (pass w).caller) t (part_in (pass d))) its.2 (subst (λ cs. HasMade (calls_of cs (pass w).caller) (test w) (part_in (pass d))) its.1 (is.made going)));
         }) zip
@@ -121,19 +121,19 @@ module _ {F D W : Type 0} (pass : W → Known (SharedCore F D)) (test : W → Op
         (all_and (λ w. calls w ≡ job) (λ w. test w ≡ test_of tests (pass w).caller) (λ w. (calls w ≡ job) × (test w ≡ test_of tests (pass w).caller)) ws (λ w one other. (one, other)) all (tests_are (λ w. (pass w).caller) test count ws tests callers_are hooks)))
 
     -- the core that came out
-    module _ (core : CoreState F D) (firsts : AllByRecursion (λ (p : Known (SharedCore F D)). core.first ≡ p.value.core.core.first) (map pass done)) (configs : AllByRecursion (λ (p : Known (SharedCore F D)). core.config ≡ p.value.core.core.config) (map pass done)) where
+    module _ (core : CoreState F D) (firsts : AllByRecursion (λ (p : Known (Shared F D)). core.first ≡ p.value.core.core.first) (map pass done)) (configs : AllByRecursion (λ (p : Known (Shared F D)). core.config ≡ p.value.core.core.config) (map pass done)) where
       pub out_first : 1 ≤ count → core.first ≡ value.core.core.first
       out_first some = let d = taken (λ d. (pass d).caller ≡ 0) (λ d. IsDone d × (core.first ≡ (pass d).value.core.core.first)) done (one_with (λ d. (pass d).caller) 0 count 0 done done_callers (omega arith) (omega (arith, some)))
-          (all_and IsDone (λ d. core.first ≡ (pass d).value.core.core.first) (λ d. IsDone d × (core.first ≡ (pass d).value.core.core.first)) done (λ d one other. (one, other)) all_done (all_in (λ (p : Known (SharedCore F D)). core.first ≡ p.value.core.core.first) pass done firsts)) in
+          (all_and IsDone (λ d. core.first ≡ (pass d).value.core.core.first) (λ d. IsDone d × (core.first ≡ (pass d).value.core.core.first)) done (λ d one other. (one, other)) all_done (all_in (λ (p : Known (Shared F D)). core.first ≡ p.value.core.core.first) pass done firsts)) in
           d.2.1 ∙ d.2.0.first
 
       pub out_config : 1 ≤ count → core.config ≡ value.core.core.config
       out_config some = let d = taken (λ d. (pass d).caller ≡ 0) (λ d. IsDone d × (core.config ≡ (pass d).value.core.core.config)) done (one_with (λ d. (pass d).caller) 0 count 0 done done_callers (omega arith) (omega (arith, some)))
-          (all_and IsDone (λ d. core.config ≡ (pass d).value.core.core.config) (λ d. IsDone d × (core.config ≡ (pass d).value.core.core.config)) done (λ d one other. (one, other)) all_done (all_in (λ (p : Known (SharedCore F D)). core.config ≡ p.value.core.core.config) pass done configs)) in
+          (all_and IsDone (λ d. core.config ≡ (pass d).value.core.core.config) (λ d. IsDone d × (core.config ≡ (pass d).value.core.core.config)) done (λ d one other. (one, other)) all_done (all_in (λ (p : Known (Shared F D)). core.config ≡ p.value.core.core.config) pass done configs)) in
           d.2.1 ∙ d.2.0.config
 
-      module _ (still : AllByRecursion (λ d. stopped d ≡ false) done) (owns : AllByRecursion (λ (p : Known (SharedCore F D)). own (sight_of core).history p.caller ≡ (part_in p).entries) (map pass done))
-          (stands : AllByRecursion (λ (p : Known (SharedCore F D)). stand_in (sight_of core) p.caller ≡ stand_in (seen_by p) p.caller) (map pass done)) (size : count ≡ (sight_of value.core.core).config.callers) where
+      module _ (still : AllByRecursion (λ d. stopped d ≡ false) done) (owns : AllByRecursion (λ (p : Known (Shared F D)). own (sight_of core).history p.caller ≡ (part_in p).entries) (map pass done))
+          (stands : AllByRecursion (λ (p : Known (Shared F D)). stand_in (sight_of core) p.caller ≡ stand_in (seen_by p) p.caller) (map pass done)) (size : count ≡ (sight_of value.core.core).config.callers) where
         record Known_of (d : W) : Type 0 where
           done_is : IsDone d
           config : core.config ≡ (pass d).value.core.core.config
@@ -146,9 +146,9 @@ module _ {F D W : Type 0} (pass : W → Known (SharedCore F D)) (test : W → Op
             all_and (λ d. IsDone d × (core.config ≡ (pass d).value.core.core.config) × (stopped d ≡ false)) (λ d. (own (sight_of core).history (pass d).caller ≡ (part_in (pass d)).entries) × (stand_in (sight_of core) (pass d).caller ≡ stand_in (seen_by (pass d)) (pass d).caller)) Known_of done
             (λ d one other. record { done_is = one.0; config = one.1; going = one.2; owned = other.0; stood = other.1 })
             (all_and IsDone (λ d. (core.config ≡ (pass d).value.core.core.config) × (stopped d ≡ false)) (λ d. IsDone d × (core.config ≡ (pass d).value.core.core.config) × (stopped d ≡ false)) done (λ d one other. (one, other.0, other.1)) all_done
-            (all_and (λ d. core.config ≡ (pass d).value.core.core.config) (λ d. stopped d ≡ false) (λ d. (core.config ≡ (pass d).value.core.core.config) × (stopped d ≡ false)) done (λ d one other. (one, other)) (all_in (λ (p : Known (SharedCore F D)). core.config ≡ p.value.core.core.config) pass done configs) still))
+            (all_and (λ d. core.config ≡ (pass d).value.core.core.config) (λ d. stopped d ≡ false) (λ d. (core.config ≡ (pass d).value.core.core.config) × (stopped d ≡ false)) done (λ d one other. (one, other)) (all_in (λ (p : Known (Shared F D)). core.config ≡ p.value.core.core.config) pass done configs) still))
             (all_and (λ d. own (sight_of core).history (pass d).caller ≡ (part_in (pass d)).entries) (λ d. stand_in (sight_of core) (pass d).caller ≡ stand_in (seen_by (pass d)) (pass d).caller) (λ d. (own (sight_of core).history (pass d).caller ≡ (part_in (pass d)).entries) × (stand_in (sight_of core) (pass d).caller ≡ stand_in (seen_by (pass d)) (pass d).caller)) done (λ d one other. (one, other))
-            (all_in (λ (p : Known (SharedCore F D)). own (sight_of core).history p.caller ≡ (part_in p).entries) pass done owns) (all_in (λ (p : Known (SharedCore F D)). stand_in (sight_of core) p.caller ≡ stand_in (seen_by p) p.caller) pass done stands))
+            (all_in (λ (p : Known (Shared F D)). own (sight_of core).history p.caller ≡ (part_in p).entries) pass done owns) (all_in (λ (p : Known (Shared F D)). stand_in (sight_of core) p.caller ≡ stand_in (seen_by p) p.caller) pass done stands))
 
         -- each caller has made its calls
         pub caller_made : (caller : ℕ) → caller < count → HasMade (calls_of job caller) (test_of tests caller) (part_of (sight_of core) caller)

@@ -12,7 +12,7 @@ use Rattle.mb_turn.specs.Passes.{IsIdle, Known}
 use Rattle.mb_volume.specs.Called.{AreOfFirst}
 use Rattle.mb_volume.specs.Parts.{Part}
 use Rattle.mb_volume.specs.Passing.{IsLater, part_in}
-use Rattle.mb_volume.specs.declared.shared.SharedCore.{SharedCore}
+use Rattle.mb_volume.specs.Shared.{Shared}
 
 -- these calls of the caller were answered, in this order, and none is in flight
 pub record HasMade (made : List Call) (test : Option (Crossing → Bool)) (part : Part) : Type 0 where
@@ -23,12 +23,12 @@ pub record HasMade (made : List Call) (test : Option (Crossing → Bool)) (part 
 
 module _ {F D : Type 0} where
   -- a pass whose caller has made no call yet, and may make those of the job
-  pub record IsReady (table : TableId) (pass : Known (SharedCore F D)) (test : Option (Crossing → Bool)) (calls : List JobCall) : Type 0 where
+  pub record IsReady (table : TableId) (pass : Known (Shared F D)) (test : Option (Crossing → Bool)) (calls : List JobCall) : Type 0 where
     pub idle : IsIdle table pass
     pub most : length (calls_of calls pass.caller) ≤ (part_in pass).config.most
     pub made : HasMade [] test (part_in pass)
 
   -- the same pass later on; unless it met want of memory its caller has made all its calls
-  pub record IsWorked (table : TableId) (before after : Known (SharedCore F D)) (test : Option (Crossing → Bool)) (calls : List JobCall) (stopped : Bool) : Type 0 where
+  pub record IsWorked (table : TableId) (before after : Known (Shared F D)) (test : Option (Crossing → Bool)) (calls : List JobCall) (stopped : Bool) : Type 0 where
     pub later : IsLater table before after
     pub made : stopped ≡ false → HasMade (calls_of calls before.caller) test (part_in after)

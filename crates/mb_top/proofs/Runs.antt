@@ -18,6 +18,7 @@ use Rattle.mb_print.specs.Transcript.{end_text, failed_text}
 use Rattle.mb_run.specs.CoreSight.{sight_of}
 use Rattle.mb_run.specs.Drives.{IsDriven}
 use Rattle.mb_run.specs.Settling.{IsSettled, Keeps}
+use Rattle.mb_run.specs.Sights.{IsOrderly}
 use Rattle.mb_volume_core.proofs.Origins.{origin_of}
 use Rattle.mb_volume_core.specs.declared.volume_core.Origin.{Origin}
 use Rattle.mb_top.specs.Held.{HoldsCore, held_disk}
@@ -104,7 +105,7 @@ order_stays manners.Soak job driven ended history records order =
 
 module _ {D : Type 0} (told : D → Option Image) (faults : D → ℕ) (manner : Manner) (job : Job) (disk : D) (fs : V7) (driven ended : CoreState V7 D)
     (drives : IsDrivenFor told faults manner fs job disk driven) (ended_on : origin_of ended ≡ origin_of driven)
-    (keeps : Keeps (sight_of driven) (sight_of ended)) (right : Right told faults ended) where
+    (keeps : Keeps (sight_of driven) (sight_of ended)) (right : Right told faults ended) (orderly : IsOrderly (sight_of ended)) where
   path : IsPath fs told faults job disk drives.begun driven ended
   path = record {
     over = drives.over;
@@ -112,6 +113,7 @@ module _ {D : Type 0} (told : D → Option Image) (faults : D → ℕ) (manner :
     first = ap (λ (o : Origin D). o.first) ended_on ∙ drives.first;
     same_config = ap (λ (o : Origin D). o.config) ended_on ∙ drives.config;
     keeps = keeps;
+    seals = orderly.seals;
     right = right;
   }
 

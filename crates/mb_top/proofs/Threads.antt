@@ -50,6 +50,7 @@ by_plan job tests count old new same low drives = record {
   config = drives.config;
   free = drives.free;
   own_calls = drives.own_calls;
+  begun = drives.begun;
   moments = drives.moments;
   sound = record { holds = holds_by_plan tests (Some (fires job.plan)) count new.records same low drives.sound.holds; apart = drives.sound.apart };
 }

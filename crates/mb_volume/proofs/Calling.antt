@@ -16,7 +16,7 @@ use Rattle.mb_volume.specs.Passing.{part_in}
 use Rattle.mb_volume.specs.Underway.{AddsEntryIf, IsBegunIf, IsFlying, IsLeftOff, IsStruck, IsUnderway, LacksEntry, Leads}
 use Rattle.mb_volume.specs.declared.attempt.Attempt.{Attempt}
 use Rattle.mb_volume.specs.declared.events.Came.TheVariants as came
-use Rattle.mb_volume.specs.declared.shared.SharedCore.{SharedCore}
+use Rattle.mb_volume.specs.Shared.{Shared}
 use Rattle.mb_volume.proofs.Struck.{struck_none, suffers_of}
 
 -- a call that is about to begin
@@ -81,20 +81,20 @@ module _ (call : Call) (test : Option (Crossing → Bool)) (from mid : Part) (at
 
 -- ---- in the pass
 
-module _ {F D : Type 0} (call : Call) (test : Option (Crossing → Bool)) (old : Known (SharedCore F D)) where
-  pub call_begins : (new : Known (SharedCore F D)) (attempt : Attempt) → part_in new ≡ part_in old → old.caller < (part_in old).config.callers → (part_in old).seat.begun < (part_in old).config.most → (part_in old).seat.flight ≡ None
+module _ {F D : Type 0} (call : Call) (test : Option (Crossing → Bool)) (old : Known (Shared F D)) where
+  pub call_begins : (new : Known (Shared F D)) (attempt : Attempt) → part_in new ≡ part_in old → old.caller < (part_in old).config.callers → (part_in old).seat.begun < (part_in old).config.most → (part_in old).seat.flight ≡ None
       → attempt ≡ new_attempt old.caller (part_in old).seat.begun → IsUnderway call test (part_in old) (part_in new) attempt
   call_begins new attempt same low below free is =
       subst (λ (p : Part). IsUnderway call test (part_in old) p attempt) (sym same) (subst (λ (a : Attempt). IsUnderway call test (part_in old) (part_in old) a) (sym is) (underway_new call test (part_in old) old.caller (part_in old).seat.begun low below free refl))
 
-  module _ (mid new : Known (SharedCore F D)) (before after : Attempt) (u : IsUnderway call test (part_in old) (part_in mid) before) (same : before.crossings.caller ≡ old.caller) where
+  module _ (mid new : Known (Shared F D)) (before after : Attempt) (u : IsUnderway call test (part_in old) (part_in mid) before) (same : before.crossings.caller ≡ old.caller) where
     pub call_answered : (answer : Reply) → Leads call test (part_in mid) (part_in new) before after (came.Answered answer) → IsAnsweredWith call test old.caller (part_in old) (part_in new) answer
     call_answered answer leads = subst (λ n. IsAnsweredWith call test n (part_in old) (part_in new) answer) same (leads (part_in old) u)
 
     pub call_waits : Leads call test (part_in mid) (part_in new) before after came.NoMemory → (part_in new).seat.begun ≡ after.crossings.ordinal → IsWaiting (part_in new).seat
     call_waits leads = let is = leads (part_in old) u in waits_last call test (part_in old) (part_in new) after is.0 is.1
 
-    pub call_given_up : (last : Known (SharedCore F D)) → after.crossings.caller ≡ before.crossings.caller → Leads call test (part_in mid) (part_in new) before after came.NoMemory → IsLeftOff after.crossings.ordinal (part_in new) (part_in last)
+    pub call_given_up : (last : Known (Shared F D)) → after.crossings.caller ≡ before.crossings.caller → Leads call test (part_in mid) (part_in new) before after came.NoMemory → IsLeftOff after.crossings.ordinal (part_in new) (part_in last)
         → IsGivenUp test old.caller (part_in old) (part_in last)
     call_given_up last still leads left =
         let is = leads (part_in old) u in

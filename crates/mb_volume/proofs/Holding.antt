@@ -25,7 +25,7 @@ use Rattle.mb_volume.specs.Underway.{Brings, Goes, HoldsTicket, IsTold, IsUnderw
 use Rattle.mb_volume.specs.declared.attempt.Attempt.{Attempt}
 use Rattle.mb_volume.specs.declared.events.Came.{Came}
 use Rattle.mb_volume.specs.declared.events.Came.TheVariants as came
-use Rattle.mb_volume.specs.declared.shared.SharedCore.{SharedCore}
+use Rattle.mb_volume.specs.Shared.{Shared}
 use Rattle.mb_volume.proofs.Changing.{others_stand, part_follows}
 use Rattle.mb_volume.proofs.Faulted.{underway_counted}
 use Rattle.mb_volume.proofs.Telling.{brings}
@@ -63,7 +63,7 @@ pub leads_counted : (call : Call) (test : Option (Crossing → Bool)) (now : Par
 leads_counted call test now before after kind same = λ from u. subst (λ (a : Attempt). IsUnderway call test from now a) (sym same) (underway_counted call test from now before u kind)
 
 -- the call goes on in the same pass, or in a later one
-pub making_on : {F D : Type 0} (call : Call) (test : Option (Crossing → Bool)) (old new : Known (SharedCore F D)) (before after : Attempt) → new.caller ≡ old.caller → after.crossings.caller ≡ before.crossings.caller
+pub making_on : {F D : Type 0} (call : Call) (test : Option (Crossing → Bool)) (old new : Known (Shared F D)) (before after : Attempt) → new.caller ≡ old.caller → after.crossings.caller ≡ before.crossings.caller
     → (making : IsMaking call test old before false) → Leads call test (part_in old) (part_in new) before after came.On → IsMaking call test new after false
 making_on call test old new before after caller same making leads = record {
   caller = same ∙ making.caller ∙ sym caller;
@@ -76,7 +76,7 @@ inside_leads : (call : Call) (test : Option (Crossing → Bool)) (first then : P
     → Leads call test first then before after (came.Inside ticket)
 inside_leads call test first then before after answer ticket is leads = subst (λ (a : Came). Leads call test first then before after a) is leads
 
-pub making_inside : {F D : Type 0} (call : Call) (test : Option (Crossing → Bool)) (old new : Known (SharedCore F D)) (before after : Attempt) (answer : Came) (ticket : Ticket) → new.caller ≡ old.caller → after.crossings.caller ≡ before.crossings.caller
+pub making_inside : {F D : Type 0} (call : Call) (test : Option (Crossing → Bool)) (old new : Known (Shared F D)) (before after : Attempt) (answer : Came) (ticket : Ticket) → new.caller ≡ old.caller → after.crossings.caller ≡ before.crossings.caller
     → (making : IsMaking call test old before false) → answer ≡ came.Inside ticket → Leads call test (part_in old) (part_in new) before after answer → IsMaking call test new after false
 making_inside call test old new before after answer ticket caller same making is leads = record {
   caller = same ∙ making.caller ∙ sym caller;
@@ -85,7 +85,7 @@ making_inside call test old new before after answer ticket caller same making is
   waits = λ wrong. absurd (let both : false ≡ true = wrong in cc);
 }
 
-pub holds_inside : {F D : Type 0} (call : Call) (test : Option (Crossing → Bool)) (old new : Known (SharedCore F D)) (before after : Attempt) (answer : Came) (ticket : Ticket) → (making : IsMaking call test old before false) → answer ≡ came.Inside ticket
+pub holds_inside : {F D : Type 0} (call : Call) (test : Option (Crossing → Bool)) (old new : Known (Shared F D)) (before after : Attempt) (answer : Came) (ticket : Ticket) → (making : IsMaking call test old before false) → answer ≡ came.Inside ticket
     → Leads call test (part_in old) (part_in new) before after answer → HoldsTicket after.at ticket
 holds_inside call test old new before after answer ticket making is leads =
     subst (λ (a : At). HoldsTicket a ticket) (sym (inside_leads call test (part_in old) (part_in new) before after answer ticket is leads making.from making.underway).1) refl
@@ -94,36 +94,36 @@ inside_on : (call : Call) (test : Option (Crossing → Bool)) (first then : Part
 inside_on call test first then before after answer ticket is leads = λ from u. (inside_leads call test first then before after answer ticket is leads from u).0
 
 -- the call went in, and was asked there
-pub inside_then : {F D : Type 0} (call : Call) (test : Option (Crossing → Bool)) (old mid new : Known (SharedCore F D)) (before between after : Attempt) (answer last : Came) (ticket : Ticket) → between.crossings.caller ≡ before.crossings.caller
+pub inside_then : {F D : Type 0} (call : Call) (test : Option (Crossing → Bool)) (old mid new : Known (Shared F D)) (before between after : Attempt) (answer last : Came) (ticket : Ticket) → between.crossings.caller ≡ before.crossings.caller
     → answer ≡ came.Inside ticket → Leads call test (part_in old) (part_in mid) before between answer → Leads call test (part_in mid) (part_in new) between after last → Leads call test (part_in old) (part_in new) before after last
 inside_then call test old mid new before between after answer last ticket same is one other =
     leads_then call test (part_in old) (part_in mid) (part_in new) before between after last same (inside_on call test (part_in old) (part_in mid) before between answer ticket is one) other
 
-pub counted_on : {F D : Type 0} (call : Call) (test : Option (Crossing → Bool)) (old mid : Known (SharedCore F D)) (before between : Attempt) (kind : Kind) → mid ≡ old → between ≡ record before { crossings = counted before.crossings kind }
+pub counted_on : {F D : Type 0} (call : Call) (test : Option (Crossing → Bool)) (old mid : Known (Shared F D)) (before between : Attempt) (kind : Kind) → mid ≡ old → between ≡ record before { crossings = counted before.crossings kind }
     → Leads call test (part_in old) (part_in mid) before between came.On
-counted_on {F} {D} call test old mid before between kind pass same = subst (λ (p : Known (SharedCore F D)). Leads call test (part_in old) (part_in p) before between came.On) (sym pass) (leads_counted call test (part_in old) before between kind same)
+counted_on {F} {D} call test old mid before between kind pass same = subst (λ (p : Known (Shared F D)). Leads call test (part_in old) (part_in p) before between came.On) (sym pass) (leads_counted call test (part_in old) before between kind same)
 
 -- the hook let the call go on
-pub making_counted : {F D : Type 0} (call : Call) (test : Option (Crossing → Bool)) (old new : Known (SharedCore F D)) (before after : Attempt) (kind : Kind) → new ≡ old → after ≡ record before { crossings = counted before.crossings kind }
+pub making_counted : {F D : Type 0} (call : Call) (test : Option (Crossing → Bool)) (old new : Known (Shared F D)) (before after : Attempt) (kind : Kind) → new ≡ old → after ≡ record before { crossings = counted before.crossings kind }
     → IsMaking call test old before false → IsMaking call test new after false
 making_counted {F} {D} call test old new before after kind pass same making =
-    subst (λ (p : Known (SharedCore F D)). IsMaking call test p after false) (sym pass) (subst (λ (a : Attempt). IsMaking call test old a false) (sym same) (record {
+    subst (λ (p : Known (Shared F D)). IsMaking call test p after false) (sym pass) (subst (λ (a : Attempt). IsMaking call test old a false) (sym same) (record {
       caller = making.caller;
       from = making.from;
       underway = underway_counted call test making.from (part_in old) before making.underway kind;
       waits = making.waits;
     }))
 
-pub counted_leads : {F D : Type 0} (call : Call) (test : Option (Crossing → Bool)) (old mid new : Known (SharedCore F D)) (before between after : Attempt) (kind : Kind) (answer : Came) → mid ≡ old → between ≡ record before { crossings = counted before.crossings kind }
+pub counted_leads : {F D : Type 0} (call : Call) (test : Option (Crossing → Bool)) (old mid new : Known (Shared F D)) (before between after : Attempt) (kind : Kind) (answer : Came) → mid ≡ old → between ≡ record before { crossings = counted before.crossings kind }
     → Leads call test (part_in mid) (part_in new) between after answer → Leads call test (part_in old) (part_in new) before after answer
 counted_leads {F} {D} call test old mid new before between after kind answer pass same leads =
     leads_then call test (part_in old) (part_in old) (part_in new) before between after answer (ap (λ (a : Attempt). a.crossings.caller) same) (leads_counted call test (part_in old) before between kind same)
-    (subst (λ (p : Known (SharedCore F D)). Leads call test (part_in p) (part_in new) between after answer) pass leads)
+    (subst (λ (p : Known (Shared F D)). Leads call test (part_in p) (part_in new) between after answer) pass leads)
 
-pub later_same : {F D : Type 0} (table : TableId) (pass : Known (SharedCore F D)) → IsIdle table pass → IsLater table pass pass
+pub later_same : {F D : Type 0} (table : TableId) (pass : Known (Shared F D)) → IsIdle table pass → IsLater table pass pass
 later_same table pass idle = record { idle = idle; caller = refl; first = refl; config = refl; seen = ([], append-nil (seen_by pass).history) }
 
-pub later_then : {F D : Type 0} (table : TableId) (first then last : Known (SharedCore F D)) → IsLater table first then → IsLater table then last → IsLater table first last
+pub later_then : {F D : Type 0} (table : TableId) (first then last : Known (Shared F D)) → IsLater table first then → IsLater table then last → IsLater table first last
 later_then table first then last one other = record {
   idle = other.idle;
   caller = other.caller ∙ one.caller;
@@ -148,7 +148,7 @@ module _ {F D : Type 0} (saw now new : CoreState F D) (caller mine : ℕ) (same 
 pub others_held : (now new : Sight) (mine caller : ℕ) → mine ≡ caller → Moves mine now new → (other : ℕ) → other ≢ caller → stand_in new other ≡ stand_in now other
 others_held now new mine caller same moves other apart = others_stand now new mine moves other (λ is. apart (is ∙ same))
 
-pub later_held : {F D : Type 0} (table : TableId) (old : Known (SharedCore F D)) (now new : SharedCore F D) → IsIdle table old → origin_of now.core.core ≡ origin_of old.value.core.core → origin_of new.core.core ≡ origin_of now.core.core
+pub later_held : {F D : Type 0} (table : TableId) (old : Known (Shared F D)) (now new : Shared F D) → IsIdle table old → origin_of now.core.core ≡ origin_of old.value.core.core → origin_of new.core.core ≡ origin_of now.core.core
     → IsPrefix (seen_by old).history (sight_of now.core.core).history → (mine : ℕ) → Continues mine (sight_of now.core.core).history (sight_of new.core.core).history → IsLater table old (known old.table old.caller new false)
 later_held {F} {D} table old now new idle one other saw mine more = record {
   idle = (idle.0, refl);

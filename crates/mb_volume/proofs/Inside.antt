@@ -19,15 +19,15 @@ use Rattle.mb_kinds.specs.declared.faults.Ticket.{Ticket}
 use Rattle.mb_kinds.specs.declared.replies.Reply.{Reply}
 use Rattle.mb_kinds.specs.declared.replies.Reply.TheVariants as reply
 use Rattle.mb_run.proofs.Lists.{own_mine}
-use Rattle.mb_run.specs.Events.{Answers, Finishes, Gains, Gathers, IsReadyAt, IsStale, Leaves, LeavesWith, Logs, entry_of, sealed}
+use Rattle.mb_run.specs.Events.{Answers, Finishes, Gains, Gathers, IsCallOf, IsReadyAt, IsStale, Leaves, LeavesWith, Logs, SealsIf, entry_of, sealed}
 use Rattle.mb_run.specs.Pages.{HasTablesFor, Performs}
-use Rattle.mb_run.specs.Served.{SealsIf}
+use Rattle.mb_run.specs.Seals.{is_due}
 use Rattle.mb_run.specs.Sights.{HasTicket, IsTicketOf, Limits, Seat, Sight}
 use Rattle.mb_run.specs.declared.runner.At.{At}
 use Rattle.mb_run.specs.declared.runner.At.TheVariants as at
 use Rattle.mb_volume.specs.Attempts.{back_out, going_in}
 use Rattle.mb_volume.specs.Parts.{Moves, Part, part_of}
-use Rattle.mb_volume.specs.Underway.{AddsEntry, AddsEntryIf, Comes, IsBegunIf, IsFlying, IsReplyIn, IsStruck, IsUnderway, LacksEntry, RunsInside, StandsAt}
+use Rattle.mb_volume.specs.Underway.{AddsEntry, AddsEntryIf, Comes, IsBegunIf, IsFlying, IsReplyIn, IsStruck, IsUnderway, LacksEntry, StandsAt}
 use Rattle.mb_volume.specs.declared.attempt.Attempt.{Attempt}
 use Rattle.mb_volume.specs.declared.events.Came.TheVariants as came
 use Rattle.mb_volume.proofs.Changing.{moves_entry, moves_same, moves_stays, part_is}
@@ -42,11 +42,11 @@ pub part_still : (caller : ℕ) (old new : Sight) → new.config ≡ old.config 
 part_still caller old new config history seat records = part_is (part_of new caller) (part_of old caller) (ap (λ h. own h caller) history) seat (struck_still caller old new records) config
 
 -- a checkpoint changes no part
-pub sealed_part : (b : Bool) (caller : ℕ) (old new : Sight) → SealsIf b old new → part_of new caller ≡ part_of old caller
+sealed_part : (b : Bool) (caller : ℕ) (old new : Sight) → SealsIf b old new → part_of new caller ≡ part_of old caller
 sealed_part true caller old new seals = ap (λ (s : Sight). part_of s caller) seals
 sealed_part false caller old new seals = ap (λ (s : Sight). part_of s caller) seals
 
-pub sealed_moves : (b : Bool) (caller : ℕ) (old mid new : Sight) → SealsIf b mid new → Moves caller old mid → Moves caller old new
+sealed_moves : (b : Bool) (caller : ℕ) (old mid new : Sight) → SealsIf b mid new → Moves caller old mid → Moves caller old new
 sealed_moves true caller old mid new seals moves = subst (Moves caller old) (sym seals) (record { config = moves.config; seats = moves.seats; entries = moves.entries; more = moves.more; records = moves.records; theirs = moves.theirs })
 sealed_moves false caller old mid new seals moves = subst (Moves caller old) (sym seals) moves
 
@@ -104,15 +104,15 @@ module _ (call : Call) (test : Option (Crossing → Bool)) (from : Part) (old : 
         let made : Answers attempt.crossings.caller stood.0.flight reply.Device old new = subst (λ n. Answers n stood.0.flight reply.Device old new) own_ticket (gathers.1 stood.0.flight (ap (λ n. (old.seats n).flight) own_ticket ∙ stood.0.here)) in
         answered_by call test from old attempt u new stood.0.flight reply.Device is_flight stood.0.answered made
 
-    pub comes_stale : (new : Sight) (block : ℕ) → Finishes old new ticket attempt.pages (finished.Stale block) → Comes call test attempt.crossings.caller from (part_of new attempt.crossings.caller) (going_in attempt ticket) came.On
+    pub comes_stale : (new : Sight) (block : ℕ) → Finishes old new ticket attempt.pages call (finished.Stale block) → Comes call test attempt.crossings.caller from (part_of new attempt.crossings.caller) (going_in attempt ticket) came.On
     comes_stale new block finishes =
         let stale = subst (λ n. IsStale n old new attempt.pages) own_ticket finishes.1 in
         subst (λ (p : Part). IsUnderway call test from p (going_in attempt ticket)) (sym (part_still attempt.crossings.caller old new stale.stays.config stale.counts.history stale.mine stale.stays.records))
         (record { config = u.config; within = u.within; most = u.most; ordinal = u.ordinal; counts = u.counts; begun = u.begun; stands = stood; tables = tt; struck = u.struck })
 
-    pub comes_logged : (new : Sight) → Finishes old new ticket attempt.pages finished.Logged → Comes call test attempt.crossings.caller from (part_of new attempt.crossings.caller) (record attempt { at = at.Logged ticket }) came.On
-    comes_logged new finishes =
-        let logs = subst (λ n. Logs n old new ticket) own_ticket finishes.2 in
+    comes_logged : (new : Sight) → Logs ticket.caller old new ticket → Comes call test attempt.crossings.caller from (part_of new attempt.crossings.caller) (record attempt { at = at.Logged ticket }) came.On
+    comes_logged new of =
+        let logs = subst (λ n. Logs n old new ticket) own_ticket of in
         let was = flying call test from old attempt u logs.flight logs.was in
         let same : Some stood.0.flight ≡ Some logs.flight = sym stood.0.here ∙ logs.was in
         let lacks : logs.flight.answered ≡ false = cc (stood.0.answered) in
@@ -147,9 +147,14 @@ module _ (call : Call) (test : Option (Crossing → Bool)) (from : Part) (old : 
           struck = subst (IsStruck test attempt.crossings from.struck) (sym (struck_still attempt.crossings.caller old new logs.stays.records)) u.struck;
         }
 
-    pub comes_sealed : (due : Bool) (mid new : Sight) → Finishes old mid ticket attempt.pages finished.Logged → SealsIf due mid new → Comes call test attempt.crossings.caller from (part_of new attempt.crossings.caller) (record attempt { at = at.Logged ticket }) came.On
-    comes_sealed due mid new finishes seals =
-        subst (λ (p : Part). IsUnderway call test from p (record attempt { at = at.Logged ticket })) (sym (sealed_part due attempt.crossings.caller mid new seals)) (comes_logged mid finishes)
+    pub comes_sealed : (new : Sight) → Finishes old new ticket attempt.pages call finished.Logged → Comes call test attempt.crossings.caller from (part_of new attempt.crossings.caller) (record attempt { at = at.Logged ticket }) came.On
+    comes_sealed new finishes =
+        let of = finishes.2 in
+        subst (λ (p : Part). IsUnderway call test from p (record attempt { at = at.Logged ticket })) (sym (sealed_part (is_due of.logged.config.threshold of.logged.ops call) attempt.crossings.caller of.logged new of.seals)) (comes_logged of.logged of.logs)
+
+    -- the call in flight is that one
+    pub call_at : IsCallOf (old.seats ticket.caller) call
+    call_at flight here = (flying call test from old attempt u flight (ap (λ n. (old.seats n).flight) (sym own_ticket) ∙ here)).call_is
 
     -- what was performed is what the flight is finished with
     pub ready_at : (ready : Ready) → Performs attempt.pages ticket.caller call ticket.moment (performed.Ready ready) → IsReadyAt old ticket attempt.pages ready
@@ -159,10 +164,6 @@ module _ (call : Call) (test : Option (Crossing → Bool)) (from : Part) (old : 
         let same : Some stood.0.flight ≡ Some flight = sym stood.0.here ∙ flight_here in
         let moment : ticket.moment ≡ flight.moment = cc (stood.0.moment) in
         subst (λ m. Performs attempt.pages ticket.caller flight.call m (performed.Ready ready)) moment (subst (λ (c : Call). Performs attempt.pages ticket.caller c ticket.moment (performed.Ready ready)) (sym is.call_is) performs)
-
-    -- the volume runs where the call is logged
-    pub runs_logged : (new : Sight) → RunsInside old → Finishes old new ticket attempt.pages finished.Logged → new.stage ≡ stage.Running
-    runs_logged new runs finishes = finishes.2.stays.stage ∙ runs attempt.crossings.caller ticket (stood.0.flight, stood.0.here, stood.0.mine) finishes.0
 
   -- ---- with its entry
 
@@ -191,14 +192,15 @@ module _ (old new : Sight) (ticket : Ticket) (caller : ℕ) (mine : ticket.calle
   moves_gathers need before now gathered.NoMemory has gathers = moves_nothing old new caller gathers.0
   moves_gathers need before now gathered.Done has gathers = let gains = subst (λ n. Gains n old new need before now) mine gathers.1 in moves_stays caller old new gains.stays gains.counts.history
 
-  pub moves_finishes : (pages : PagesState) (answer : Finished) → Finishes old new ticket pages answer → Moves caller old new
-  moves_finishes pages (finished.Skip was is) finishes = moves_nothing old new caller finishes.1
-  moves_finishes pages (finished.Busy holder) finishes = moves_nothing old new caller finishes.3
-  moves_finishes pages (finished.Stale block) finishes = let stale = subst (λ n. IsStale n old new pages) mine finishes.1 in moves_stays caller old new stale.stays stale.counts.history
-  moves_finishes pages finished.NoMemory finishes = moves_nothing old new caller finishes.1
-  moves_finishes pages finished.Logged finishes =
-      let logs = subst (λ n. Logs n old new ticket) mine finishes.2 in
-      moves_entry caller old new (entry_of caller logs.flight logs.pick logs.answer) logs.stays refl logs.history
+  pub moves_finishes : (pages : PagesState) (made : Call) (answer : Finished) → Finishes old new ticket pages made answer → Moves caller old new
+  moves_finishes pages made (finished.Skip was is) finishes = moves_nothing old new caller finishes.1
+  moves_finishes pages made (finished.Busy holder) finishes = moves_nothing old new caller finishes.3
+  moves_finishes pages made (finished.Stale block) finishes = let stale = subst (λ n. IsStale n old new pages) mine finishes.1 in moves_stays caller old new stale.stays stale.counts.history
+  moves_finishes pages made finished.NoMemory finishes = moves_nothing old new caller finishes.1
+  moves_finishes pages made finished.Logged finishes =
+      let of = finishes.2 in
+      let logs = subst (λ n. Logs n old of.logged ticket) mine of.logs in
+      sealed_moves (is_due of.logged.config.threshold of.logged.ops made) caller old of.logged new of.seals (moves_entry caller old of.logged (entry_of caller logs.flight logs.pick logs.answer) logs.stays refl logs.history)
 
   pub moves_left : (answer : Reply) → LeavesWith old new ticket (left.Left answer) → Moves caller old new
   moves_left answer leaves = let left = subst (λ n. Leaves n leaves.1.0 old new) mine leaves.1.1 in moves_stays caller old new left.stays left.counts.history

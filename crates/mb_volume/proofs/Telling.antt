@@ -26,7 +26,7 @@ use Rattle.mb_run.specs.Sights.{IsTicketOf, Limits}
 use Rattle.mb_volume_core.proofs.Staying.{seated}
 use Rattle.mb_volume.specs.Called.{AreOfFirst, IsAnsweredWith, SaysOfFaults, SaysOfLimit, is_own, own_faults}
 use Rattle.mb_volume.specs.Parts.{Part, part_of}
-use Rattle.mb_volume.specs.Underway.{Brings, Comes, IsAnswered, IsTold, RunsInside, SaysOfTwice}
+use Rattle.mb_volume.specs.Underway.{Brings, Comes, IsAnswered, IsTold, SaysOfTwice}
 use Rattle.mb_volume.specs.declared.attempt.Attempt.{Attempt}
 use Rattle.mb_volume.specs.declared.events.Came.{Came}
 use Rattle.mb_volume.specs.declared.events.Came.TheVariants as came
@@ -94,15 +94,6 @@ all_two P Q R [] both one other = tt
 all_two P Q R (x ∷ xs) both one other = (both x one.0 other.0, all_two P Q R xs both one.1 other.1)
 
 module _ {F D : Type 0} (told : D → Option Image) (faults : D → ℕ) (core : CoreState F D) (r : Right told faults core) where
-  -- the volume runs while a call in flight has a ticket of the present incarnation
-  pub runs_inside : RunsInside (sight_of core)
-  runs_inside = λ caller ticket its present.
-      let seat = seated (slice_get core.callers caller) its.0 its.1 in
-      let flies : IsInFlight caller seat.0.inside (runs core.stage) core.incarnation seat.0.answer its.0 =
-      subst (IsFlying caller seat.0.inside (runs core.stage) core.incarnation seat.0.answer) seat.2 (r.orderly.flying caller seat.0 seat.1) in
-      let is : IsTicket caller its.0 seat.0.inside (runs core.stage) core.incarnation ticket = subst (HasTicketIn caller its.0 seat.0.inside (runs core.stage) core.incarnation) its.2 flies.ticket in
-      running_is core.stage (is.present present).1
-
   pub is_told : (caller : ℕ) → IsTold (part_of (sight_of core) caller)
   is_told caller =
       let says = all_filter (λ (e : Entry). nat_eq e.caller caller) (λ (e : Entry). Says core.journal.records core.config.limit core.stage e.caller e.ordinal e.reply) core.journal.history r.orderly.numbered.says in

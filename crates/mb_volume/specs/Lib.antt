@@ -1,4 +1,5 @@
 pub mod Attempts
+pub mod Shared
 pub mod Parts
 pub mod Called
 pub mod Underway

@@ -10,18 +10,18 @@ use Rattle.mb_turn.specs.Passes.{IsIdle, Known}
 use Rattle.mb_volume.specs.Parts.{Part, part_of}
 use Rattle.mb_volume.specs.Underway.{IsUnderway}
 use Rattle.mb_volume.specs.declared.attempt.Attempt.{Attempt}
-use Rattle.mb_volume.specs.declared.shared.SharedCore.{SharedCore}
+use Rattle.mb_volume.specs.Shared.{Shared}
 
 module _ {F D : Type 0} where
   -- the core as the pass's caller saw it last, and its caller's part of it
-  abbrev pub seen_by : Known (SharedCore F D) → Sight
+  abbrev pub seen_by : Known (Shared F D) → Sight
   seen_by pass = sight_of pass.value.core.core
 
-  abbrev pub part_in : Known (SharedCore F D) → Part
+  abbrev pub part_in : Known (Shared F D) → Part
   part_in pass = part_of (seen_by pass) pass.caller
 
   -- the same caller's pass later on, without the turn
-  pub record IsLater (table : TableId) (old new : Known (SharedCore F D)) : Type 0 where
+  pub record IsLater (table : TableId) (old new : Known (Shared F D)) : Type 0 where
     pub idle : IsIdle table new
     pub caller : new.caller ≡ old.caller
     pub first : new.value.core.core.first ≡ old.value.core.core.first
@@ -29,7 +29,7 @@ module _ {F D : Type 0} where
     pub seen : IsPrefix (seen_by old).history (seen_by new).history
 
   -- a call of the pass's caller is under way, and waits for a recovery where that is said
-  pub record IsMaking (call : Call) (test : Option (Crossing → Bool)) (pass : Known (SharedCore F D)) (attempt : Attempt) (shut : Bool) : Type 0 where
+  pub record IsMaking (call : Call) (test : Option (Crossing → Bool)) (pass : Known (Shared F D)) (attempt : Attempt) (shut : Bool) : Type 0 where
     pub caller : attempt.crossings.caller ≡ pass.caller
     pub from : Part
     pub underway : IsUnderway call test from (part_in pass) attempt

@@ -16,7 +16,7 @@ use Rattle.mb_core_spec.specs.Copies.{no_pages}
 use Rattle.mb_core_spec.specs.declared.stages.Stage.TheVariants as stage
 use Rattle.mb_run.specs.Pages.{HasTablesFor, Performs, has}
 use Rattle.mb_run.specs.Served.{AreCounts, AreSound, IsCounted, counted}
-use Rattle.mb_run.specs.Sights.{HasTicket, IsTicketOf, IsWaiting, Seat, Sight}
+use Rattle.mb_run.specs.Sights.{HasTicket, IsWaiting, Seat, Sight}
 use Rattle.mb_run.specs.declared.answers.Stepped.{Stepped}
 use Rattle.mb_run.specs.declared.answers.Stepped.TheVariants as stepped
 use Rattle.mb_run.specs.declared.runner.At.{At}
@@ -187,7 +187,3 @@ MayCome call test struck seat attempt (event.Finish ticket ready) =
 MayCome call test struck seat attempt (event.Leave ticket) = attempt.at ≡ at.Logged ticket
 MayCome call test struck seat attempt (event.Fault ticket crossing passed) = HoldsTicket attempt.at ticket × IsMet test struck attempt crossing passed
 MayCome call test struck seat attempt event.Recover = IsWaiting seat
-
--- the volume runs while a call in flight has a ticket of the present incarnation
-abbrev pub RunsInside : Sight → Type 0
-RunsInside sight = (caller : ℕ) (ticket : Ticket) → IsTicketOf (sight.seats caller) ticket → ticket.incarnation ≡ sight.incarnation → sight.stage ≡ stage.Running

@@ -1,12 +1,10 @@
 ghost use Rattle.std.specs.Prelude.{◌≡◌, ◌<◌, ◌≤◌, true};
 ghost use Rattle.mb_calls.specs.declared.performing.Performed.TheVariants as performed;
-ghost use Rattle.mb_core_spec.specs.declared.stages.Stage.TheVariants as stage;
 ghost use Rattle.mb_run.specs.Pages.{Performs, has};
-ghost use Rattle.mb_run.specs.Served.{SealsIf, is_due};
 ghost use Rattle.mb_run.specs.Sights.{IsOrderly, IsWaiting};
 ghost use Rattle.mb_run.specs.declared.runner.At.TheVariants as at;
 ghost use Rattle.mb_volume.specs.Parts.{Moves, part_of};
-ghost use Rattle.mb_volume.specs.Underway.{Goes, GoesUnasked, HoldsTicket, IsMet, IsOn, MayCome, RunsInside, rolled};
+ghost use Rattle.mb_volume.specs.Underway.{Goes, GoesUnasked, HoldsTicket, IsMet, IsOn, MayCome, rolled};
 
 use crate::attempt::Attempt;
 use mb_calls::Ready;
@@ -106,24 +104,6 @@ fn gather<C: EventCore>(
     }
 }
 
-/// Takes a checkpoint where one is due after a call was logged.
-fn seal_if_due<C: EventCore>(core: &mut C, call: &Call)
-    requires runs { (C.sight core.old).stage ≡ stage.Running }
-    requires may_seal { C.may_seal core.old ≡ true }
-    requires right { IsOrderly (C.sight core.old) }
-    ensures seals { SealsIf (is_due (C.sight core.old) call.now) (C.sight core.old) (C.sight core.new) }
-    ensures origin { C.origin core.new ≡ C.origin core.old }
-    ensures right { IsOrderly (C.sight core.new) }
-{
-    let threshold = core.config().threshold;
-    if core.logged() >= threshold || matches!(call, Call::Sync) {
-        match core.seal() {
-            Ok(()) => {}
-            Err(_) => unreachable!(),
-        }
-    }
-}
-
 /// The call finishes with what it performed; the checkpoint that is then due is taken at once.
 fn finish<C: EventCore>(
     alloc: Global,
@@ -137,7 +117,6 @@ fn finish<C: EventCore>(
     requires inside { attempt.old.at ≡ at.Inside ticket.now }
     requires there { has attempt.old.pages 0 ≡ true }
     requires ready { Performs attempt.old.pages ticket.now.caller call.now ticket.now.moment (performed.Ready ready) }
-    requires runs { RunsInside (C.sight core.old) }
     requires right { IsOrderly (C.sight core.old) }
     ensures goes { GoesUnasked call.now (part_of (C.sight core.old) attempt.old.crossings.caller) (part_of (C.sight core.new) attempt.old.crossings.caller) attempt.old attempt.new result }
     ensures same { attempt.new.crossings.caller ≡ attempt.old.crossings.caller }
@@ -145,7 +124,7 @@ fn finish<C: EventCore>(
     ensures origin { C.origin core.new ≡ C.origin core.old }
     ensures right { IsOrderly (C.sight core.new) }
 {
-    let finished = core.finish(alloc, ticket, &attempt.pages, ready);
+    let finished = core.finish(alloc, ticket, &attempt.pages, call, ready);
     match finished {
         Finished::Skip { .. } => {
             attempt.back();
@@ -162,7 +141,6 @@ fn finish<C: EventCore>(
         Finished::NoMemory => return Came::NoMemory,
         Finished::Logged => {
             attempt.at = At::Logged(*ticket);
-            seal_if_due(core, call);
             return Came::On;
         }
     }
@@ -264,7 +242,6 @@ pub(crate) fn act<C: EventCore, H: Hook>(
 ) -> Came
     requires on { IsOn call.now (part_of (C.sight core.old) attempt.old.crossings.caller) attempt.old }
     requires may { MayCome call.now (H.test hook.old) (H.struck hook.old) ((C.sight core.old).seats attempt.old.crossings.caller) attempt.old event }
-    requires runs { RunsInside (C.sight core.old) }
     requires right { IsOrderly (C.sight core.old) }
     ensures goes { Goes call.now (H.test hook.old) (part_of (C.sight core.old) attempt.old.crossings.caller) (part_of (C.sight core.new) attempt.old.crossings.caller) attempt.old attempt.new result }
     ensures same { attempt.new.crossings.caller ≡ attempt.old.crossings.caller }

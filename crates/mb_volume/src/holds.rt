@@ -8,15 +8,13 @@ ghost use Rattle.mb_turn.specs.Passes.{IsIdle};
 ghost use Rattle.mb_volume.specs.Attempts.{new_attempt};
 ghost use Rattle.mb_volume.specs.Passing.{IsLater, IsMaking, part_in};
 ghost use Rattle.mb_volume.specs.Underway.{HoldsTicket, IsLeftOff, Leads, MayCome};
-ghost use Rattle.mb_core_spec.specs.Right.{Right};
 
 use crate::attempt::Attempt;
-use crate::events::{Came, Event, act};
+use crate::events::{Came, Event};
 use crate::performing::{has_tables, perform};
 use crate::shared::SharedCore;
 use crate::volume::Volume;
 use mb_calls::{Performed, Ready};
-use mb_core_events::Core;
 use mb_edge::{Disk, Hook, Word};
 use mb_iface::{FileSys, Need};
 use mb_kinds::{Call, Kind, Ticket};
@@ -24,21 +22,6 @@ use mb_run::At;
 use mb_turn::Pass;
 use std::alloc::Global;
 use std::sync::Wait;
-
-/// A core is always in order. It does nothing, and shows this to whoever calls it.
-pub(crate) fn in_order<F: FileSys, D: Disk>(core: &Core<F, D>)
-    ensures { Right D.told D.faults core.now }
-{
-    core.history();
-}
-
-/// The file system's code in a core, which is in order.
-fn code_of<F: FileSys, D: Disk>(core: &Core<F, D>) -> F
-    ensures { Right D.told D.faults core.now }
-{
-    in_order(core);
-    core.fs()
-}
 
 impl<F: FileSys, D: Disk> Volume<F, D> {
     /// What the caller keeps of its next call, whose number it reads in a hold of its own: a core bounds how many there are.
@@ -57,7 +40,7 @@ impl<F: FileSys, D: Disk> Volume<F, D> {
     {
         let begun = pass.begun();
         let shared = self.turn.take(rt, pass);
-        in_order(&shared.core.core);
+        shared.in_order();
         let attempt = Attempt::new(alloc, pass.caller(), begun);
         self.turn.give(pass, shared);
         attempt
@@ -83,9 +66,9 @@ impl<F: FileSys, D: Disk> Volume<F, D> {
         ensures test { H.test hook.new ≡ H.test hook.old }
     {
         let mut shared = self.turn.take(rt, pass);
-        in_order(&shared.core.core);
-        let came = act(alloc, &mut shared.core, hook, attempt, call, event);
-        let code = code_of(&shared.core.core);
+        let came = shared.act(alloc, hook, attempt, call, event);
+        shared.in_order();
+        let code = shared.code();
         self.turn.give(pass, shared);
         (came, code)
     }
@@ -338,7 +321,7 @@ impl<F: FileSys, D: Disk> Volume<F, D> {
     {
         if pass.begun() == attempt.crossings.ordinal {
             let mut shared = self.turn.take(rt, pass);
-            shared.core.core.quit(pass.caller());
+            shared.quit(pass.caller());
             self.turn.give(pass, shared);
         }
     }

@@ -1,16 +1,115 @@
+ghost use Rattle.std.specs.Prelude.{◌≡◌, Some, length, slice_get};
+ghost use Rattle.mb_core_events.specs.Callings.{HasOpenCall};
+ghost use Rattle.mb_core_spec.specs.Events.{ended, with_room};
+ghost use Rattle.mb_core_spec.specs.Right.{Right};
+ghost use Rattle.mb_core_spec.specs.State.{CallerState};
 ghost use Rattle.mb_run.specs.CoreSight.{sight_of};
-ghost use Rattle.mb_volume.specs.Parts.{stand_in};
+ghost use Rattle.mb_run.specs.Seals.{AreInTime};
+ghost use Rattle.mb_run.specs.Sights.{IsOrderly};
+ghost use Rattle.mb_volume.specs.Parts.{Moves, part_of, stand_in};
+ghost use Rattle.mb_volume.specs.Shared.{origin_of};
+ghost use Rattle.mb_volume.specs.Underway.{Goes, IsOn, MayCome};
 
-use mb_edge::Disk;
+use crate::attempt::Attempt;
+use crate::events::{Came, Event, act};
+use mb_core_events::Core;
+use mb_edge::{Disk, Hook};
 use mb_iface::FileSys;
+use mb_kinds::Call;
 use mb_run::EventCore;
 use mb_turn::Booked;
 use mb_volume_core::{Origin, VolumeCore};
+use std::alloc::Global;
+use std::marker::Model;
 
 /// A core that callers share: what the turn keeps. Its entries are the core's history, the stand of a declared caller is
-/// what the core keeps of it, with its fault records, and its origin is the core's.
+/// what the core keeps of it, with its fault records, and its origin is the core's. Its checkpoints are taken in time.
 pub struct SharedCore<F: FileSys, D: Disk> {
-    pub core: VolumeCore<F, D>,
+    core: VolumeCore<F, D>,
+}
+
+impl<F: FileSys, D: Disk> Model for SharedCore<F, D> {
+    ghost use Rattle.std.specs.Coded.{codes, coded_ℕ};
+    ghost use Rattle.std.specs.FinMap as fin;
+    ghost use Rattle.std.specs.Ordering.{nat_cmp};
+    ghost use Rattle.mb_tree.specs.contracts.seats.PlainFile as file;
+    ghost use Rattle.mb_run.specs.CoreSight.{sight_of};
+    ghost use Rattle.mb_run.specs.Seals.{AreInTime};
+    ghost use Rattle.mb_volume.specs.Shared.{Shared};
+
+    ghost Value = { Shared F D };
+
+    ghost coded = { Prim.hlevel (codes, F.code, D.code, fin.code {R = nat_cmp} coded_ℕ coded_ℕ, fin.code {R = nat_cmp} coded_ℕ file.the_row.coded) };
+
+    ghost view = { λ s. record { core = s.core } };
+
+    ghost invariant = { λ s. AreInTime s.core.core.config.threshold (sight_of s.core.core).ops s.core.core.journal.sealed_at s.core.core.journal.history };
+}
+
+impl<F: FileSys, D: Disk> SharedCore<F, D> {
+    pub(crate) fn new(core: VolumeCore<F, D>) -> SharedCore<F, D>
+        requires seals { AreInTime core.core.config.threshold (length core.core.journal.oplog) core.core.journal.sealed_at core.core.journal.history }
+        ensures { result ≡ record { core = core } }
+    {
+        SharedCore { core }
+    }
+
+    pub(crate) fn into_core(self) -> VolumeCore<F, D>
+        ensures core { result ≡ self.core }
+        ensures right { IsOrderly (sight_of result.core) }
+    {
+        let SharedCore { core } = self;
+        in_order(&core.core);
+        core
+    }
+
+    /// It is always in order. It does nothing, and shows this to whoever calls it.
+    pub(crate) fn in_order(&self)
+        ensures { Right D.told D.faults self.now.core.core }
+    {
+        in_order(&self.core.core);
+    }
+
+    /// The file system's code in the core.
+    pub(crate) fn code(&self) -> F {
+        self.core.core.fs()
+    }
+
+    /// One event of a caller's call.
+    pub(crate) fn act<H: Hook>(
+        &mut self,
+        alloc: Global,
+        hook: &mut H,
+        attempt: &mut Attempt,
+        call: &Call,
+        event: Event,
+    ) -> Came
+        requires on { IsOn call.now (part_of (sight_of self.old.core.core) attempt.old.crossings.caller) attempt.old }
+        requires may { MayCome call.now (H.test hook.old) (H.struck hook.old) ((sight_of self.old.core.core).seats attempt.old.crossings.caller) attempt.old event }
+        ensures goes { Goes call.now (H.test hook.old) (part_of (sight_of self.old.core.core) attempt.old.crossings.caller) (part_of (sight_of self.new.core.core) attempt.old.crossings.caller) attempt.old attempt.new result }
+        ensures same { attempt.new.crossings.caller ≡ attempt.old.crossings.caller }
+        ensures moves { Moves attempt.old.crossings.caller (sight_of self.old.core.core) (sight_of self.new.core.core) }
+        ensures test { H.test hook.new ≡ H.test hook.old }
+        ensures origin { origin_of self.new ≡ origin_of self.old }
+    {
+        in_order(&self.core.core);
+        act(alloc, &mut self.core, hook, attempt, call, event)
+    }
+
+    /// Ends a caller's call in flight, which has no entry.
+    pub(crate) fn quit(&mut self, caller: u8)
+        requires { HasOpenCall self.old.core.core caller }
+        ensures quit { (mine : CallerState) → slice_get self.old.core.core.callers caller ≡ Some mine → self.new.core.core ≡ with_room (ended self.old.core.core caller mine self.new.core.core.cache.pins) self.new.core.core }
+    {
+        self.core.core.quit(caller);
+    }
+}
+
+/// A core is always in order. It does nothing, and shows this to whoever calls it.
+fn in_order<F: FileSys, D: Disk>(core: &Core<F, D>)
+    ensures { Right D.told D.faults core.now }
+{
+    core.history();
 }
 
 impl<F: FileSys, D: Disk> Booked for SharedCore<F, D> {

@@ -3,6 +3,7 @@ ghost use Rattle.std.specs.List.{AllByRecursion};
 ghost use mathlib.Core.List.{IsPrefix};
 ghost use Rattle.mb_kinds.specs.Own.{own};
 ghost use Rattle.mb_run.specs.CoreSight.{sight_of};
+ghost use Rattle.mb_run.specs.Seals.{AreInTime};
 ghost use Rattle.mb_run.specs.Sights.{IsOrderly};
 ghost use Rattle.mb_turn.specs.Passes.{IsIdle, dealt};
 ghost use Rattle.mb_volume.specs.Called.{IsAnsweredWith, IsGivenUp};
@@ -10,7 +11,6 @@ ghost use Rattle.mb_volume.specs.Parts.{stand_in};
 ghost use Rattle.mb_volume.specs.Passing.{IsLater, IsMaking, part_in, seen_by};
 
 use crate::events::Came;
-use crate::holds::in_order;
 use crate::shared::SharedCore;
 use mb_edge::{Disk, Hook, NoMemory};
 use mb_iface::FileSys;
@@ -42,14 +42,15 @@ impl<F: FileSys, D: Disk> Volume<F, D> {
         alloc: Global,
         core: VolumeCore<F, D>,
     ) -> Result<(Volume<F, D>, Passes<SharedCore<F, D>>), VolumeCore<F, D>>
+        requires seals { AreInTime core.core.config.threshold (length core.core.journal.oplog) core.core.journal.sealed_at core.core.journal.history }
         ensures callers { IfOk result (λ started. started.0.callers ≡ (sight_of core.core).config.callers) }
         ensures passes { IfOk result (λ started. started.1.items ≡ dealt started.0.table (sight_of core.core).config.callers (record { core = core })) }
         ensures core { IfErr result (λ back. back ≡ core) }
     {
         let callers = core.config().callers.as_slice().len() as u8;
-        match Turn::start(alloc, SharedCore { core }, callers) {
+        match Turn::start(alloc, SharedCore::new(core), callers) {
             Ok((turn, passes)) => Ok((Volume { turn }, passes)),
-            Err(SharedCore { core }) => Err(core),
+            Err(shared) => Err(shared.into_core()),
         }
     }
 
@@ -105,8 +106,6 @@ impl<F: FileSys, D: Disk> Volume<F, D> {
         ensures right { IsOrderly (sight_of result.core) }
     {
         let Volume { turn } = self;
-        let SharedCore { core } = turn.close(passes);
-        in_order(&core.core);
-        core
+        turn.close(passes).into_core()
     }
 }

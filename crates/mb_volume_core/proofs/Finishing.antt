@@ -37,8 +37,9 @@ use Rattle.mb_core_state.specs.declared.answers.Finished.{Finished}
 use Rattle.mb_core_state.specs.declared.answers.Finished.TheVariants as finished
 use Rattle.mb_core_events.specs.Callings.{HoldsTicket, IsUnanswered, MayFinish}
 use Rattle.mb_core_events.proofs.Knowing.{runs_now, ticket_of_is}
-use Rattle.mb_run.specs.CoreSight.{has_seal_room, is_fresh, pages_kept, seat_of, sight_of, stales_of}
+use Rattle.mb_run.specs.CoreSight.{is_fresh, pages_kept, seat_of, sight_of, stales_of}
 use Rattle.mb_run.specs.Events.{Finishes, IsReadyAt, IsStale, Logs}
+use Rattle.mb_volume_core.specs.Seals.{SealsAfter}
 use Rattle.mb_run.specs.Pages.{HasTablesFor, Performs, has}
 use Rattle.mb_run.specs.Sights.{HasTicket, Seat}
 use Rattle.mb_volume_core.specs.Answers.{as_performed}
@@ -46,7 +47,7 @@ use Rattle.mb_volume_core.proofs.Answering.{open_is}
 use Rattle.mb_volume_core.proofs.Freshness.{holds_fresh}
 use Rattle.mb_volume_core.proofs.Gathering.{holds_ticket, last_begun, skipped}
 use Rattle.mb_volume_core.proofs.Origins.{origin_of}
-use Rattle.mb_volume_core.proofs.Staying.{begun_now, open_now, own_now, seat_now, some_at, stays_at}
+use Rattle.mb_volume_core.proofs.Staying.{begun_now, keeps_log, open_now, own_now, seat_now, some_at, stays_at}
 
 -- ---- what was performed, as the core takes it
 
@@ -147,6 +148,7 @@ module _ {F D : Type 0} (told : D → Option Image) (faults : D → ℕ) (core :
           stays = stays_at core new caller anew stored (ap (λ (c : CoreState F D). c.config) event) (ap (λ (c : CoreState F D). c.journal.records) event) (ap (λ (c : CoreState F D). c.stage) event) (ap (λ (c : CoreState F D). c.incarnation) event);
           mine = seat_now core new caller anew stored of.mine of.here ∙ sym (ap seat_of of.here);
           counts = record { history = ap (λ (c : CoreState F D). c.journal.history) event; begun = omega (arith, begun_is); open_calls = omega (arith, opened) };
+          log = keeps_log core new (ap (λ (c : CoreState F D). c.journal.sealed_at) event) (ap (λ (c : CoreState F D). c.journal.oplog) event);
           was = mine;
           floor = elim (taken_or of.mine.stales core.floor mine) [ inl none ↦ inl (ap (λ (c : CoreState F D). c.floor) event ∙ none) | inr taken ↦ inr (ap (λ (c : CoreState F D). c.floor) event ∙ taken) ];
           empty = ap pages_kept own;
@@ -186,18 +188,25 @@ module _ {F D : Type 0} (told : D → Option Image) (faults : D → ℕ) (core :
           history = ap (λ (c : CoreState F D). c.journal.history) event;
           begun = omega (arith, begun_is);
           open_calls = omega (arith, opened, was);
+          sealed_at = ap (λ (c : CoreState F D). c.journal.sealed_at) event;
           floor = ap (λ (c : CoreState F D). c.floor) event ∙ without_mine caller core.floor mine;
           trail = ap (λ (c : CoreState F D). c.journal.trail) event;
         }
 
-    pub finishes_are : (ready : Ready) (answer : Finished) → EndsBy core new ticket of.mine of.flight pages ready answer → Finishes (sight_of core) (sight_of new) ticket pages answer
-    finishes_are ready (finished.Skip was now) by = (skipped core new ticket was now by, ap sight_of by.same)
-    finishes_are ready (finished.Busy holder) by =
+    -- `after` is the core with the checkpoint that was due
+    pub finishes_are : (ready : Ready) (answer : Finished) → EndsBy core new ticket of.mine of.flight pages ready answer → (after : CoreState F D) (made : Call) → SealsAfter answer made new after
+        → Finishes (sight_of core) (sight_of after) ticket pages made answer
+    finishes_are ready (finished.Skip was now) by after made seals = (skipped core new ticket was now by, ap sight_of seals ∙ ap sight_of by.same)
+    finishes_are ready (finished.Busy holder) by after made seals =
         let whose : holder.caller ≡ by.1.at = (ticket_of_is told faults core r by.1.at holder by.1.ticket).caller_is in
-        (by.0, by.1.floor ∙ ap Some (sym whose), λ same. by.1.other (sym whose ∙ same), ap sight_of by.2)
-    finishes_are ready (finished.Stale block) by = (by.0, is_stale ready.shared block by.0 by.1 by.2 by.3)
-    finishes_are ready finished.NoMemory by = (by.0, ap sight_of by.2)
-    finishes_are ready finished.Logged by = (by.0, by.1, logs ready by.1 by.3)
+        (by.0, by.1.floor ∙ ap Some (sym whose), (λ same. by.1.other (sym whose ∙ same)), ap sight_of seals ∙ ap sight_of by.2)
+    finishes_are ready (finished.Stale block) by after made seals = (by.0, subst (λ (c : CoreState F D). IsStale caller (sight_of core) (sight_of c) pages) (sym seals) (is_stale ready.shared block by.0 by.1 by.2 by.3))
+    finishes_are ready finished.NoMemory by after made seals = (by.0, ap sight_of seals ∙ ap sight_of by.2)
+    finishes_are ready finished.Logged by after made seals = (by.0, by.1, record { logged = sight_of new; logs = logs ready by.1 by.3; seals = seals })
+
+    -- a volume on which a call was logged runs
+    pub logged_runs : (ready : Ready) → EndsBy core new ticket of.mine of.flight pages ready finished.Logged → new.stage ≡ stage.Running
+    logged_runs ready by = ap (λ (c : CoreState F D). c.stage) by.3.event ∙ runs_now told faults core r ticket of by.0
 
     -- what the core was begun on stays
     pub finishes_begun : (ready : Ready) (answer : Finished) → EndsBy core new ticket of.mine of.flight pages ready answer → origin_of new ≡ origin_of core
@@ -206,9 +215,3 @@ module _ {F D : Type 0} (told : D → Option Image) (faults : D → ℕ) (core :
     finishes_begun ready (finished.Stale block) by = ap origin_of by.3
     finishes_begun ready finished.NoMemory by = ap origin_of by.2
     finishes_begun ready finished.Logged by = ap origin_of by.3.event
-
-pub may_seal : {F D : Type 0} (core : CoreState F D) → 11 ≤ core.journal.room.trail → has_seal_room core ≡ true
-may_seal core some = grind (arith, nat_tests, some)
-
-pub has_room : {F D : Type 0} (core : CoreState F D) → has_seal_room core ≡ true → 11 ≤ core.journal.room.trail
-has_room core test = grind (arith, nat_tests, test)

@@ -15,10 +15,10 @@ use Rattle.mb_core_state.specs.declared.answers.Left.{Left}
 use Rattle.mb_core_state.specs.declared.answers.Left.TheVariants as left
 use Rattle.mb_core_events.specs.Callings.{HasEntry, HasOpenCall}
 use Rattle.mb_run.specs.CoreSight.{seat_of, sight_of}
-use Rattle.mb_run.specs.Events.{IsReplyOf, Leaves, LeavesWith, Quits, Stays}
+use Rattle.mb_run.specs.Events.{IsReplyOf, KeepsLog, Leaves, LeavesWith, Quits, Stays}
 use Rattle.mb_run.specs.Sights.{HasTicket, IsWaiting, Seat}
 use Rattle.mb_volume_core.proofs.Origins.{origin_of}
-use Rattle.mb_volume_core.proofs.Staying.{begun_now, floor_without, open_now, seat_now, seated, stays_at}
+use Rattle.mb_volume_core.proofs.Staying.{begun_now, floor_without, keeps_log, open_now, seat_now, seated, stays_at}
 
 -- the caller once its call ended
 abbrev pub gone : CallerState → CallerState
@@ -44,8 +44,8 @@ has_open_call core caller waits =
 module _ {F D : Type 0} (core : CoreState F D) (caller : ℕ) (mine : CallerState) (here : slice_get core.callers caller ≡ Some mine) where
   -- a flight that has its entry ends
   pub leaves_at : (after : CoreState F D) (flight : Flight) → mine.flight ≡ Some flight → flight.answered ≡ true → after.callers ≡ slice_set core.callers caller (gone mine) → Stays caller (sight_of core) (sight_of after)
-      → after.journal.history ≡ core.journal.history → (after.floor ≡ None) ⊎ (after.floor ≡ core.floor) → Leaves caller flight (sight_of core) (sight_of after)
-  leaves_at after flight flies answered stored stays history floor =
+      → after.journal.history ≡ core.journal.history → KeepsLog (sight_of core) (sight_of after) → (after.floor ≡ None) ⊎ (after.floor ≡ core.floor) → Leaves caller flight (sight_of core) (sight_of after)
+  leaves_at after flight flies answered stored stays history log floor =
       let sum : begun after.callers + mine.begun ≡ begun core.callers + mine.begun = begun_now core after caller (gone mine) stored mine here in
       let calls : open_calls after.callers + one_if (is_open (open_flight mine.flight)) ≡ open_calls core.callers + 0 = open_now core after caller (gone mine) stored mine here in
       let shut : one_if (is_open (open_flight mine.flight)) ≡ 0 = ap (λ (o : Option Flight). one_if (is_open (open_flight o))) flies ∙ ap (λ (b : Bool). one_if (is_open (if b then None else Some flight))) answered in
@@ -56,6 +56,7 @@ module _ {F D : Type 0} (core : CoreState F D) (caller : ℕ) (mine : CallerStat
         answered = answered;
         mine = seat_now core after caller (gone mine) stored mine here ∙ sym (ap left_by here);
         counts = record { history = history; begun = omega (arith, sum); open_calls = omega (arith, calls, shut) };
+        log = log;
         floor = floor;
       }
 
@@ -67,6 +68,7 @@ module _ {F D : Type 0} (core : CoreState F D) (caller : ℕ) (mine : CallerStat
         stays = stays_at core made caller (gone mine) refl refl refl refl refl;
         mine = ap (λ (s : Seat). s.flight) (seat_now core made caller (gone mine) refl mine here);
         history = refl;
+        log = keeps_log core made refl refl;
         trail = refl;
       } in
       subst (λ (c : CoreState F D). Quits caller (sight_of core) (sight_of c)) (sym event) quits
@@ -81,7 +83,7 @@ module _ {F D : Type 0} (core new : CoreState F D) (ticket : Ticket) (mine : Cal
   leaves_by answers here flight (left.Left answer) flies answered by =
       let made : CoreState F D = with_room (leaving core ticket.caller mine ticket new.cache.pins) new in
       let stays = stays_at core made ticket.caller (gone mine) refl refl refl refl refl in
-      let leaves = leaves_at core ticket.caller mine here made flight flies answered refl stays refl (floor_without ticket.caller core.floor) in
+      let leaves = leaves_at core ticket.caller mine here made flight flies answered refl stays refl (keeps_log core made refl refl) (floor_without ticket.caller core.floor) in
       (by.0, (flight, subst (λ (c : CoreState F D). Leaves ticket.caller flight (sight_of core) (sight_of c)) (sym by.2) leaves, reply_of ticket.caller core.journal.history mine flight answer answers flies answered by.1))
 
   pub left_origin : (answer : Left) → Leaving core new ticket mine answer → origin_of new ≡ origin_of core

@@ -21,6 +21,7 @@ use Rattle.mb_core_order.proofs.Orderlies.{brief}
 use Rattle.mb_core_order.proofs.Readings.{flying_inside}
 use Rattle.mb_run.specs.CoreSight.{are_blocks_fresh, are_tables_fresh, is_block_fresh, is_fresh, pages_kept, seat_of, sight_of}
 use Rattle.mb_run.specs.Sights.{AreApart, IsOrderly, steps_left}
+use Rattle.mb_run.proofs.InTime.{InTime}
 
 -- ---- the moments of the entries
 
@@ -60,6 +61,12 @@ few_steps inside ops stage.Dropped few brief = omega (arith, few, brief)
 few_steps inside ops stage.Remounted few brief = omega (arith, few, brief)
 few_steps inside ops (stage.Restored done) few brief = omega (arith, few, brief)
 few_steps inside ops stage.Failed few brief = omega arith
+
+struck_steps : (inside ops callers : ℕ) (now : Stage) → inside ≤ callers → now ≡ stage.Struck → steps_left inside ops now ≤ callers + ops + 4
+struck_steps inside ops callers now low is = subst (λ (s : Stage). steps_left inside ops s ≤ callers + ops + 4) (sym is) (omega (arith, low))
+
+again_steps : (inside ops : ℕ) (now : Stage) → now ≡ stage.Again → steps_left inside ops now ≤ ops + 4
+again_steps inside ops now is = subst (λ (s : Stage). steps_left inside ops s ≤ ops + 4) (sym is) (omega arith)
 
 none_open : (callers : List CallerState) → ((caller : ℕ) → caller < length callers → (seat_of (slice_get callers caller)).flight ≡ None) → open_calls callers ≡ 0
 none_open [] free = refl
@@ -102,6 +109,9 @@ module _ {F D : Type 0} (told : D → Option Image) (faults : D → ℕ) (core :
   few_insiders : insiders core.callers ≤ 8
   few_insiders = let inside = few_inside core.callers in let all = few_callers in omega (arith, inside, all)
 
+  most_inside : insiders core.callers ≤ length core.config.callers
+  most_inside = let inside = few_inside core.callers in let same = r.orderly.numbered.callers_are in omega (arith, inside, same)
+
   holder_is : (holder : ℕ) → core.floor ≡ Some holder → (mine : CallerState) × (slice_get core.callers holder ≡ Some mine) × (mine.inside ≡ true)
   holder_is holder held = subst (λ (floor : Option ℕ). IsFloor floor core.callers) held r.orderly.floor
 
@@ -115,8 +125,9 @@ module _ {F D : Type 0} (told : D → Option Image) (faults : D → ℕ) (core :
       let same = r.orderly.numbered.callers_are in
       (flies.flight, ap (λ (o : Option CallerState). (seat_of o).flight) has.1 ∙ flies.flies, omega (arith, low, same))
 
-  pub orderly : IsOrderly (sight_of core)
-  orderly = record {
+  pub orderly : InTime (sight_of core) → IsOrderly (sight_of core)
+  orderly seals = record {
+    seals = seals;
     above = all_of (IsEntry core.config.start (core.config.start + (sight_of core).begun) (length core.config.callers)) (λ (entry : Entry). core.config.start < entry.moment) (λ entry is. is.above) core.journal.history r.orderly.numbered.entries;
     below = all_of (IsEntry core.config.start (core.config.start + (sight_of core).begun) (length core.config.callers)) (λ (entry : Entry). entry.moment ≤ core.config.start + (sight_of core).begun) (λ entry is. is.below) core.journal.history r.orderly.numbered.entries;
     apart = moments_apart core.journal.history r.orderly.numbered.pairs;
@@ -124,6 +135,8 @@ module _ {F D : Type 0} (told : D → Option Image) (faults : D → ℕ) (core :
     limit = r.orderly.bounds.limit;
     callers = r.orderly.bounds.callers;
     left = few_steps (insiders core.callers) (length core.journal.oplog) core.stage few_insiders (brief core r.orderly);
+    struck = struck_steps (insiders core.callers) (length core.journal.oplog) (length core.config.callers) core.stage most_inside;
+    again = again_steps (insiders core.callers) (length core.journal.oplog) core.stage;
     floor = holder_flies;
     fresh = λ holder held running.
         (let has = holder_is holder held in

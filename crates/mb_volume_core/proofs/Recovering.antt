@@ -29,6 +29,7 @@ use Rattle.mb_core_spec.specs.declared.stages.Stage.TheVariants as stage
 use Rattle.mb_tree.proofs.FiniteMaps.{one_or_not}
 use Rattle.mb_core_order.proofs.Beginning.{set_there}
 use Rattle.mb_core_order.proofs.Keepings.{insiders_set, no_floor}
+use Rattle.mb_core_order.proofs.Logs.{folds_short}
 use Rattle.mb_core_state.specs.Answers.{phase_of, with_disk}
 use Rattle.mb_core_state.specs.Redoing.{EndsIf, FailsStep, redoing}
 use Rattle.mb_core_state.specs.declared.answers.Phase.{Phase}
@@ -49,7 +50,7 @@ use Rattle.mb_volume_core.specs.Answers.{stepped_as}
 use Rattle.mb_volume_core.proofs.Answering.{answered, open_is}
 use Rattle.mb_volume_core.proofs.Gathering.{last_begun}
 use Rattle.mb_volume_core.proofs.Origins.{origin_of}
-use Rattle.mb_volume_core.proofs.Staying.{begun_now, floor_without, open_now, own_now, seated, some_at, stays_at}
+use Rattle.mb_volume_core.proofs.Staying.{begun_now, floor_without, keeps_log, open_now, own_now, seated, some_at, stays_at}
 
 -- ---- the crossings of the call that runs the step
 
@@ -152,8 +153,8 @@ module _ {F D : Type 0} (told : D → Option Image) (faults : D → ℕ) (core :
     callers_are : new.callers ≡ core.callers
     callers_are = ap (λ (c : CoreState F D). c.callers) is ∙ callers
 
-    waits : Waits (sight_of core) (sight_of new)
-    waits = record {
+    waits : event.journal.sealed_at ≡ core.journal.sealed_at → length event.journal.oplog ≤ ops → Waits (sight_of core) (sight_of new)
+    waits sealed_at shorter = record {
       config = ap (λ (c : CoreState F D). (sight_of c).config) (is) ∙ ap (λ config. (sight_of (record core { config = config })).config) config;
       incarnation = ap (λ (c : CoreState F D). c.incarnation) is ∙ incarnation;
       seats = λ other. ap (λ (all : List CallerState). seat_of (slice_get all other)) callers_are;
@@ -162,16 +163,23 @@ module _ {F D : Type 0} (told : D → Option Image) (faults : D → ℕ) (core :
         begun = ap (λ (all : List CallerState). (sight_of (record core { callers = all })).begun) callers_are;
         open_calls = ap (λ (all : List CallerState). (sight_of (record core { callers = all })).open_calls) callers_are;
       };
+      log = record { sealed_at = ap (λ (c : CoreState F D). c.journal.sealed_at) is ∙ sealed_at; ops = subst (λ (c : CoreState F D). (sight_of c).ops ≤ ops) (sym is) shorter };
       floor = inr (ap (λ (c : CoreState F D). c.floor) is ∙ floor);
     }
 
-    rolls : event.journal.records ≡ core.journal.records → recovers core.stage ≡ true → steps_left (insiders event.callers) (length event.journal.oplog) event.stage < steps_left inside ops core.stage → Rolls (sight_of core) (sight_of new)
-    rolls records recovered fewer = record {
-      waits = waits;
+    rolls_shorter : event.journal.records ≡ core.journal.records → recovers core.stage ≡ true → event.journal.sealed_at ≡ core.journal.sealed_at → length event.journal.oplog ≤ ops
+        → steps_left (insiders event.callers) (length event.journal.oplog) event.stage + ops < steps_left inside ops core.stage + length event.journal.oplog → Rolls (sight_of core) (sight_of new)
+    rolls_shorter records recovered sealed_at shorter fewer = record {
+      waits = waits sealed_at shorter;
       records = ap (λ (c : CoreState F D). c.journal.records) is ∙ records;
       recovered = recovered;
-      fewer = subst (λ (c : CoreState F D). (sight_of c).left < steps_left inside ops core.stage) (sym is) fewer;
+      fewer = subst (λ (c : CoreState F D). (sight_of c).left + ops < steps_left inside ops core.stage + (sight_of c).ops) (sym is) fewer;
     }
+
+    -- the log stays as long as it was
+    rolls : event.journal.records ≡ core.journal.records → recovers core.stage ≡ true → event.journal.sealed_at ≡ core.journal.sealed_at → length event.journal.oplog ≡ ops
+        → steps_left (insiders event.callers) (length event.journal.oplog) event.stage < steps_left inside ops core.stage → Rolls (sight_of core) (sight_of new)
+    rolls records recovered sealed_at same fewer = rolls_shorter records recovered sealed_at (omega (arith, same)) (omega (arith, same, fewer))
 
   -- ---- a call is unwound
 
@@ -193,12 +201,13 @@ module _ {F D : Type 0} (told : D → Option Image) (faults : D → ℕ) (core :
             incarnation = ap (λ (c : CoreState F D). c.incarnation) event;
             seats = seats_kept ticket.caller mine now here stored refl;
             counts = record { history = ap (λ (c : CoreState F D). c.journal.history) event; begun = omega (arith, begun_is); open_calls = omega (arith, opened) };
+            log = keeps_log core new (ap (λ (c : CoreState F D). c.journal.sealed_at) event) (ap (λ (c : CoreState F D). c.journal.oplog) event);
             floor = elim (floor_without ticket.caller core.floor) [ inl none ↦ inl (ap (λ (c : CoreState F D). c.floor) event ∙ none) | inr same ↦ inr (ap (λ (c : CoreState F D). c.floor) event ∙ same) ];
           };
           records = ap (λ (c : CoreState F D). c.journal.records) event;
           recovered = ap recovers struck;
-          fewer = subst (λ (c : CoreState F D). (sight_of c).left < steps_left inside ops core.stage) (sym event)
-              (subst (λ (s : Stage). steps_left (insiders (slice_set core.callers ticket.caller now)) ops s < steps_left inside ops s) (sym struck) (omega (arith, one, less)));
+          fewer = subst (λ (c : CoreState F D). (sight_of c).left + ops < steps_left inside ops core.stage + (sight_of c).ops) (sym event)
+              (subst (λ (s : Stage). steps_left (insiders (slice_set core.callers ticket.caller now)) ops s + ops < steps_left inside ops s + ops) (sym struck) (omega (arith, one, less)));
         },
       )
     where
@@ -232,7 +241,7 @@ module _ {F D : Type 0} (told : D → Option Image) (faults : D → ℕ) (core :
         let now = reopens_at core.stage _ _ is.0 in (
           (
             ap (λ (c : CoreState F D). recovers c.stage) is.1,
-            rolls (reopening core new.tables.opens) is.1 refl refl refl refl refl refl (recovers_at stage.Remounted now refl) (fewer_at stage.Remounted _ now (omega arith)),
+            rolls (reopening core new.tables.opens) is.1 refl refl refl refl refl refl (recovers_at stage.Remounted now refl) refl refl (fewer_at stage.Remounted _ now (omega arith)),
             ap (λ (c : CoreState F D). awaits_remount c.stage) is.1 ∙ sym (ap awaits_remount now),
             none_at phase.Reopen is.0 (λ still. still),
           ),
@@ -244,7 +253,7 @@ module _ {F D : Type 0} (told : D → Option Image) (faults : D → ℕ) (core :
           (
             ap (λ (c : CoreState F D). c.stage) is.1,
             ap (λ (c : CoreState F D). c.floor) is.1 ∙ floor_free now.0 now.1,
-            rolls (resuming core) is.1 refl refl refl refl refl refl (recovers_at (stage.Restored now.0) now.1 refl) (fewer_at (stage.Restored now.0) _ now.1 (omega (arith, most))),
+            rolls (resuming core) is.1 refl refl refl refl refl refl (recovers_at (stage.Restored now.0) now.1 refl) refl refl (fewer_at (stage.Restored now.0) _ now.1 (omega (arith, most))),
             ap awaits_remount now.1,
             none_at phase.Resume is.0 (λ still. still),
           ),
@@ -270,10 +279,10 @@ module _ {F D : Type 0} (told : D → Option Image) (faults : D → ℕ) (core :
     drop_comes : (answer : Recovered) → Drops core new answer → Comes answer
     drop_comes recovered.Dropped is =
         let now = drops_by (ops + 3) (omega arith) is.0 in
-        ((ap (λ (c : CoreState F D). recovers c.stage) is.2, rolls (dropping core) is.2 refl refl refl refl refl refl now.0 now.1, ap (λ (c : CoreState F D). awaits_remount c.stage) is.2 ∙ sym (drops_awaits is.0), none_at phase.Drop is.0 (λ still. still)), ap origin_of is.2)
+        ((ap (λ (c : CoreState F D). recovers c.stage) is.2, rolls (dropping core) is.2 refl refl refl refl refl refl now.0 refl refl now.1, ap (λ (c : CoreState F D). awaits_remount c.stage) is.2 ∙ sym (drops_awaits is.0), none_at phase.Drop is.0 (λ still. still)), ap origin_of is.2)
     drop_comes (recovered.Failed count) is =
         let now = drops_by 0 (omega arith) is.0 in
-        ((ap (λ (c : CoreState F D). c.stage) is.3, inl (ap (λ (c : CoreState F D). c.journal.records) is.3, waits (failing core) is.3 refl refl refl refl refl, now.0, none_at phase.Drop is.0 (λ still. still))), ap origin_of is.3)
+        ((ap (λ (c : CoreState F D). c.stage) is.3, inl (ap (λ (c : CoreState F D). c.journal.records) is.3, waits (failing core) is.3 refl refl refl refl refl refl (omega arith), now.0, none_at phase.Drop is.0 (λ still. still))), ap origin_of is.3)
     drop_comes recovered.Idle is = absurd is
     drop_comes (recovered.Unwound ticket) is = absurd is
     drop_comes recovered.Remounted is = absurd is
@@ -306,17 +315,18 @@ module _ {F D : Type 0} (told : D → Option Image) (faults : D → ℕ) (core :
 
       remount_comes : (answer : Recovered) → IsUnheard test struck by answer → Remounts faults core new (caller_of by) answer → Comes answer
       remount_comes recovered.Remounted heard is =
-          let now = remounts_at core.stage _ _ is.0 in (
+          let now = remounts_at core.stage _ _ is.0 in
+          let low = fewer_at stage.Dropped (ops + 2) now (omega arith) in (
             (
               now,
-              ap (λ (c : CoreState F D). c.stage) is.1,
-              rolls (remounting core new.cache.disk) is.1 refl refl refl refl refl refl (recovers_at stage.Dropped now refl) (fewer_at stage.Dropped _ now (omega arith)),
+              ap (λ (c : CoreState F D). c.stage) is.1.event,
+              rolls_shorter (remounting core new.cache.disk new.journal.oplog) is.1.event refl refl refl refl refl refl (recovers_at stage.Dropped now refl) refl (folds_short core.journal.oplog new.journal.oplog is.1.folds) (omega (arith, low)),
               passed_at test Remount by after (subst (λ (p : Phase). CountsAt p by after) is.0 counts) (unfired_remount test struck by heard),
             ),
-            ap origin_of is.1,
+            ap origin_of is.1.event,
           )
       remount_comes recovered.Device heard is = fails_comes (recovers_at stage.Dropped (remounts_at core.stage _ _ is.0) refl) is.1
-      remount_comes recovered.NoMemory heard is = (ap sight_of is.0, ap origin_of is.0)
+      remount_comes recovered.NoMemory heard is = (ap sight_of is.1.0, ap origin_of is.1.0)
       remount_comes recovered.Idle heard is = absurd is
       remount_comes (recovered.Unwound ticket) heard is = absurd is
       remount_comes (recovered.Failed count) heard is = absurd is
@@ -334,14 +344,14 @@ module _ {F D : Type 0} (told : D → Option Image) (faults : D → ℕ) (core :
           let low = now.3 in (
             (
               ap (λ (c : CoreState F D). recovers c.stage) again.event,
-              rolls (redoing (with_disk core new.cache.disk) logged.0 again.changes now.0) again.event refl refl refl refl refl refl (recovers_at (stage.Restored now.0) now.1 refl) (fewer_at (stage.Restored now.0) _ now.1 (omega (arith, low))),
+              rolls (redoing (with_disk core new.cache.disk) logged.0 again.changes now.0) again.event refl refl refl refl refl refl (recovers_at (stage.Restored now.0) now.1 refl) refl refl (fewer_at (stage.Restored now.0) _ now.1 (omega (arith, low))),
               ap (λ (c : CoreState F D). awaits_remount c.stage) again.event ∙ sym (ap awaits_remount now.1),
               passed_at test Replay by after (subst (λ (p : Phase). CountsAt p by after) is.0 counts) (unfired_replay test struck by number heard),
             ),
             ap origin_of again.event,
           )
       replay_comes recovered.Device heard is = let now = replays_at core.stage _ _ is.0.0 is.0.1 in fails_comes (recovers_at (stage.Restored now.0) now.1 refl) is.1
-      replay_comes recovered.NoMemory heard is = (ap sight_of is.0, ap origin_of is.0)
+      replay_comes recovered.NoMemory heard is = (ap sight_of is.1.0, ap origin_of is.1.0)
       replay_comes recovered.Idle heard is = absurd is
       replay_comes (recovered.Unwound ticket) heard is = absurd is
       replay_comes (recovered.Failed count) heard is = absurd is
@@ -379,7 +389,7 @@ module _ {F D : Type 0} (told : D → Option Image) (faults : D → ℕ) (core :
             let event = met.struck.2 in (
               (
                 ap (λ (c : CoreState F D). c.stage) event,
-                strikes (striking_at core at strokes) event (waits (striking_at core at strokes) event refl refl refl refl refl) at (ap (λ (c : CoreState F D). c.journal.records) event) met.point by are met.next met.tested counts,
+                strikes (striking_at core at strokes) event (waits (striking_at core at strokes) event refl refl refl refl refl refl (omega arith)) at (ap (λ (c : CoreState F D). c.journal.records) event) met.point by are met.next met.tested counts,
               ),
               ap origin_of event,
             )
@@ -388,7 +398,7 @@ module _ {F D : Type 0} (told : D → Option Image) (faults : D → ℕ) (core :
             let event = met.struck.2 in (
               (
                 ap (λ (c : CoreState F D). c.stage) event,
-                inr (strikes (failing (striking_at core at strokes)) event (waits (failing (striking_at core at strokes)) event refl refl refl refl refl) at (ap (λ (c : CoreState F D). c.journal.records) event) met.point by are met.next met.tested counts),
+                inr (strikes (failing (striking_at core at strokes)) event (waits (failing (striking_at core at strokes)) event refl refl refl refl refl refl (omega arith)) at (ap (λ (c : CoreState F D). c.journal.records) event) met.point by are met.next met.tested counts),
               ),
               ap origin_of event,
             )

@@ -1,5 +1,5 @@
 -- A checkpoint, and a page that is written back.
-use Rattle.std.proofs.Common.{◌≡◌, ◌∙◌, ◌≤◌, ◌+◌, ℕ, [], ◌∷◌, ◌++◌, Option, Result, Ok, Err, length, refl, ap, sym, subst, arith, length-append}
+use Rattle.std.proofs.Common.{◌≡◌, ◌∙◌, ◌≤◌, ◌+◌, ℕ, true, [], ◌∷◌, ◌++◌, Option, Result, Ok, Err, length, refl, ap, sym, subst, arith, length-append}
 use Rattle.std.specs.Result.{OnErr, OnOk}
 use Rattle.mb_kinds.specs.Image.{Image}
 use Rattle.mb_edge.specs.Causes.{Rose}
@@ -14,8 +14,14 @@ use Rattle.mb_core_spec.specs.State.{CoreState}
 use Rattle.mb_core_spec.specs.declared.stages.Stage.{Stage}
 use Rattle.mb_core_spec.specs.declared.stages.Stage.TheVariants as stage
 use Rattle.mb_run.specs.CoreSight.{sight_of}
-use Rattle.mb_run.specs.Events.{FlushesWith, sealed}
+use Rattle.mb_core_state.specs.declared.answers.Finished.{Finished}
+use Rattle.mb_core_state.specs.declared.answers.Finished.TheVariants as finished
+use Rattle.mb_kinds.specs.declared.calls.Call.{Call}
+use Rattle.mb_run.specs.Events.{FlushesWith, SealsIf, sealed}
+use Rattle.mb_run.specs.Seals.{is_due}
+use Rattle.mb_volume_core.specs.Seals.{SealsAfter}
 use Rattle.mb_run.specs.Sights.{Sight, steps_left}
+use Rattle.mb_run.proofs.InTime.{InTime, same_time, sealed_time}
 
 -- what an answer gives, carried over to what follows from it
 pub if_ok : {T E P Q : Type 0} (answer : Result T E) → (P → Q) → OnOk answer P → OnOk answer Q
@@ -25,6 +31,11 @@ if_ok (Err fault) follows holds = tt
 pub if_err : {T E P Q : Type 0} (answer : Result T E) → (P → Q) → OnErr answer P → OnErr answer Q
 if_err (Ok value) follows holds = tt
 if_err (Err fault) follows holds = follows holds
+
+-- a checkpoint, taken or not, leaves them in time
+pub seal_time : {T E : Type 0} (old new : Sight) (answer : Result T E) → OnOk answer (new ≡ sealed old new) → OnErr answer (new ≡ old) → InTime old → InTime new
+seal_time old new (Ok done) ok err was = sealed_time old new (let few = was.few in omega (arith, few)) ok
+seal_time old new (Err none) ok err was = same_time old new err was
 
 abbrev with_left : Sight → ℕ → Sight
 with_left sight n = record sight { left = n }
@@ -39,6 +50,12 @@ module _ {F D : Type 0} (core new : CoreState F D) where
 
   pub seals : core.stage ≡ stage.Running → new ≡ with_room (sealing core new.cache.sealed) new → sight_of new ≡ sealed (sight_of core) (sight_of new)
   seals runs event = ap sight_of event ∙ ap (λ n. with_left (sealed (sight_of core) (sight_of new)) n) (none_left runs)
+
+  -- where one is due after a call was logged
+  pub seals_after : (answer : Finished) (made : Call) → answer ≡ finished.Logged → is_due core.config.threshold (length core.journal.oplog) made ≡ true → core.stage ≡ stage.Running → new ≡ with_room (sealing core new.cache.sealed) new
+      → SealsAfter answer made core new
+  seals_after answer made logged due runs event =
+      subst (λ (a : Finished). SealsAfter a made core new) (sym logged) (subst (λ b. SealsIf b (sight_of core) (sight_of new)) (sym due) (seals runs event))
 
   -- ---- a page is written back
 

@@ -9,7 +9,7 @@ use Rattle.mb_core_spec.specs.State.{CallerState, CoreState}
 use Rattle.mb_core_order.proofs.Beginning.{set_here, set_there}
 use Rattle.mb_core_order.proofs.Overlays.{total_set}
 use Rattle.mb_run.specs.CoreSight.{pages_kept, seat_of, sight_of, stales_of}
-use Rattle.mb_run.specs.Events.{Stays}
+use Rattle.mb_run.specs.Events.{KeepsLog, Stays}
 use Rattle.mb_run.specs.Sights.{limits_of}
 
 -- ---- a list of callers
@@ -74,3 +74,8 @@ module _ {F D : Type 0} (core after : CoreState F D) (caller : ℕ) (now : Calle
     open_now =
         ap (λ (callers : List CallerState). open_calls callers + one_if (is_open (open_flight mine.flight))) stored
         ∙ total_set (λ (one : CallerState). one_if (is_open (open_flight one.flight))) core.callers caller mine now here
+
+-- ---- the operation log stays
+
+pub keeps_log : {F D : Type 0} (core new : CoreState F D) → new.journal.sealed_at ≡ core.journal.sealed_at → new.journal.oplog ≡ core.journal.oplog → KeepsLog (sight_of core) (sight_of new)
+keeps_log core new sealed_at oplog = record { sealed_at = sealed_at; ops = let same : length new.journal.oplog ≡ length core.journal.oplog = ap length oplog in omega (arith, same) }

@@ -14,7 +14,7 @@ use Rattle.mb_run.specs.CoreSight.{sight_of}
 use Rattle.mb_run.specs.Events.{FaultsWith, Strikes as StrikesSight}
 use Rattle.mb_run.specs.Sights.{IsTicketOf}
 use Rattle.mb_volume_core.proofs.Origins.{origin_of}
-use Rattle.mb_volume_core.proofs.Staying.{seated}
+use Rattle.mb_volume_core.proofs.Staying.{keeps_log, seated}
 
 pub holds_ticket : {F D : Type 0} (core : CoreState F D) (ticket : Ticket) → IsTicketOf ((sight_of core).seats ticket.caller) ticket → HoldsTicket core ticket
 holds_ticket core ticket has =
@@ -30,6 +30,7 @@ module _ {F D : Type 0} (core new : CoreState F D) (ticket : Ticket) (kind : Kin
     incarnation = refl;
     seats = λ other. refl;
     counts = record { history = refl; begun = refl; open_calls = refl };
+    log = keeps_log core (with_room (striking core ticket kind nth strokes) new) refl refl;
     floor = refl;
   }
 

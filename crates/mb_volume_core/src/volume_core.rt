@@ -1,8 +1,10 @@
-ghost use Rattle.std.specs.Prelude.{IfSome};
+ghost use Rattle.std.specs.Prelude.{◌≡◌, ◌≤◌, IfSome, length};
 ghost use Rattle.mb_core_spec.specs.Right.{Right};
 ghost use Rattle.mb_core_spec.specs.declared.config.Config.{Config};
-ghost use Rattle.mb_run.specs.CoreSight.{has_seal_room, sight_of};
+ghost use Rattle.mb_run.specs.CoreSight.{sight_of};
+ghost use Rattle.mb_run.specs.Seals.{is_due};
 ghost use Rattle.mb_run.specs.Served.{AreCounts};
+ghost use Rattle.mb_volume_core.specs.Seals.{SealsAfter};
 
 use crate::answers::{as_ready, entered_as, stepped_as};
 use mb_cache::Flushed;
@@ -45,12 +47,38 @@ fn counts_fit(by: &Option<Crossings>)
     }
 }
 
+/// Whether a checkpoint is due after a call: after `sync(2)`, and once as many operations are logged as the threshold says.
+fn is_due<F: FileSys, D: Disk>(core: &Core<F, D>, call: &Call) -> bool
+    ensures { result ≡ is_due core.now.config.threshold (length core.now.journal.oplog) call.now }
+{
+    core.logged() >= core.config().threshold || matches!(call, Call::Sync)
+}
+
+/// Takes the checkpoint that is due where a call was logged. With the call came room for it.
+fn seal_if_due<F: FileSys, D: Disk>(core: &mut Core<F, D>, finished: &Finished, call: &Call)
+    requires runs { finished.now ≡ Finished.Logged → core.old.stage ≡ Stage.Running }
+    requires room { finished.now ≡ Finished.Logged → 11 ≤ core.old.journal.room.trail }
+    requires right { Right D.told D.faults core.old }
+    ensures seals { SealsAfter finished.now call.now core.old core.new }
+    ensures first { core.new.first ≡ core.old.first }
+    ensures config { core.new.config ≡ core.old.config }
+    ensures right { Right D.told D.faults core.new }
+{
+    let Finished::Logged = finished else {
+        return;
+    };
+    if is_due(core, call) {
+        match core.seal() {
+            Ok(()) => {}
+            Err(_) => unreachable!(),
+        }
+    }
+}
+
 impl<F: FileSys, D: Disk> EventCore for VolumeCore<F, D> {
     type Origin = Origin<D>;
 
     ghost sight = { λ c. sight_of c.core };
-
-    ghost may_seal = { λ c. has_seal_room c.core };
 
     ghost faults = { λ c. D.faults c.core.cache.disk };
 
@@ -109,10 +137,19 @@ impl<F: FileSys, D: Disk> EventCore for VolumeCore<F, D> {
         self.core.gather(alloc, ticket, need, pages)
     }
 
-    fn finish(&mut self, alloc: Global, ticket: &Ticket, pages: &Pages, ready: Ready) -> Finished {
+    fn finish(
+        &mut self,
+        alloc: Global,
+        ticket: &Ticket,
+        pages: &Pages,
+        call: &Call,
+        ready: Ready,
+    ) -> Finished {
         in_order(&self.core);
         least_stale_block();
-        self.core.finish(alloc, ticket, pages, as_ready(ready))
+        let finished = self.core.finish(alloc, ticket, pages, as_ready(ready));
+        seal_if_due(&mut self.core, &finished, call);
+        finished
     }
 
     fn leave(&mut self, ticket: &Ticket) -> Left {

@@ -3,7 +3,7 @@ use Rattle.mb_run.specs.Served.{Did, backed}
 use Rattle.mb_run.specs.Sights.{Sight}
 use Rattle.mb_run.specs.declared.progress.Went.TheVariants as went
 use Rattle.mb_run.proofs.Inside.{inside_back, did_busy, did_nothing, did_stale, did_log}
-use Rattle.mb_run.proofs.Finishing.{did_seals, held_tables, logged_runs, ready_at}
+use Rattle.mb_run.proofs.Finishing.{call_at, did_seals, held_tables, ready_at}
 use Rattle.mb_run.proofs.TallySteps.{finishing_logged, finishing_skip, finishing_stale}
 use Rattle.mb_run.proofs.steps.finish_now.Goals as goal
 
@@ -20,10 +20,12 @@ pub returns-in-NoMemory-clause-did : goal.returns-in-NoMemory-clause-did
 returns-in-NoMemory-clause-did g c = subst (λ (s : Sight). Did c.args.calls.now (g.H.Hook.test c.args.hook.now) (g.C.EventCore.sight c.args.core.now) s c.args.runner.now c.args.runner.now went.NoMemory) (sym c.in-NoMemory.ensures.finishes.1) (did_nothing _ _ _ _ _ c.requires.may c.args.ticket.now c.requires.inside)
 
 pub returns-in-Logged-clause-did : goal.returns-in-Logged-clause-did
-returns-in-Logged-clause-did g c = did_seals _ _ _ _ _ _ _ _ (did_log _ _ _ _ _ c.requires.may c.args.ticket.now c.requires.inside _ c.in-Logged.ensures.finishes) c.seal_if_due.ensures.seals
+returns-in-Logged-clause-did g c =
+    let of = c.in-Logged.ensures.finishes.2 in
+    did_seals _ _ _ of.logged _ _ _ _ (did_log _ _ _ _ _ c.requires.may c.args.ticket.now c.requires.inside of.logged c.in-Logged.ensures.finishes.0 of.logs) of.seals
 
-pub seal_if_due-requires-clause-runs : goal.seal_if_due-requires-clause-runs
-seal_if_due-requires-clause-runs g c = logged_runs _ _ _ _ _ c.requires.may c.args.ticket.now c.requires.inside _ c.in-Logged.ensures.finishes
+pub finish-finished-requires-clause-call : goal.finish-finished-requires-clause-call
+finish-finished-requires-clause-call g c = call_at _ _ _ _ _ c.requires.may c.args.ticket.now c.requires.inside
 
 pub finish-finished-requires-clause-ready : goal.finish-finished-requires-clause-ready
 finish-finished-requires-clause-ready g c = ready_at _ _ _ _ _ c.requires.may c.args.ticket.now c.requires.inside _ c.requires.ready
@@ -44,4 +46,4 @@ pub returns-in-NoMemory-clause-tallied : goal.returns-in-NoMemory-clause-tallied
 returns-in-NoMemory-clause-tallied g c = λ tally. tt
 
 pub returns-in-Logged-clause-tallied : goal.returns-in-Logged-clause-tallied
-returns-in-Logged-clause-tallied g c = finishing_logged _ _ _ _ _ c.requires.may c.args.ticket.now c.requires.inside _ _ _ c.in-Logged.ensures.finishes c.seal_if_due.ensures.seals
+returns-in-Logged-clause-tallied g c = finishing_logged _ _ _ _ _ c.requires.may c.args.ticket.now c.requires.inside _ c.in-Logged.ensures.finishes

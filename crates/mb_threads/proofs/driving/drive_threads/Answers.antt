@@ -7,7 +7,7 @@ use Rattle.mb_run.specs.CoreSight.{sight_of}
 use Rattle.mb_turn.specs.Passes.{IsIdle, Known}
 use Rattle.mb_volume.specs.Parts.{stand_in}
 use Rattle.mb_volume.specs.Passing.{part_in, seen_by}
-use Rattle.mb_volume.specs.declared.shared.SharedCore.{SharedCore}
+use Rattle.mb_volume.specs.Shared.{Shared}
 use Rattle.mb_threads.specs.declared.worker.Worker.{Worker}
 use Rattle.mb_threads.proofs.Apart.{driven_apart, ready_new}
 use Rattle.mb_threads.proofs.Sending.{volume_sync, worker_send}
@@ -32,19 +32,19 @@ close-requires-in-Err-with_capacity-2-clause-idle g c =
 
 pub returns-in-Err-with_capacity-clause-first : goal.returns-in-Err-with_capacity-clause-first
 returns-in-Err-with_capacity-clause-first g c =
-    dealt_first (λ (p : Known (SharedCore g.row.F.Denot g.row.D.Denot)). c.close.result.core.first ≡ p.value.core.core.first) c.in-Ok.started.0.table (sight_of c.args.core.core).config.callers _ _ c.in-Ok.ensures.passes c.in_order.ensures.orderly.bounds.some c.close.ensures.first
+    dealt_first (λ (p : Known (Shared g.row.F.Denot g.row.D.Denot)). c.close.result.core.first ≡ p.value.core.core.first) c.in-Ok.started.0.table (sight_of c.args.core.core).config.callers _ _ c.in-Ok.ensures.passes c.in_order.ensures.orderly.bounds.some c.close.ensures.first
 
 pub returns-in-Err-with_capacity-clause-config : goal.returns-in-Err-with_capacity-clause-config
 returns-in-Err-with_capacity-clause-config g c =
-    dealt_first (λ (p : Known (SharedCore g.row.F.Denot g.row.D.Denot)). c.close.result.core.config ≡ p.value.core.core.config) c.in-Ok.started.0.table (sight_of c.args.core.core).config.callers _ _ c.in-Ok.ensures.passes c.in_order.ensures.orderly.bounds.some c.close.ensures.config
+    dealt_first (λ (p : Known (Shared g.row.F.Denot g.row.D.Denot)). c.close.result.core.config ≡ p.value.core.core.config) c.in-Ok.started.0.table (sight_of c.args.core.core).config.callers _ _ c.in-Ok.ensures.passes c.in_order.ensures.orderly.bounds.some c.close.ensures.config
 
 pub returns-in-Err-with_capacity-2-clause-first : goal.returns-in-Err-with_capacity-2-clause-first
 returns-in-Err-with_capacity-2-clause-first g c =
-    dealt_first (λ (p : Known (SharedCore g.row.F.Denot g.row.D.Denot)). c.close-in-Err-with_capacity-2.result.core.first ≡ p.value.core.core.first) c.in-Ok.started.0.table (sight_of c.args.core.core).config.callers _ _ c.in-Ok.ensures.passes c.in_order.ensures.orderly.bounds.some c.close-in-Err-with_capacity-2.ensures.first
+    dealt_first (λ (p : Known (Shared g.row.F.Denot g.row.D.Denot)). c.close-in-Err-with_capacity-2.result.core.first ≡ p.value.core.core.first) c.in-Ok.started.0.table (sight_of c.args.core.core).config.callers _ _ c.in-Ok.ensures.passes c.in_order.ensures.orderly.bounds.some c.close-in-Err-with_capacity-2.ensures.first
 
 pub returns-in-Err-with_capacity-2-clause-config : goal.returns-in-Err-with_capacity-2-clause-config
 returns-in-Err-with_capacity-2-clause-config g c =
-    dealt_first (λ (p : Known (SharedCore g.row.F.Denot g.row.D.Denot)). c.close-in-Err-with_capacity-2.result.core.config ≡ p.value.core.core.config) c.in-Ok.started.0.table (sight_of c.args.core.core).config.callers _ _ c.in-Ok.ensures.passes c.in_order.ensures.orderly.bounds.some c.close-in-Err-with_capacity-2.ensures.config
+    dealt_first (λ (p : Known (Shared g.row.F.Denot g.row.D.Denot)). c.close-in-Err-with_capacity-2.result.core.config ≡ p.value.core.core.config) c.in-Ok.started.0.table (sight_of c.args.core.core).config.callers _ _ c.in-Ok.ensures.passes c.in_order.ensures.orderly.bounds.some c.close-in-Err-with_capacity-2.ensures.config
 
 pub employ-workers-requires-clause-same : goal.employ-workers-requires-clause-same
 employ-workers-requires-clause-same g c =
@@ -85,8 +85,8 @@ returns-clause-first g c =
     c.in-Ok.started.0.table (record { core = c.args.core }) (sight_of c.args.core.core).config.callers c.args.job.now.calls (map g.H.Hook.test c.args.hooks.items) c.employ-workers.result.items (c.employ-workers.ensures.passes ∙ c.in-Ok.ensures.passes) c.employ-workers.ensures.hooks
     (subst (λ cs. AllByRecursion (λ (w : Worker g.row.F.Denot g.row.D.Denot g.row.H.Denot). w.calls.now ≡ cs) c.employ-workers.result.items) c.as_slice.ensures c.employ-workers.ensures.calls)
     c.each-workers.result.items c.each-workers.ensures.gives
-    c.close-core.result.core (subst (AllByRecursion (λ (p : Known (SharedCore g.row.F.Denot g.row.D.Denot)). c.close-core.result.core.first ≡ p.value.core.core.first)) c.dismiss-passes.ensures.passes c.close-core.ensures.first)
-    (subst (AllByRecursion (λ (p : Known (SharedCore g.row.F.Denot g.row.D.Denot)). c.close-core.result.core.config ≡ p.value.core.core.config)) c.dismiss-passes.ensures.passes c.close-core.ensures.config) c.in_order.ensures.orderly.bounds.some
+    c.close-core.result.core (subst (AllByRecursion (λ (p : Known (Shared g.row.F.Denot g.row.D.Denot)). c.close-core.result.core.first ≡ p.value.core.core.first)) c.dismiss-passes.ensures.passes c.close-core.ensures.first)
+    (subst (AllByRecursion (λ (p : Known (Shared g.row.F.Denot g.row.D.Denot)). c.close-core.result.core.config ≡ p.value.core.core.config)) c.dismiss-passes.ensures.passes c.close-core.ensures.config) c.in_order.ensures.orderly.bounds.some
 
 pub returns-clause-config : goal.returns-clause-config
 returns-clause-config g c =
@@ -94,23 +94,23 @@ returns-clause-config g c =
     c.in-Ok.started.0.table (record { core = c.args.core }) (sight_of c.args.core.core).config.callers c.args.job.now.calls (map g.H.Hook.test c.args.hooks.items) c.employ-workers.result.items (c.employ-workers.ensures.passes ∙ c.in-Ok.ensures.passes) c.employ-workers.ensures.hooks
     (subst (λ cs. AllByRecursion (λ (w : Worker g.row.F.Denot g.row.D.Denot g.row.H.Denot). w.calls.now ≡ cs) c.employ-workers.result.items) c.as_slice.ensures c.employ-workers.ensures.calls)
     c.each-workers.result.items c.each-workers.ensures.gives
-    c.close-core.result.core (subst (AllByRecursion (λ (p : Known (SharedCore g.row.F.Denot g.row.D.Denot)). c.close-core.result.core.first ≡ p.value.core.core.first)) c.dismiss-passes.ensures.passes c.close-core.ensures.first)
-    (subst (AllByRecursion (λ (p : Known (SharedCore g.row.F.Denot g.row.D.Denot)). c.close-core.result.core.config ≡ p.value.core.core.config)) c.dismiss-passes.ensures.passes c.close-core.ensures.config) c.in_order.ensures.orderly.bounds.some
+    c.close-core.result.core (subst (AllByRecursion (λ (p : Known (Shared g.row.F.Denot g.row.D.Denot)). c.close-core.result.core.first ≡ p.value.core.core.first)) c.dismiss-passes.ensures.passes c.close-core.ensures.first)
+    (subst (AllByRecursion (λ (p : Known (Shared g.row.F.Denot g.row.D.Denot)). c.close-core.result.core.config ≡ p.value.core.core.config)) c.dismiss-passes.ensures.passes c.close-core.ensures.config) c.in_order.ensures.orderly.bounds.some
 
 pub returns-clause-driven : goal.returns-clause-driven
 returns-clause-driven g c =
-    λ going. driven_apart g.D.Disk.told g.D.Disk.faults c.close-core.result.core c.args.core.core c.in_order-2.ensures c.args.job.now (map g.H.Hook.test c.args.hooks.items)
+    λ going. driven_apart g.D.Disk.told g.D.Disk.faults c.close-core.result.core c.args.core.core c.in_order-2.ensures c.args.job.now (map g.H.Hook.test c.args.hooks.items) c.close-core.ensures.right.seals
     (out_config (λ (w : Worker g.row.F.Denot g.row.D.Denot g.row.H.Denot). w.pass) (λ (w : Worker g.row.F.Denot g.row.D.Denot g.row.H.Denot). g.H.Hook.test w.hook) (λ (w : Worker g.row.F.Denot g.row.D.Denot g.row.H.Denot). w.calls.now) (λ (w : Worker g.row.F.Denot g.row.D.Denot g.row.H.Denot). w.stopped)
     c.in-Ok.started.0.table (record { core = c.args.core }) (sight_of c.args.core.core).config.callers c.args.job.now.calls (map g.H.Hook.test c.args.hooks.items) c.employ-workers.result.items (c.employ-workers.ensures.passes ∙ c.in-Ok.ensures.passes) c.employ-workers.ensures.hooks
     (subst (λ cs. AllByRecursion (λ (w : Worker g.row.F.Denot g.row.D.Denot g.row.H.Denot). w.calls.now ≡ cs) c.employ-workers.result.items) c.as_slice.ensures c.employ-workers.ensures.calls)
     c.each-workers.result.items c.each-workers.ensures.gives
-    c.close-core.result.core (subst (AllByRecursion (λ (p : Known (SharedCore g.row.F.Denot g.row.D.Denot)). c.close-core.result.core.first ≡ p.value.core.core.first)) c.dismiss-passes.ensures.passes c.close-core.ensures.first)
-    (subst (AllByRecursion (λ (p : Known (SharedCore g.row.F.Denot g.row.D.Denot)). c.close-core.result.core.config ≡ p.value.core.core.config)) c.dismiss-passes.ensures.passes c.close-core.ensures.config) c.in_order.ensures.orderly.bounds.some) c.requires.begun
+    c.close-core.result.core (subst (AllByRecursion (λ (p : Known (Shared g.row.F.Denot g.row.D.Denot)). c.close-core.result.core.first ≡ p.value.core.core.first)) c.dismiss-passes.ensures.passes c.close-core.ensures.first)
+    (subst (AllByRecursion (λ (p : Known (Shared g.row.F.Denot g.row.D.Denot)). c.close-core.result.core.config ≡ p.value.core.core.config)) c.dismiss-passes.ensures.passes c.close-core.ensures.config) c.in_order.ensures.orderly.bounds.some) c.requires.begun
     (λ caller low. caller_made (λ (w : Worker g.row.F.Denot g.row.D.Denot g.row.H.Denot). w.pass) (λ (w : Worker g.row.F.Denot g.row.D.Denot g.row.H.Denot). g.H.Hook.test w.hook) (λ (w : Worker g.row.F.Denot g.row.D.Denot g.row.H.Denot). w.calls.now) (λ (w : Worker g.row.F.Denot g.row.D.Denot g.row.H.Denot). w.stopped)
     c.in-Ok.started.0.table (record { core = c.args.core }) (sight_of c.args.core.core).config.callers c.args.job.now.calls (map g.H.Hook.test c.args.hooks.items) c.employ-workers.result.items (c.employ-workers.ensures.passes ∙ c.in-Ok.ensures.passes) c.employ-workers.ensures.hooks
     (subst (λ cs. AllByRecursion (λ (w : Worker g.row.F.Denot g.row.D.Denot g.row.H.Denot). w.calls.now ≡ cs) c.employ-workers.result.items) c.as_slice.ensures c.employ-workers.ensures.calls)
     c.each-workers.result.items c.each-workers.ensures.gives
-    c.close-core.result.core (subst (AllByRecursion (λ (p : Known (SharedCore g.row.F.Denot g.row.D.Denot)). c.close-core.result.core.first ≡ p.value.core.core.first)) c.dismiss-passes.ensures.passes c.close-core.ensures.first)
-    (subst (AllByRecursion (λ (p : Known (SharedCore g.row.F.Denot g.row.D.Denot)). c.close-core.result.core.config ≡ p.value.core.core.config)) c.dismiss-passes.ensures.passes c.close-core.ensures.config)
-    (c.dismiss-passes.ensures.stopped (c.end_of-end.ensures.whole going)) (subst (AllByRecursion (λ (p : Known (SharedCore g.row.F.Denot g.row.D.Denot)). own (sight_of c.close-core.result.core).history p.caller ≡ (part_in p).entries)) c.dismiss-passes.ensures.passes c.close-core.ensures.mine)
-    (subst (AllByRecursion (λ (p : Known (SharedCore g.row.F.Denot g.row.D.Denot)). stand_in (sight_of c.close-core.result.core) p.caller ≡ stand_in (seen_by p) p.caller)) c.dismiss-passes.ensures.passes c.close-core.ensures.stand) refl caller (omega (arith, low, c.requires.begun.callers)))
+    c.close-core.result.core (subst (AllByRecursion (λ (p : Known (Shared g.row.F.Denot g.row.D.Denot)). c.close-core.result.core.first ≡ p.value.core.core.first)) c.dismiss-passes.ensures.passes c.close-core.ensures.first)
+    (subst (AllByRecursion (λ (p : Known (Shared g.row.F.Denot g.row.D.Denot)). c.close-core.result.core.config ≡ p.value.core.core.config)) c.dismiss-passes.ensures.passes c.close-core.ensures.config)
+    (c.dismiss-passes.ensures.stopped (c.end_of-end.ensures.whole going)) (subst (AllByRecursion (λ (p : Known (Shared g.row.F.Denot g.row.D.Denot)). own (sight_of c.close-core.result.core).history p.caller ≡ (part_in p).entries)) c.dismiss-passes.ensures.passes c.close-core.ensures.mine)
+    (subst (AllByRecursion (λ (p : Known (Shared g.row.F.Denot g.row.D.Denot)). stand_in (sight_of c.close-core.result.core) p.caller ≡ stand_in (seen_by p) p.caller)) c.dismiss-passes.ensures.passes c.close-core.ensures.stand) refl caller (omega (arith, low, c.requires.begun.callers)))

@@ -1,10 +1,9 @@
 use Rattle.std.proofs.Common.{◌<◌, subst, sym}
 use Rattle.mb_run.specs.CoreSight.{sight_of}
-use Rattle.mb_volume_core.proofs.Orderly.{orderly}
 use Rattle.mb_volume.specs.Parts.{Part}
 use Rattle.mb_volume.specs.Underway.{IsUnderway, MayCome}
 use Rattle.mb_volume.proofs.Holding.{declared_on, held_leads, later_held, others_held, taken_part}
-use Rattle.mb_volume.proofs.Telling.{is_told, runs_inside}
+use Rattle.mb_volume.proofs.Telling.{is_told}
 use Rattle.mb_volume.proofs.volume.Volume.hold.Goals as goal
 
 pub act-came-requires-clause-on : goal.act-came-requires-clause-on
@@ -23,12 +22,6 @@ act-came-requires-clause-may g c =
     let same = taken_part saw c.take-shared.result.core.core saw c.args.pass.now.caller c.args.attempt.now.crossings.caller making.caller low c.take-shared.ensures.origin c.take-shared.ensures.mine c.take-shared.ensures.stand in
     subst (λ (p : Part). MayCome c.args.call.now (g.H.Hook.test c.args.hook.now) (g.H.Hook.struck c.args.hook.now) p.seat c.args.attempt.now c.args.event) (sym same) c.requires.may
 
-pub act-came-requires-clause-runs : goal.act-came-requires-clause-runs
-act-came-requires-clause-runs g c = runs_inside g.D.Disk.told g.D.Disk.faults c.take-shared.result.core.core c.in_order.ensures
-
-pub act-came-requires-clause-right : goal.act-came-requires-clause-right
-act-came-requires-clause-right g c = orderly g.D.Disk.told g.D.Disk.faults c.take-shared.result.core.core c.in_order.ensures
-
 pub give-requires-clause-others : goal.give-requires-clause-others
 give-requires-clause-others g c = rw c.take-shared.ensures.pass (others_held _ _ _ _ c.requires.making.caller c.act-came.ensures.moves)
 
@@ -42,5 +35,5 @@ returns-clause-leads g c =
     let making = c.requires.making in
     let low = declared_on (sight_of saw) c.args.pass.now.caller c.args.call.now _ _ c.args.attempt.now making.caller making.underway in
     rw (c.give.ensures.pass, c.take-shared.ensures.pass)
-    (held_leads saw c.take-shared.result.core.core c.act-came.new.core.core c.args.pass.now.caller c.args.attempt.now.crossings.caller making.caller low c.take-shared.ensures.origin c.take-shared.ensures.mine c.take-shared.ensures.stand c.args.call.now _ _ _ _
-    (is_told g.D.Disk.told g.D.Disk.faults c.act-came.new.core.core c.code_of-code.ensures c.args.pass.now.caller) c.act-came.ensures.goes)
+    (held_leads saw c.take-shared.result.core.core c.act-came.new.self.core.core c.args.pass.now.caller c.args.attempt.now.crossings.caller making.caller low c.take-shared.ensures.origin c.take-shared.ensures.mine c.take-shared.ensures.stand c.args.call.now _ _ _ _
+    (is_told g.D.Disk.told g.D.Disk.faults c.act-came.new.self.core.core c.in_order.ensures c.args.pass.now.caller) c.act-came.ensures.goes)

@@ -2,6 +2,7 @@ use Rattle.std.proofs.Common.{◌<◌, length, subst, sym, arith}
 use Rattle.mb_run.specs.CoreSight.{sight_of}
 use Rattle.mb_run.specs.Events.{Enters}
 use Rattle.mb_run.specs.declared.answers.Enter.{Enter}
+use Rattle.mb_run.proofs.InTime.{enters_time}
 use Rattle.mb_volume_core.proofs.Entering.{enter_origin, enters_by, may_call}
 use Rattle.mb_volume_core.proofs.Orderly.{orderly}
 use Rattle.mb_volume_core.proofs.Staying.{some_at}
@@ -28,4 +29,4 @@ returns-clause-origin g c =
     enter_origin g.D.Disk.told g.D.Disk.faults core c.in_order.ensures c.args.caller here.0 here.1 c.args.call.now c.enter.new.self c.enter.result (c.enter.ensures.enters here.0 here.1)
 
 pub returns-clause-right : goal.returns-clause-right
-returns-clause-right g c = orderly g.D.Disk.told g.D.Disk.faults c.enter.new.self c.enter.ensures.right
+returns-clause-right g c = orderly g.D.Disk.told g.D.Disk.faults c.enter.new.self c.enter.ensures.right (enters_time _ _ c.args.caller c.args.call.now _ (returns-clause-enters g c) c.requires.right.seals)

@@ -1,3 +1,4 @@
+use Rattle.mb_run.proofs.InTime.{faults_time}
 use Rattle.mb_volume_core.proofs.Orderly.{orderly}
 use Rattle.mb_volume_core.proofs.Striking.{fault_origin, faults_by, holds_ticket}
 use Rattle.mb_volume_core.proofs.volume_core.VolumeCoreEventCore.fault.Goals as goal
@@ -12,4 +13,4 @@ pub returns-clause-origin : goal.returns-clause-origin
 returns-clause-origin g c = fault_origin c.args.self.now.core c.fault.new.self c.args.ticket.now c.args.kind c.args.nth (g.H.Hook.strokes c.args.hook.now) c.fault.result c.fault.ensures.strikes
 
 pub returns-clause-right : goal.returns-clause-right
-returns-clause-right g c = orderly g.D.Disk.told g.D.Disk.faults c.fault.new.self c.fault.ensures.right
+returns-clause-right g c = orderly g.D.Disk.told g.D.Disk.faults c.fault.new.self c.fault.ensures.right (faults_time _ _ c.args.ticket.now c.args.kind c.args.nth _ (returns-clause-faults g c) c.requires.right.seals)

@@ -1,4 +1,5 @@
 use Rattle.std.proofs.Common.{ap}
+use Rattle.mb_run.proofs.InTime.{flushes_time}
 use Rattle.mb_volume_core.proofs.Orderly.{orderly}
 use Rattle.mb_volume_core.proofs.Origins.{origin_of}
 use Rattle.mb_volume_core.proofs.Sealing.{flush_later, flush_rose, flushes}
@@ -17,4 +18,4 @@ pub returns-clause-origin : goal.returns-clause-origin
 returns-clause-origin g c = ap origin_of c.flush_one.ensures.rest
 
 pub returns-clause-right : goal.returns-clause-right
-returns-clause-right g c = orderly g.D.Disk.told g.D.Disk.faults c.flush_one.new.self c.flush_one.ensures.right
+returns-clause-right g c = orderly g.D.Disk.told g.D.Disk.faults c.flush_one.new.self c.flush_one.ensures.right (flushes_time _ _ _ (returns-clause-flushes g c) c.requires.right.seals)

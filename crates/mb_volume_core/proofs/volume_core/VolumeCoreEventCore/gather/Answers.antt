@@ -1,3 +1,4 @@
+use Rattle.mb_run.proofs.InTime.{gathers_time}
 use Rattle.mb_volume_core.proofs.Gathering.{gathers_are, gathers_begun, holds_ticket}
 use Rattle.mb_volume_core.proofs.Orderly.{orderly}
 use Rattle.mb_volume_core.proofs.volume_core.VolumeCoreEventCore.gather.Goals as goal
@@ -19,4 +20,4 @@ returns-clause-origin g c =
     c.gather.result (holds_ticket c.args.self.now.core c.args.ticket.now _ c.requires.ticket) c.gather.ensures.gathers
 
 pub returns-clause-right : goal.returns-clause-right
-returns-clause-right g c = orderly g.D.Disk.told g.D.Disk.faults c.gather.new.self c.gather.ensures.right
+returns-clause-right g c = orderly g.D.Disk.told g.D.Disk.faults c.gather.new.self c.gather.ensures.right (gathers_time _ _ c.args.ticket.now c.args.need c.args.pages.now c.gather.new.pages _ c.requires.ticket (returns-clause-gathers g c) c.requires.right.seals)

@@ -1,3 +1,4 @@
+use Rattle.mb_run.proofs.InTime.{leaves_time}
 use Rattle.mb_volume_core.proofs.Leaving.{has_entry, leaves_by, left_origin}
 use Rattle.mb_volume_core.proofs.Orderly.{orderly}
 use Rattle.mb_volume_core.proofs.volume_core.VolumeCoreEventCore.leave.Goals as goal
@@ -18,4 +19,4 @@ returns-clause-origin g c =
     left_origin core c.leave.new.self c.args.ticket.now has.0.mine c.leave.result (c.leave.ensures.leaves has.0.mine has.0.here)
 
 pub returns-clause-right : goal.returns-clause-right
-returns-clause-right g c = orderly g.D.Disk.told g.D.Disk.faults c.leave.new.self c.leave.ensures.right
+returns-clause-right g c = orderly g.D.Disk.told g.D.Disk.faults c.leave.new.self c.leave.ensures.right (leaves_time _ _ c.args.ticket.now _ (returns-clause-leaves g c) c.requires.right.seals)

@@ -1,3 +1,4 @@
+use Rattle.mb_run.proofs.InTime.{quits_time}
 use Rattle.mb_volume_core.proofs.Leaving.{has_open_call, quit_origin, quits_by}
 use Rattle.mb_volume_core.proofs.Orderly.{orderly}
 use Rattle.mb_volume_core.proofs.volume_core.VolumeCoreEventCore.quit.Goals as goal
@@ -18,4 +19,4 @@ returns-clause-origin g c =
     quit_origin core c.args.caller has.0.mine has.0.here c.quit.new.self (c.quit.ensures.quit has.0.mine has.0.here).0
 
 pub returns-clause-right : goal.returns-clause-right
-returns-clause-right g c = orderly g.D.Disk.told g.D.Disk.faults c.quit.new.self c.quit.ensures.right
+returns-clause-right g c = orderly g.D.Disk.told g.D.Disk.faults c.quit.new.self c.quit.ensures.right (quits_time c.args.caller _ _ (returns-clause-quits g c) c.requires.right.seals)

@@ -1,9 +1,10 @@
 use Rattle.std.proofs.Common.{◌≡◌, ◌∙◌, sym, subst}
 use Rattle.mb_edge.specs.Causes.{Rose}
 use Rattle.mb_run.specs.CoreSight.{sight_of}
-use Rattle.mb_run.specs.Recovering.{Steps}
+use Rattle.mb_run.specs.Recovering.{RunsFor, Steps}
 use Rattle.mb_run.specs.declared.answers.Stepped.{Stepped}
 use Rattle.mb_run.specs.declared.answers.Stepped.TheVariants as stepped
+use Rattle.mb_run.proofs.InTime.{if_some_at, steps_time}
 use Rattle.mb_volume_core.proofs.Orderly.{orderly}
 use Rattle.mb_volume_core.proofs.Recovering.{comes, goes_on, has_for, rose_at}
 use Rattle.mb_volume_core.proofs.volume_core.VolumeCoreEventCore.recover_step.Goals as goal
@@ -30,4 +31,6 @@ returns-clause-device g c = λ is. rose_at g.D.Disk.told g.D.Disk.faults c.args.
     c.recover_step-stepped.ensures.recovers (sym c.stepped_as.ensures ∙ is)
 
 pub returns-clause-right : goal.returns-clause-right
-returns-clause-right g c = orderly g.D.Disk.told g.D.Disk.faults c.recover_step-stepped.new.core c.in_order-2.ensures
+returns-clause-right g c =
+    orderly g.D.Disk.told g.D.Disk.faults c.recover_step-stepped.new.core c.in_order-2.ensures
+    (steps_time (g.H.Hook.test c.args.hook.now) c.args.by.now c.recover_step-stepped.new.by _ _ _ (if_some_at (RunsFor (sight_of c.args.self.now.core)) c.args.by.now c.requires.by) (returns-clause-steps g c) c.requires.right.seals)
