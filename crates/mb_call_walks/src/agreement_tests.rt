@@ -20,7 +20,7 @@ fn agrees(heap: Global, draws: &mut Draws, pair: &mut Pair, moment: u32) -> Resu
     pair.call(caller, &call, moment)
 }
 
-/// After every tenth of them the image is a volume of the model's tree.
+/// After every hundredth of them the image shows the model's tree, and the checker finds no fault in the last.
 #[test]
 fn random_calls_are_answered_as_the_model_answers(rt: HostRuntime) -> Result<(), Fail> {
     let heap = rt.alloc();
@@ -28,15 +28,15 @@ fn random_calls_are_answered_as_the_model_answers(rt: HostRuntime) -> Result<(),
     let mut pair = pair(heap, SMALL)?;
     for moment in 1..100_001 {
         agrees(heap, &mut draws, &mut pair, moment)?;
-        if moment % 10 == 0 {
+        if moment % 100 == 0 {
             pair.shows_the_tree()?;
         }
     }
-    Ok(())
+    pair.is_sound()
 }
 
-/// After each operation on a tree that grew by the calls before, the image is a volume of the tree that the model has then.
-/// There are 10,000, some of each kind.
+/// After each operation on a tree that grew by the calls before, the image shows the tree that the model has then, and the
+/// checker finds no fault in every hundredth. There are 2,000, some of each kind.
 #[test]
 fn random_operations_leave_the_tree_that_the_model_has(rt: HostRuntime) -> Result<(), Fail> {
     let heap = rt.alloc();
@@ -47,17 +47,20 @@ fn random_operations_leave_the_tree_that_the_model_has(rt: HostRuntime) -> Resul
     };
     let mut pair = pair(heap, size)?;
     let mut tally = Tally::new();
-    for moment in 1..200_001 {
+    for moment in 1..100_001 {
         let Answered { op, .. } = agrees(heap, &mut draws, &mut pair, moment)?;
         if let Some(op) = &op {
             pair.shows_the_tree()?;
             tally.add(op);
+            if tally.total() % 100 == 0 {
+                pair.is_sound()?;
+            }
         }
-        if tally.total() == 10_000 {
+        if tally.total() == 2_000 {
             break;
         }
     }
-    assert_eq!(rt; tally.total(), 10_000);
+    assert_eq!(rt; tally.total(), 2_000);
     assert!(rt; tally.least() >= 10);
     Ok(())
 }

@@ -84,6 +84,13 @@ impl Bench {
         Bench::new(heap, &creds, SMALL)
     }
 
+    /// The blocks of the volume.
+    pub fn volume(&self) -> &Gathered
+        ensures { result.now ≡ self.now.disk }
+    {
+        &self.disk
+    }
+
     /// A disk of the volume.
     pub fn disk(&self) -> Result<MemDisk, Fail> {
         disk_of(self.heap, &self.disk, self.size)

@@ -17,7 +17,11 @@ mod draws;
 #[cfg(test)]
 mod example_tests;
 #[cfg(test)]
+mod fields;
+#[cfg(test)]
 mod images;
+#[cfg(test)]
+mod marks;
 #[cfg(test)]
 mod pairs;
 #[cfg(test)]

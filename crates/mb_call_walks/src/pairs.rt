@@ -2,6 +2,7 @@ use crate::benches::{Answered, Bench};
 use crate::images::shown_tree;
 use crate::volumes::Size;
 use mb_calls::Performed;
+use mb_check::sound;
 use mb_check_tree::machine;
 use mb_kinds::{Call, Creds, Reply};
 use mb_model_walks::tree_difference;
@@ -62,9 +63,17 @@ impl Pair {
         }
     }
 
-    /// The image is a volume of the machine's tree.
+    /// The image is a volume by the checker.
+    pub fn is_sound(&self) -> Result<(), Fail> {
+        match sound(self.heap, &mut self.bench.disk()?) {
+            Ok(_) => Ok(()),
+            Err(fault) => Err(format!(in self.heap; "no volume: {fault:?}")?.into()),
+        }
+    }
+
+    /// The bytes of the image show the machine's tree.
     pub fn shows_the_tree(&self) -> Result<(), Fail> {
-        let shown = shown_tree(self.heap, &mut self.bench.disk()?)?;
+        let shown = shown_tree(self.heap, self.bench.volume())?;
         match tree_difference(self.heap, &shown, &self.machine.tree)? {
             Some(apart) => Err(format!(in self.heap; "{apart:?}")?.into()),
             None => Ok(()),

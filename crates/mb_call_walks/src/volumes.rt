@@ -31,6 +31,14 @@ pub fn nothing(heap: Global) -> Gathered {
     }
 }
 
+/// The block of that number.
+pub fn block_of(volume: &Gathered, number: u32) -> Result<[u8; 512], Fail> {
+    match volume.get(number) {
+        Some(block) => Ok(*block),
+        None => Err("a block is not there".into()),
+    }
+}
+
 /// How many blocks and inodes a volume has.
 #[derive(Clone, Copy, Drop)]
 pub struct Size {

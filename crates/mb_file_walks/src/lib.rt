@@ -6,6 +6,8 @@
 #[cfg(test)]
 mod hole_tests;
 #[cfg(test)]
+mod level_tests;
+#[cfg(test)]
 mod space_tests;
 #[cfg(test)]
 mod volumes;

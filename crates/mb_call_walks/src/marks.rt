@@ -1,0 +1,71 @@
+use crate::fields::{long, word};
+use crate::volumes::{Gathered, block_of};
+use std::alloc::Global;
+use std::test::Fail;
+
+/// The blocks of a volume's files, which are those from the i-list's end to the volume's, and which of them something was
+/// found to hold.
+#[derive(Drop)]
+pub struct Marks {
+    first: u32,
+    held: Vec<bool>,
+    count: u32,
+}
+
+impl Marks {
+    /// No block is held.
+    pub fn new(heap: Global, first: u32, end: u32) -> Result<Marks, Fail> {
+        let blocks = end.saturating_sub(first);
+        Ok(Marks {
+            first,
+            held: vec![in heap; false; blocks as usize]?,
+            count: 0,
+        })
+    }
+
+    /// Marks a block, which has to be one of the files that nothing else holds.
+    pub fn hold(&mut self, block: u32) -> Result<(), Fail> {
+        let Some(place) = block.checked_sub(self.first) else {
+            return Err("a block of the i-list is held".into());
+        };
+        match self.held.get_mut(place as usize) {
+            Some(held) if *held => return Err("a block is held twice".into()),
+            Some(held) => *held = true,
+            None => return Err("a block past the volume is held".into()),
+        }
+        self.count = self.count.saturating_add(1);
+        Ok(())
+    }
+
+    /// Marks the blocks of the free chain, list after list.
+    pub fn hold_free(&mut self, volume: &Gathered) -> Result<(), Fail> {
+        let mut list = block_of(volume, 1)?;
+        let mut at = 6usize;
+        for _ in 0..self.held.len() {
+            let count = word(&list, at);
+            if count == 0 {
+                return Ok(());
+            }
+            if count > 50 {
+                return Err("a list of free blocks is too long".into());
+            }
+            let addresses = at.saturating_add(2);
+            for place in 1..usize::from(count) {
+                self.hold(long(&list, addresses.saturating_add(4 * place)))?;
+            }
+            let next = long(&list, addresses);
+            if next == 0 {
+                return Ok(());
+            }
+            self.hold(next)?;
+            list = block_of(volume, next)?;
+            at = 0;
+        }
+        Err("the free chain has no end".into())
+    }
+
+    /// How many blocks are held.
+    pub fn count(&self) -> u32 {
+        self.count
+    }
+}
