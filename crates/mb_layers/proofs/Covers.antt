@@ -4,7 +4,7 @@ use Rattle.std.proofs.lemmas.Bool.{true≢false}
 use Rattle.std.proofs.lemmas.Bool.Decides.{nat_tests}
 use Rattle.std.specs.Map.{remove_entry}
 use Rattle.mb_kinds.specs.Image.{Image, put}
-use Rattle.mb_layers.specs.Pages.{PageList, page_at, under}
+use Rattle.mb_layers.specs.Pages.{PageList, page_at, under, count_covered}
 
 -- images are equal where they have as many blocks and each block reads alike
 pub same_image : (image other : Image) → image.count ≡ other.count → ((block : ℕ) → image.at block ≡ other.at block) → image ≡ other
@@ -112,3 +112,21 @@ under_cut image sealed current block e =
         → unwrap_or (page_at current other) (unwrap_or (page_at (remove_entry (nat_eq block) sealed) other) (image.at other)) ≡ unwrap_or (page_at current other) (unwrap_or (page_at sealed other) (image.at other))
     seen other true s = let is : block ≡ other = grind (arith, nat_tests) in over (page_at current other) _ _ (ap (λ k. is_some (page_at current k)) (sym is) ∙ e)
     seen other false s = ap (λ x. unwrap_or (page_at current other) (unwrap_or x (image.at other))) (cut_at sealed block other s)
+
+-- 1 where it holds
+abbrev pub one_if : Bool → ℕ
+one_if holds = cond holds 1 0
+
+-- and it is counted once
+pub cut_count : (sealed current : PageList) (block : ℕ) → is_some (page_at current block) ≡ true
+    → count_covered (remove_entry (nat_eq block) sealed) current + one_if (is_some (page_at sealed block)) ≡ count_covered sealed current
+cut_count [] current block e = refl
+cut_count (page ∷ sealed) current block e = (elim (nat_eq block page.0) as (λ y. nat_eq block page.0 ≡ y
+    → count_covered (cond y sealed (page ∷ remove_entry (nat_eq block) sealed)) current + one_if (is_some (cond y (Some page.1) (page_at sealed block)))
+    ≡ one_if (is_some (page_at current page.0)) + count_covered sealed current) [
+      | true ↦ λ s.
+          let is : block ≡ page.0 = grind (arith, nat_tests) in
+          let one : one_if (is_some (page_at current page.0)) ≡ one_if true = ap one_if (ap (λ k. is_some (page_at current k)) (sym is) ∙ e) in
+          omega (arith, one)
+      | false ↦ λ s. omega (arith, cut_count sealed current block e)
+    ]) refl

@@ -1,5 +1,5 @@
 -- The current pages become sealed ones.
-use Rattle.std.proofs.Common.{◌≡◌, ℕ, ◌+◌, ◌-◌, ◌^◌, ◌≤◌, true, false, cond, min, List, [], ◌∷◌, ◌++◌, Option, Some, None, length, slice_get, nat_eq, is_some, IfSome, refl, sym, ap, ◌∙◌, subst, arith}
+use Rattle.std.proofs.Common.{◌≡◌, ℕ, ◌+◌, ◌-◌, ◌*◌, ◌^◌, ◌≤◌, true, false, cond, min, List, [], ◌∷◌, ◌++◌, Option, Some, None, length, slice_get, nat_eq, is_some, IfSome, refl, sym, ap, ◌∙◌, subst, arith}
 use Rattle.std.proofs.lemmas.Bool.{true≢false}
 use Rattle.std.proofs.lemmas.List.{map-append}
 use Rattle.std.specs.List.{list_any}
@@ -11,12 +11,12 @@ use Rattle.indexmap.specs.IndexMap.{spare}
 use Rattle.mb_kinds.specs.Image.{Image}
 use Rattle.mb_frames.specs.Pages.{Page, Shelf, ring_at, with_ring, standing, contents}
 use Rattle.mb_iface.specs.Changed.{AreChanges}
-use Rattle.mb_layers.specs.Pages.{under}
+use Rattle.mb_layers.specs.Pages.{page_at, under, count_covered}
 use Rattle.mb_layers.specs.Places.{place_at}
 use Rattle.mb_layers.specs.State.{sealed_ring, current_ring, begun, spare_of, IsOver, AreRings, AreTied, ListsBoth, IsSound}
 use Rattle.mb_layers.specs.Tokens.{current_in, sealed_in, IsAged, SameAges}
 use Rattle.mb_layers.specs.declared.tokens.Tokens.{Tokens}
-use Rattle.mb_layers.proofs.Covers.{under_swap, under_cut}
+use Rattle.mb_layers.proofs.Covers.{under_swap, under_cut, one_if, cut_count}
 use Rattle.mb_layers.proofs.Finds.{block_self, block_swap, page_none, is_over}
 use Rattle.mb_layers.proofs.Distinct.{changes_none, changes_append}
 use Rattle.mb_layers.proofs.Moved.{current_set, sealed_set, sealed_others, two_set, all_blocks, place_joined}
@@ -46,6 +46,15 @@ pub covered : (image : Image) (rings rings' : List (List Page)) (block : ℕ) �
     → under (under image (contents (ring_at rings' 0))) (contents (ring_at rings' 1)) ≡ under (under image (contents (ring_at rings 0))) (contents (ring_at rings 1))
 covered image rings rings' block same cut over =
     (λ i. under (under image (cut i)) (contents (same i))) ∙ under_cut image (contents (ring_at rings 0)) (contents (ring_at rings 1)) block (is_over (ring_at rings 1) block ∙ over)
+
+-- its link writes are counted: at most eight where it had a sealed page
+pub counted : (rings rings' : List (List Page)) (block : ℕ) (writes writes' most : ℕ) → ring_at rings' 1 ≡ ring_at rings 1 → contents (ring_at rings' 0) ≡ remove_entry (nat_eq block) (contents (ring_at rings 0)) → IsOver rings block
+    → writes' ≤ writes + 8 * cond (is_some (place_at (ring_at rings 0) block)) 1 0 → writes + 8 * count_covered (contents (ring_at rings 0)) (contents (ring_at rings 1)) ≤ most
+    → writes' + 8 * count_covered (contents (ring_at rings' 0)) (contents (ring_at rings' 1)) ≤ most
+counted rings rings' block writes writes' most same cut over fewer so_far =
+    let now : count_covered (contents (ring_at rings' 0)) (contents (ring_at rings' 1)) ≡ count_covered (remove_entry (nat_eq block) (contents (ring_at rings 0))) (contents (ring_at rings 1)) = (λ i. count_covered (cut i) (contents (same i))) in
+    let had : one_if (is_some (page_at (contents (ring_at rings 0)) block)) ≡ one_if (is_some (place_at (ring_at rings 0) block)) = ap one_if (is_over (ring_at rings 0) block) in
+    omega (arith, now, had, cut_count (contents (ring_at rings 0)) (contents (ring_at rings 1)) block (is_over (ring_at rings 1) block ∙ over), fewer, so_far)
 
 -- a ring that has a first page
 pub begun_one : {X : Type 0} (r : Option X) (f : X → ℕ × List ℕ) (rings : List (List Page)) → is_some r ≡ true → IfSome r (λ x. slice_get (contents (ring_at rings 1)) 0 ≡ Some (f x)) → begun (ring_at rings 1) ≡ 1

@@ -1,5 +1,5 @@
 -- Pages over the blocks of an image.
-use Rattle.std.specs.Prelude.{List, [], ◌∷◌, ℕ, nat_eq, Option}
+use Rattle.std.specs.Prelude.{List, [], ◌∷◌, ℕ, ◌+◌, cond, nat_eq, Option, is_some}
 use Rattle.std.specs.Map.{lookup}
 use Rattle.mb_kinds.specs.Image.{Image, put}
 
@@ -16,8 +16,15 @@ abbrev pub under : Image → PageList → Image
 under image [] = image
 under image (page ∷ pages) = put (under image pages) page.0 page.1
 
--- the pages that wait to be written back, those over them, and how many more current pages are taken without memory
+-- how many of the pages below have a page of their block over them
+abbrev pub count_covered : PageList → PageList → ℕ
+count_covered [] over = 0
+count_covered (page ∷ below) over = cond (is_some (page_at over page.0)) 1 0 + count_covered below over
+
+-- the pages that wait to be written back, those over them, how many more current pages are taken without memory, and how
+-- often a link of a page was written
 pub record LayerState : Type 0 where
   pub sealed : PageList
   pub current : PageList
   pub spare : ℕ
+  pub writes : ℕ

@@ -1,5 +1,5 @@
 //! The two layers.
-ghost use Rattle.std.specs.Prelude.{◌≡◌, ◌≤◌, ◌<◌, ◌+◌, ◌-◌, [], ℕ, cond, nat_eq, length, map, slice_get, Some, None, IfOk, OnOk, IsOk, IfSome, IfNone, option_copied, vec_len, vec_capacity};
+ghost use Rattle.std.specs.Prelude.{◌≡◌, ◌≤◌, ◌<◌, ◌+◌, ◌-◌, ◌*◌, [], ◌∷◌, ◌++◌, ℕ, List, cond, nat_eq, is_some, length, map, slice_get, Some, None, IfOk, OnOk, IsOk, IfSome, IfNone, option_copied, vec_len, vec_capacity};
 ghost use Rattle.std.specs.Option.{option_or};
 ghost use Rattle.std.specs.Map.{remove_entry};
 ghost use Rattle.indexmap.specs.IndexMap.{insert_entry, spare};
@@ -7,7 +7,7 @@ ghost use Rattle.mb_kinds.specs.Image.{Image};
 ghost use Rattle.mb_edge.specs.Damage.{page_replaced, wiped};
 ghost use Rattle.mb_iface.specs.Changed.{AreChanges};
 ghost use Rattle.mb_frames.specs.Pages.{ring_at, contents};
-ghost use Rattle.mb_layers.specs.Pages.{page_at, under};
+ghost use Rattle.mb_layers.specs.Pages.{PageList, page_at, under, count_covered};
 ghost use Rattle.mb_layers.specs.Places.{place_at};
 ghost use Rattle.mb_layers.specs.State.{IsOver, AreRings, AreTied, ListsBoth};
 ghost use Rattle.mb_layers.specs.Tokens.{SameAges};
@@ -23,8 +23,8 @@ const SEALED: u32 = 0;
 const CURRENT: u32 = 1;
 
 /// Pages that lie over the blocks of a disk, each of a block below 262,144: the sealed ones, each block once, and the
-/// current ones over them, each block once. A contract sees both lists and the room: how many more current pages are taken
-/// without memory.
+/// current ones over them, each block once. A contract sees both lists, the room, which is how many more current pages are
+/// taken without memory, and the count of link writes.
 #[derive(Drop)]
 pub struct Layers {
     rings: Rings,
@@ -45,6 +45,7 @@ impl Model for Layers {
       sealed = contents (sealed_ring l.rings);
       current = contents (current_ring l.rings);
       spare = spare_of l.rings l.tokens (vec_capacity l.both - vec_len l.both);
+      writes = l.rings.writes;
     } };
 
     ghost invariant = { λ l. IsSound l.rings l.tokens l.both.items };
@@ -55,6 +56,7 @@ impl Layers {
     pub fn new(alloc: Global) -> Result<Layers, NoMemory>
         ensures sealed { IfOk result (λ layers. layers.sealed ≡ []) }
         ensures current { IfOk result (λ layers. layers.current ≡ []) }
+        ensures writes { IfOk result (λ layers. layers.writes ≡ 0) }
     {
         let rings = Rings::new(alloc, 2)?;
         Ok(Layers {
@@ -72,6 +74,7 @@ impl Layers {
         ensures current { self.new.current ≡ self.old.current }
         ensures kept { self.old.spare ≤ self.new.spare }
         ensures sure { more ≤ self.old.spare → IsOk result }
+        ensures writes { self.old.writes ≤ self.new.writes }
     {
         let begun = if self.rings.first(CURRENT).is_some() {
             1
@@ -102,6 +105,7 @@ impl Layers {
         ensures current { self.new.current ≡ insert_entry nat_eq self.old.current block bytes.now }
         ensures sealed { self.new.sealed ≡ self.old.sealed }
         ensures spare { self.old.spare ≤ self.new.spare + 1 }
+        ensures writes { (self.old.writes ≤ self.new.writes) × (self.new.writes ≤ self.old.writes + 8) }
     {
         if let Some(token) = self.tokens.current(block) {
             self.rings.write(token, bytes);
@@ -118,8 +122,21 @@ impl Layers {
         ensures sealed { self.new.sealed ≡ remove_entry (nat_eq block) self.old.sealed }
         ensures current { self.new.current ≡ self.old.current }
         ensures spare { self.old.spare ≤ self.new.spare }
+        ensures writes { (self.old.writes ≤ self.new.writes) × (self.new.writes ≤ self.old.writes + 8) }
     {
         take_page(&mut self.rings, &mut self.tokens, block);
+    }
+
+    /// Takes the last sealed page out, where there is one; needs no memory.
+    pub fn drop_last(&mut self)
+        ensures sealed { (front : PageList) (page : ℕ × List ℕ) → self.old.sealed ≡ front ++ page ∷ [] → self.new.sealed ≡ front }
+        ensures current { self.new.current ≡ self.old.current }
+        ensures spare { self.old.spare ≤ self.new.spare }
+        ensures writes { (self.old.writes ≤ self.new.writes) × (self.new.writes ≤ self.old.writes + 8) }
+    {
+        if let Some((block, _)) = self.rings.last(SEALED) {
+            take_page(&mut self.rings, &mut self.tokens, block);
+        }
     }
 
     /// Makes all current pages sealed ones, in the place of a block's older page where it has one; needs no memory.
@@ -127,6 +144,7 @@ impl Layers {
         ensures view { (image : Image) → under image self.new.sealed ≡ under (under image self.old.sealed) self.old.current }
         ensures current { self.new.current ≡ [] }
         ensures spare { self.old.spare ≤ self.new.spare }
+        ensures writes { (self.old.writes ≤ self.new.writes) × (self.new.writes ≤ self.old.writes + 8 * (1 + count_covered self.old.sealed self.old.current)) }
     {
         if self.rings.first(CURRENT).is_none() {
             return;
@@ -141,6 +159,7 @@ impl Layers {
         ensures current { self.new.current ≡ [] }
         ensures sealed { self.new.sealed ≡ self.old.sealed }
         ensures spare { self.old.spare ≤ self.new.spare }
+        ensures writes { (self.old.writes ≤ self.new.writes) × (self.new.writes ≤ self.old.writes + 8) }
     {
         if self.rings.first(CURRENT).is_none() {
             return;
@@ -173,6 +192,7 @@ impl Layers {
         ensures current { self.new.current ≡ map (λ page. (page.0, wiped byte)) self.old.current }
         ensures sealed { self.new.sealed ≡ self.old.sealed }
         ensures spare { self.new.spare ≡ self.old.spare }
+        ensures writes { self.new.writes ≡ self.old.writes }
     {
         self.rings.fill(CURRENT, byte);
     }
@@ -182,6 +202,7 @@ impl Layers {
         ensures current { self.new.current ≡ page_replaced self.old.current nth bytes.now (slice_get self.old.current nth) }
         ensures sealed { self.new.sealed ≡ self.old.sealed }
         ensures spare { self.new.spare ≡ self.old.spare }
+        ensures writes { self.new.writes ≡ self.old.writes }
     {
         self.rings.replace(CURRENT, nth, bytes);
     }
@@ -198,6 +219,7 @@ fn take_page(rings: &mut Rings, tokens: &mut Tokens, block: u32)
     ensures places { (other : ℕ) → place_at (ring_at rings.new.rings 0) other ≡ cond (nat_eq block other) None (place_at (ring_at rings.old.rings 0) other) }
     ensures ages { SameAges tokens.old tokens.new }
     ensures spare { (rings.old.spare ≤ rings.new.spare) × (spare tokens.old.map ≤ spare tokens.new.map) }
+    ensures writes { (rings.old.writes ≤ rings.new.writes) × (rings.new.writes ≤ rings.old.writes + 8 * cond (is_some (place_at (ring_at rings.old.rings 0) block)) 1 0) }
 {
     if let Some(token) = tokens.take_sealed(block) {
         rings.unlink(token);
@@ -217,6 +239,7 @@ fn take_covered(rings: &mut Rings, tokens: &mut Tokens, both: &mut Vec<u32>)
     ensures both { (both.new.items ≡ []) × (vec_len both.new ≡ 0) × (vec_capacity both.old ≤ vec_capacity both.new) }
     ensures ages { SameAges tokens.old tokens.new }
     ensures spare { (rings.old.spare ≤ rings.new.spare) × (spare tokens.old.map ≤ spare tokens.new.map) }
+    ensures writes { (rings.old.writes ≤ rings.new.writes) × (rings.new.writes ≤ rings.old.writes + 8 * count_covered (contents (ring_at rings.old.rings 0)) (contents (ring_at rings.old.rings 1))) }
 {
     'both: while let Some(block) = both.pop() {
         take_page(rings, tokens, block);
