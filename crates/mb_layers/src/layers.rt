@@ -67,7 +67,7 @@ impl Layers {
     }
 
     /// Makes room for so many more current pages. The only error is want of memory, and it does not come where there is room
-    /// already.
+    /// already. Where there is no page, the generations that were dropped are forgotten.
     pub fn reserve(&mut self, more: usize) -> Result<(), NoMemory>
         ensures ok { OnOk result (more ≤ self.new.spare) }
         ensures sealed { self.new.sealed ≡ self.old.sealed }
@@ -76,6 +76,7 @@ impl Layers {
         ensures sure { more ≤ self.old.spare → IsOk result }
         ensures writes { self.old.writes ≤ self.new.writes }
     {
+        self.forget_dropped();
         let begun = if self.rings.first(CURRENT).is_some() {
             1
         } else {
@@ -87,6 +88,17 @@ impl Layers {
         self.tokens.reserve(more, more + begun)?;
         self.both.reserve(more)?;
         self.rings.reserve(pages)
+    }
+
+    fn forget_dropped(&mut self)
+        ensures sealed { self.new.sealed ≡ self.old.sealed }
+        ensures current { self.new.current ≡ self.old.current }
+        ensures spare { self.old.spare ≤ self.new.spare }
+        ensures writes { self.new.writes ≡ self.old.writes }
+    {
+        if self.rings.first(CURRENT).is_none() && self.rings.first(SEALED).is_none() {
+            self.tokens.forget();
+        }
     }
 
     /// The bytes of a block's current page, else of its sealed page; `None` exactly where it has neither.

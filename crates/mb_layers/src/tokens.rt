@@ -63,6 +63,19 @@ impl Tokens {
         Ok(())
     }
 
+    /// Forgets all tokens and the dropped generations, and keeps the room. No block has a page from then on.
+    pub(crate) fn forget(&mut self)
+        ensures current { (block : ℕ) → current_in self.new block ≡ None }
+        ensures sealed { (block : ℕ) → sealed_in self.new block ≡ None }
+        ensures aged { IsAged self.new }
+        ensures present { self.new.present ≡ self.old.present }
+        ensures dropped { (vec_len self.new.dropped ≡ 0) × (vec_capacity self.old.dropped ≤ vec_capacity self.new.dropped) }
+        ensures spare { spare self.old.map ≤ spare self.new.map }
+    {
+        self.map.clear();
+        self.dropped.clear();
+    }
+
     /// The token of the block's current page, where it has one.
     pub(crate) fn current(&self, block: u32) -> Option<&Token>
         ensures { option_copied result ≡ current_in self.now block }
