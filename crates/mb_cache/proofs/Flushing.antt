@@ -11,6 +11,10 @@ use Rattle.mb_cache.specs.declared.answers.Flushed.TheVariants as flushed
 use Rattle.mb_cache.proofs.Layers.{written_alike, spoiled_alike}
 use Rattle.mb_cache.proofs.PageLoops.{append_none}
 
+-- the current pages stay
+pub same_current : {D : Type 0} (cache : CacheState D) (current : PageList) → cache.current ≡ current → cache ≡ record cache { current = current }
+same_current {D} cache current same = ap (λ (pages : PageList). record cache { current = pages }) same
+
 module _ {D : Type 0} (told : D → Option Image) (faults : D → ℕ) (old new : CacheState D) (front : PageList) (page : ℕ × List ℕ) (waits : old.sealed ≡ front ++ page ∷ []) where
   pub flushes_one : new ≡ record old { disk = new.disk; sealed = front; room = new.room } → WritesBlock {E = Failed} (told old.disk) (told new.disk) (Ok tt) page.0 page.1
       → HasCause {T = Unit {0}} {E = Failed} (faults old.disk) (faults new.disk) (Ok tt) → Flushes told faults old new flushed.One

@@ -11,7 +11,7 @@ use Rattle.mb_edge.specs.Blocks.{Spoils, WritesBlock}
 use Rattle.mb_edge.specs.declared.faults.Failed.{Failed}
 use Rattle.mb_cache.specs.Pages.{PageList, under, installed}
 use Rattle.mb_cache.specs.State.{ReadsAlike}
-use Rattle.mb_cache.proofs.Looks.{same_image}
+use Rattle.mb_layers.proofs.Covers.{same_image, under_append}
 
 -- ---- one block put
 
@@ -65,10 +65,6 @@ under_installed image pages (page ∷ later) once =
     ∙ under_put (under image pages) page.0 page.1 later (IsDistinct-head nat_eq page.0 (keys_of later) once)
 
 -- ---- a page written back
-
-under_append : (image : Image) (xs ys : PageList) → under image (xs ++ ys) ≡ under (under image ys) xs
-under_append image [] ys = refl
-under_append image (page ∷ xs) ys = ap (λ (view : Image). put view page.0 page.1) (under_append image xs ys)
 
 spoiled_at : (b : Bool) (bytes x y : List ℕ) → (b ≡ false → x ≡ y) → cond b bytes x ≡ cond b bytes y
 spoiled_at true bytes x y same = refl

@@ -11,7 +11,7 @@ use Rattle.mb_iface.specs.Changed.{ChangeList, AreChanges, changed}
 use Rattle.mb_cache.specs.Pages.{PageList, under, installed}
 use Rattle.mb_cache.specs.Stamps.{Stamps, stamp_of, raised, raised_by}
 use Rattle.mb_cache.specs.CacheLaws.{Moves, MovesAt}
-use Rattle.mb_cache.proofs.Looks.{under_at}
+use Rattle.mb_layers.proofs.Covers.{under_at}
 use Rattle.mb_cache.proofs.Layers.{under_installed}
 
 -- ---- a look-up after an insertion

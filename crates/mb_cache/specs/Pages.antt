@@ -1,24 +1,10 @@
 -- Pages over the blocks of an image, and how they change.
-use Rattle.std.specs.Prelude.{List, [], ◌∷◌, ℕ, nat_eq, Option, map, slice_get}
-use Rattle.std.specs.Map.{lookup}
+use Rattle.std.specs.Prelude.{List, [], ◌∷◌, nat_eq, map, slice_get}
 use Rattle.indexmap.specs.IndexMap.{insert_all}
-use Rattle.mb_kinds.specs.Image.{Image, put}
 use Rattle.mb_edge.specs.Damage.{wiped, page_replaced}
 use Rattle.mb_edge.specs.declared.strokes.Stroke.{Stroke}
 use Rattle.mb_edge.specs.declared.strokes.Stroke.TheVariants.{Wipe, Page, Count}
-
--- pages, each a block's number and its 512 bytes
-abbrev pub PageList : Type 0
-PageList = List (ℕ × List ℕ)
-
--- the page of a block, where it has one
-abbrev pub page_at : PageList → ℕ → Option (List ℕ)
-page_at pages block = lookup (nat_eq block) pages
-
--- an image as it reads under pages; where a block has two, the first one counts
-abbrev pub under : Image → PageList → Image
-under image [] = image
-under image (page ∷ pages) = put (under image pages) page.0 page.1
+pub use Rattle.mb_layers.specs.Pages.{PageList, page_at, under, count_covered}
 
 -- pages installed one after another: each in the place of its block's page where it has one, else behind the others
 abbrev pub installed : PageList → PageList → PageList

@@ -11,10 +11,11 @@ use Rattle.mb_cache.specs.declared.answers.Flushed.TheVariants as flushed
 use Rattle.mb_cache.specs.declared.answers.ReadFault.{ReadFault}
 use Rattle.mb_cache.specs.declared.answers.ReadFault.TheVariants as fault
 
--- what is taken without memory: so many changed blocks, and so many pins
+-- what is taken without memory: so many changed blocks, and so many pins; and how often a link of a page was written
 pub record CacheRoom : Type 0 where
   pub pages : ℕ
   pub pins : ℕ
+  pub writes : ℕ
 
 -- the disk, the checkpointed pages that wait to be written back, the pages of the current epoch, how often each block
 -- was installed, and how many calls in flight pin it

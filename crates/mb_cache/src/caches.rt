@@ -1,62 +1,62 @@
-ghost use Rattle.std.specs.Prelude.{◌≡◌, ◌≤◌, ◌<◌, ◌+◌, ◌-◌, [], ℕ, Ok, Err, cond, nat_eq, length, OnOk, OnErr, IfOk, IfSome, IsOk};
+ghost use Rattle.std.specs.Prelude.{◌≡◌, ◌≤◌, ◌<◌, ◌+◌, ◌-◌, ◌*◌, [], ℕ, cond, nat_eq, length, OnOk, OnErr, IfOk, IfErr, IfSome, IsOk};
 ghost use Rattle.mb_edge.specs.Causes.{HasCause};
 ghost use Rattle.mb_kinds.specs.Image.{Image};
-ghost use Rattle.mb_cache.specs.Pages.{under, installed, page_stroke, pages_damaged};
+ghost use Rattle.mb_cache.specs.Pages.{under, count_covered, installed, page_stroke, pages_damaged};
 ghost use Rattle.mb_cache.specs.Stamps.{stamp_of, raised_by};
 ghost use Rattle.mb_cache.specs.State.{seen, Flushes, ReadHasCause};
 
 use crate::answers::{Flushed, ReadFault};
-use crate::page_maps::PageMap;
 use crate::pins::PinMap;
 use crate::stamps::StampMap;
 use mb_edge::{Damage, Disk, Failed, NoMemory, Stroke};
 use mb_iface::Changes;
+use mb_layers::Layers;
 use std::alloc::Global;
 use std::marker::Model;
 
 /// A disk under its checkpointed pages, which wait to be written back, and its current pages, those of the present
 /// epoch, with how often each block was installed and how many calls in flight pin it. A contract sees those parts,
-/// and the room: how many changed blocks and how many pins are taken without memory. The room for a changed block
-/// serves for its install and for the checkpoint after it.
+/// the room, which is how many changed blocks and how many pins are taken without memory, and the count of link writes.
+/// The room for a changed block serves for its install and for the checkpoint after it.
 pub struct Cache<D: Disk> {
     disk: D,
-    sealed: PageMap,
-    current: PageMap,
+    layers: Layers,
     stamps: StampMap,
     pins: PinMap,
 }
 
 impl<D: Disk> Model for Cache<D> {
     ghost use Rattle.std.specs.Coded.{codes, coded_ℕ};
-    ghost use Rattle.std.specs.Prelude.{length, min, ◌-◌, ◌≤◌};
+    ghost use Rattle.std.specs.Prelude.{min};
     ghost use Rattle.mb_cache.specs.State.{CacheState};
 
     ghost Value = { CacheState D };
 
     ghost view = { λ c. record {
       disk = c.disk;
-      sealed = c.sealed.items;
-      current = c.current.items;
+      sealed = c.layers.sealed;
+      current = c.layers.current;
       stamps = c.stamps.items;
       pins = c.pins.items;
-      room = record { pages = min (min c.current.spare c.stamps.spare) (c.sealed.spare - length c.current.items); pins = c.pins.spare };
+      room = record { pages = min c.layers.spare c.stamps.spare; pins = c.pins.spare; writes = c.layers.writes };
     } };
-
-    ghost invariant = { λ c. length c.current.items ≤ c.sealed.spare };
 }
 
 impl<D: Disk> Cache<D> {
-    /// No page and no pin, and every stamp 0; needs no memory.
-    pub fn new(alloc: Global, disk: D) -> Cache<D>
-        ensures { result ≡ record { disk = disk; sealed = []; current = []; stamps = []; pins = []; room = result.room } }
+    /// No page and no pin, and every stamp 0. The only error is want of memory, with the disk back.
+    pub fn new(alloc: Global, disk: D) -> Result<Cache<D>, D>
+        ensures begun { IfOk result (λ cache. cache ≡ record { disk = disk; sealed = []; current = []; stamps = []; pins = []; room = cache.room }) }
+        ensures back { IfErr result (λ same. same ≡ disk) }
     {
-        Cache {
+        let Ok(layers) = Layers::new(alloc) else {
+            return Err(disk);
+        };
+        Ok(Cache {
             disk,
-            sealed: PageMap::new(alloc),
-            current: PageMap::new(alloc),
+            layers,
             stamps: StampMap::new(alloc),
             pins: PinMap::new(alloc),
-        }
+        })
     }
 
     /// Gives the disk back. The pages are dropped.
@@ -65,8 +65,7 @@ impl<D: Disk> Cache<D> {
     {
         let Cache {
             disk,
-            sealed: _,
-            current: _,
+            layers: _,
             stamps: _,
             pins: _,
         } = self;
@@ -95,10 +94,7 @@ impl<D: Disk> Cache<D> {
         ensures told { D.told self.new.disk ≡ D.told self.old.disk }
         ensures cause { HasCause (D.faults self.old.disk) (D.faults self.new.disk) result }
     {
-        if let Some(bytes) = self.current.get(block) {
-            return Ok(bytes);
-        }
-        if let Some(bytes) = self.sealed.get(block) {
+        if let Some(bytes) = self.layers.get(block).copied() {
             return Ok(bytes);
         }
         let mut bytes = [0; 512];
@@ -109,18 +105,12 @@ impl<D: Disk> Cache<D> {
     /// Makes room for an install of so many blocks and for the checkpoint after it. The only error is want of memory,
     /// and it does not come where there is room already.
     pub fn reserve(&mut self, blocks: usize) -> Result<(), NoMemory>
-        ensures same { self.new ≡ record self.old { room = record self.old.room { pages = self.new.room.pages } } }
+        ensures same { self.new ≡ record self.old { room = record self.new.room { pins = self.old.room.pins } } }
         ensures ok { OnOk result (blocks ≤ self.new.room.pages) }
         ensures kept { self.old.room.pages ≤ self.new.room.pages }
         ensures sure { blocks ≤ self.old.room.pages → IsOk result }
     {
-        if self.sealed.room() - self.current.len() < blocks {
-            let Some(pages) = blocks.checked_add(self.current.len()) else {
-                return Err(NoMemory);
-            };
-            self.sealed.reserve(pages)?;
-        }
-        self.current.reserve(blocks)?;
+        self.layers.reserve(blocks)?;
         self.stamps.reserve(blocks)?;
         Ok(())
     }
@@ -133,7 +123,7 @@ impl<D: Disk> Cache<D> {
         ensures pages { self.old.room.pages ≤ self.new.room.pages + length changes.now }
         ensures pins { self.new.room.pins ≡ self.old.room.pins }
     {
-        self.current.install(changes);
+        install_pages(&mut self.layers, changes);
         self.stamps.raise_all(changes);
     }
 
@@ -178,20 +168,23 @@ impl<D: Disk> Cache<D> {
     }
 
     /// Makes all current pages checkpointed ones, in the place of a block's older page where it has one; needs no memory.
+    /// It walks no page: of the pages it moves, it writes links only where a block has a page of both kinds.
     pub fn seal(&mut self)
-        ensures rest { self.new ≡ record self.old { sealed = self.new.sealed; current = []; room = record self.old.room { pages = self.new.room.pages } } }
+        ensures rest { self.new ≡ record self.old { sealed = self.new.sealed; current = []; room = record self.new.room { pins = self.old.room.pins } } }
         ensures view { (image : Image) → under image self.new.sealed ≡ under (under image self.old.sealed) self.old.current }
         ensures kept { self.old.room.pages ≤ self.new.room.pages }
+        ensures writes { (self.old.room.writes ≤ self.new.room.writes) × (self.new.room.writes ≤ self.old.room.writes + 8 * (1 + count_covered self.old.sealed self.old.current)) }
     {
-        self.sealed.append(&mut self.current);
+        self.layers.seal();
     }
 
-    /// Drops all current pages; needs no memory.
+    /// Drops all current pages, in at most eight link writes; needs no memory.
     pub fn drop_current(&mut self)
-        ensures dropped { self.new ≡ record self.old { current = []; room = record self.old.room { pages = self.new.room.pages } } }
+        ensures dropped { self.new ≡ record self.old { current = []; room = record self.new.room { pins = self.old.room.pins } } }
         ensures kept { self.old.room.pages ≤ self.new.room.pages }
+        ensures writes { (self.old.room.writes ≤ self.new.room.writes) × (self.new.room.writes ≤ self.old.room.writes + 8) }
     {
-        self.current.clear();
+        self.layers.drop_current();
     }
 
     /// Empties the clean cache. There is none: each block that has no page is read from the disk.
@@ -206,12 +199,12 @@ impl<D: Disk> Cache<D> {
         ensures kept { self.old.room.pages ≤ self.new.room.pages }
         ensures pins { self.new.room.pins ≡ self.old.room.pins }
     {
-        let Some((block, bytes)) = self.sealed.last() else {
+        let Some((block, bytes)) = self.layers.last_sealed() else {
             return Flushed::Clean;
         };
         match self.disk.write(block, bytes) {
             Ok(()) => {
-                self.sealed.drop_last();
+                self.layers.drop_last();
                 Flushed::One
             }
             Err(_) => Flushed::Device,
@@ -223,29 +216,38 @@ impl<D: Disk> Cache<D> {
     pub fn damage(&mut self, damage: &Damage)
         ensures { self.new ≡ record self.old { current = pages_damaged self.old.current damage.now } }
     {
-        damage_pages(&mut self.current, damage);
+        damage_pages(&mut self.layers, damage);
     }
 }
 
-/// Does the strokes of a fault, in order, to pages.
-fn damage_pages(pages: &mut PageMap, damage: &Damage)
-    ensures items { pages.new.items ≡ pages_damaged pages.old.items damage.now }
-    ensures count { length pages.new.items ≡ length pages.old.items }
-    ensures spare { pages.new.spare ≡ pages.old.spare }
+/// Makes each changed block a current page, in order; needs no memory.
+fn install_pages(layers: &mut Layers, changes: &Changes)
+    requires { length changes.now ≤ layers.old.spare }
+    ensures current { layers.new.current ≡ installed layers.old.current changes.now }
+    ensures sealed { layers.new.sealed ≡ layers.old.sealed }
+    ensures spare { layers.old.spare ≤ layers.new.spare + length changes.now }
+{
+    for at in 0..changes.len() {
+        let (block, bytes) = changes.at(at);
+        layers.put(block, bytes);
+    }
+}
+
+/// Does the strokes of a fault, in order, to the current pages.
+fn damage_pages(layers: &mut Layers, damage: &Damage)
+    ensures { layers.new ≡ record layers.old { current = pages_damaged layers.old.current damage.now } }
 {
     for stroke in damage.as_slice() {
-        do_stroke(pages, stroke);
+        do_stroke(layers, stroke);
     }
 }
 
-fn do_stroke(pages: &mut PageMap, stroke: &Stroke)
-    ensures items { pages.new.items ≡ page_stroke pages.old.items stroke.now }
-    ensures count { length pages.new.items ≡ length pages.old.items }
-    ensures spare { pages.new.spare ≡ pages.old.spare }
+fn do_stroke(layers: &mut Layers, stroke: &Stroke)
+    ensures { layers.new ≡ record layers.old { current = page_stroke layers.old.current stroke.now } }
 {
     match stroke {
-        Stroke::Wipe(byte) => pages.wipe(*byte),
-        Stroke::Page { nth, bytes } => pages.replace(*nth, bytes),
+        Stroke::Wipe(byte) => layers.wipe(*byte),
+        Stroke::Page { nth, bytes } => layers.replace(*nth, bytes),
         Stroke::Count { ino: _, count: _ } => {}
     }
 }

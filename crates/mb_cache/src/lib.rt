@@ -13,7 +13,6 @@
 mod answers;
 mod caches;
 mod laws;
-mod page_maps;
 mod pins;
 mod stamps;
 #[cfg(test)]

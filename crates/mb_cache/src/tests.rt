@@ -19,6 +19,14 @@ fn disk(alloc: Global, failing: u64) -> Result<MemDisk, Fail> {
     )?)
 }
 
+// A cache over that disk.
+fn over_disk(alloc: Global, failing: u64) -> Result<Cache<MemDisk>, Fail> {
+    match Cache::new(alloc, disk(alloc, failing)?) {
+        Ok(cache) => Ok(cache),
+        Err(_disk) => Err(NoMemory.into()),
+    }
+}
+
 // Installs two blocks, each filled with one byte.
 fn install(
     alloc: Global,
@@ -63,7 +71,7 @@ fn layers(rt: &impl Abort, alloc: Global, cache: &mut Cache<MemDisk>) -> Result<
 
 #[test]
 fn a_block_is_seen_through_its_layers(rt: HostRuntime) -> Result<(), Fail> {
-    let mut cache = Cache::new(rt.alloc(), disk(rt.alloc(), 0)?);
+    let mut cache = over_disk(rt.alloc(), 0)?;
     let seen = layers(&rt, rt.alloc(), &mut cache);
     let disk = cache.into_disk();
     seen?;
@@ -86,7 +94,7 @@ fn failing(rt: &impl Abort, alloc: Global, cache: &mut Cache<MemDisk>) -> Result
 
 #[test]
 fn a_page_whose_write_back_failed_waits_on(rt: HostRuntime) -> Result<(), Fail> {
-    let mut cache = Cache::new(rt.alloc(), disk(rt.alloc(), 2)?);
+    let mut cache = over_disk(rt.alloc(), 2)?;
     let seen = failing(&rt, rt.alloc(), &mut cache);
     let disk = cache.into_disk();
     seen?;
@@ -121,7 +129,7 @@ fn strokes(rt: &impl Abort, alloc: Global, cache: &mut Cache<MemDisk>) -> Result
 
 #[test]
 fn a_fault_changes_current_pages_alone(rt: HostRuntime) -> Result<(), Fail> {
-    let mut cache = Cache::new(rt.alloc(), disk(rt.alloc(), 0)?);
+    let mut cache = over_disk(rt.alloc(), 0)?;
     let seen = strokes(&rt, rt.alloc(), &mut cache);
     let _disk = cache.into_disk();
     seen
@@ -137,7 +145,7 @@ fn pinned(cache: &mut Cache<MemDisk>) -> Result<(), NoMemory> {
 
 #[test]
 fn a_block_is_pinned_more_than_once(rt: HostRuntime) -> Result<(), Fail> {
-    let mut cache = Cache::new(rt.alloc(), disk(rt.alloc(), 0)?);
+    let mut cache = over_disk(rt.alloc(), 0)?;
     let done = pinned(&mut cache);
     let _disk = cache.into_disk();
     Ok(done?)
