@@ -167,8 +167,8 @@ impl<D: Disk> Cache<D> {
         self.pins.unpin(block);
     }
 
-    /// Makes all current pages checkpointed ones, in the place of a block's older page where it has one; needs no memory.
-    /// It walks no page: of the pages it moves, it writes links only where a block has a page of both kinds.
+    /// Makes all current pages checkpointed ones, in the place of a block's older page where it has one, in at most eight
+    /// link writes, and eight more for each block that has an older page; needs no memory.
     pub fn seal(&mut self)
         ensures rest { self.new ≡ record self.old { sealed = self.new.sealed; current = []; room = record self.new.room { pins = self.old.room.pins } } }
         ensures view { (image : Image) → under image self.new.sealed ≡ under (under image self.old.sealed) self.old.current }

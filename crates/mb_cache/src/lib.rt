@@ -7,6 +7,9 @@
 //! write-back takes. What a fault leaves of pages is `pages_damaged` (`specs/Pages.antt`), what a stamp is `stamp_of`
 //! (`specs/Stamps.antt`), and the laws by which a caller reasons stand in `specs/CacheLaws.antt`.
 //!
+//! The pages stand in two rings (`mb_layers`), so that neither a checkpoint nor a drop of the current pages grows with the
+//! number of pages: the links that they write are counted.
+//!
 //! `reserve` and `reserve_pins` take the memory of what follows; no other call but `pin` may want any.
 #![tactic(auto)]
 

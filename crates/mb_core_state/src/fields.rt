@@ -67,10 +67,12 @@ impl<F: FileSys, D: Disk> Fields<F, D> {
             Ok(parts) => parts,
             Err(NoMemory) => return Err(disk),
         };
+        let first = Snapshot::of(&disk);
+        let cache = Cache::new(alloc, disk)?;
         Ok(Fields {
-            first: Snapshot::of(&disk),
+            first,
             fs,
-            cache: Cache::new(alloc, disk),
+            cache,
             tables,
             journal: Journal::new(alloc),
             callers,

@@ -96,7 +96,10 @@ impl Layers {
         ensures spare { self.old.spare ≤ self.new.spare }
         ensures writes { self.new.writes ≡ self.old.writes }
     {
-        if self.rings.first(CURRENT).is_none() && self.rings.first(SEALED).is_none() {
+        if !self.tokens.dropped.is_empty()
+            && self.rings.first(CURRENT).is_none()
+            && self.rings.first(SEALED).is_none()
+        {
             self.tokens.forget();
         }
     }
@@ -151,7 +154,8 @@ impl Layers {
         }
     }
 
-    /// Makes all current pages sealed ones, in the place of a block's older page where it has one; needs no memory.
+    /// Makes all current pages sealed ones, in the place of a block's older page where it has one, in at most eight link
+    /// writes, and eight more for each block that has an older page; needs no memory.
     pub fn seal(&mut self)
         ensures view { (image : Image) → under image self.new.sealed ≡ under (under image self.old.sealed) self.old.current }
         ensures current { self.new.current ≡ [] }
@@ -166,7 +170,7 @@ impl Layers {
         self.tokens.seal();
     }
 
-    /// Drops all current pages; needs no memory.
+    /// Drops all current pages, in at most eight link writes; needs no memory.
     pub fn drop_current(&mut self)
         ensures current { self.new.current ≡ [] }
         ensures sealed { self.new.sealed ≡ self.old.sealed }

@@ -1,11 +1,12 @@
 //! Two layers of pages over the blocks of a disk: the sealed pages, which wait to be written back, and the current ones
 //! over them.
 //!
-//! A contract sees a [`Layers`] as two lists of pages and the room (`LayerState` of `specs/Pages.antt`). The pages stand in
-//! two rings of `mb_frames`, and a map names by each block the tokens of its pages. The costs, which no clause names: taking
-//! a checkpoint ([`Layers::seal`]) unlinks one page for each block that has two and joins the rings in eight link writes, and
-//! dropping the current pages takes eight link writes, however many pages there are. For that a page's token is kept with the
-//! number of its generation: a seal and a drop begin the next one, and the numbers of the dropped ones are kept.
+//! A contract sees a [`Layers`] as two lists of pages, the room, and the count of link writes (`LayerState` of
+//! `specs/Pages.antt`). The pages stand in two rings of `mb_frames`, and a map names by each block the tokens of its pages.
+//! Taking a checkpoint ([`Layers::seal`]) unlinks one page for each block that has two and joins the rings, and dropping the
+//! current pages empties a ring, in at most eight link writes each, however many pages there are. For that a page's token is
+//! kept with the number of its generation: a seal and a drop begin the next one, and the numbers of the dropped ones are
+//! kept until no page is left.
 #![tactic(auto)]
 
 mod layers;
