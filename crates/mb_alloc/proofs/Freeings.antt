@@ -126,28 +126,29 @@ freed_some old new count block z address more keeps reads some room real small z
     }
 
 -- a full list moves into the block, which leads to it
-pub freed_full : (old new : ℕ → List ℕ) (count block : ℕ) (z held one two : List ℕ) → KeepsRules old → count ≡ word_at (old 1) 6 → count ≡ 50 → 1 < block → block < 262144
+pub freed_full : (old new : ℕ → List ℕ) (count block : ℕ) (z held zl one list : List ℕ) → KeepsRules old → count ≡ word_at (old 1) 6 → count ≡ 50 → 1 < block → block < 262144
     → length z ≡ 512 → held ≡ put_at z 0 (take 202 (drop 6 (old 1))) → length (take 202 (drop 6 (old 1))) ≡ 202
-    → one ≡ put_at (old 1) 6 (word_bytes 1) → two ≡ put_at one 8 (long_bytes block)
-    → new ≡ put_block (put_block old block held) 1 two → IsFreed old new block
-freed_full old new count block z held one two keeps reads full real small zs e1 short e2 e3 wrote =
+    → length zl ≡ 6 → one ≡ put_at zl 0 (word_bytes 1) → list ≡ put_at one 2 (long_bytes block)
+    → new ≡ put_block (put_block old block held) 1 (put_at (put_block old block held 1) 6 list) → IsFreed old new block
+freed_full old new count block z held zl one list keeps reads full real small zs e1 short zls e2 e3 wrote =
     let long = keeps.sized 1 in
     let w1 = length-word_bytes 1 in
     let lb = length-long_bytes block in
-    let s1 : length one ≡ 512 = ap length e2 ∙ length-put_at (old 1) 6 (word_bytes 1) (omega (arith, long, w1)) ∙ long in
-    let s2 : length two ≡ 512 = ap length e3 ∙ length-put_at one 8 (long_bytes block) (omega (arith, s1, lb)) ∙ s1 in
+    let s1 : length one ≡ 6 = ap length e2 ∙ length-put_at zl 0 (word_bytes 1) (omega (arith, zls, w1)) ∙ zls in
+    let s2 : length list ≡ 6 = ap length e3 ∙ length-put_at one 2 (long_bytes block) (omega (arith, s1, lb)) ∙ s1 in
     let sh : length held ≡ 512 = ap length e1 ∙ length-put_at z 0 (take 202 (drop 6 (old 1))) (omega (arith, zs, short)) ∙ zs in
-    let first : new 1 ≡ two = ap (λ f. f 1) wrote ∙ put_block_same (put_block old block held) 1 two in
+    let two = put_at (put_block old block held 1) 6 list in
+    let first : new 1 ≡ put_at (old 1) 6 list = ap (λ f. f 1) wrote ∙ put_block_same (put_block old block held) 1 two ∙ ap (λ b. put_at b 6 list) (put_block_other old block held 1 (omega (arith, real))) in
     let here : new block ≡ held = ap (λ f. f block) wrote ∙ put_block_other (put_block old block held) 1 two block (omega (arith, real)) ∙ put_block_same old block held in
     let off : (from n : ℕ) → (from + n ≤ 6) ⊎ (12 ≤ from) → SameFrom (new 1) (old 1) from n = λ from n away k lo hi.
-    ap (λ b. get_or b k 0) (first ∙ e3)
-    ∙ put_at_same one 8 (long_bytes block) from n (omega (arith, s1, lb)) (elim away [ inl a ↦ inl (omega (arith, a)) | inr a ↦ inr (omega (arith, a, lb)) ]) k lo hi
-    ∙ ap (λ b. get_or b k 0) e2
-    ∙ put_at_same (old 1) 6 (word_bytes 1) from n (omega (arith, long, w1)) (elim away [ inl a ↦ inl a | inr a ↦ inr (omega (arith, a, w1)) ]) k lo hi in
+    ap (λ b. get_or b k 0) first ∙ put_at_same (old 1) 6 list from n (omega (arith, long, s2)) (elim away [ inl a ↦ inl a | inr a ↦ inr (omega (arith, a, s2)) ]) k lo hi in
     let count_now : word_at (new 1) 6 ≡ 1 =
-    ap (λ b. word_at b 6) (first ∙ e3) ∙ word_at-same (put_at one 8 (long_bytes block)) one 6 (put_at_same one 8 (long_bytes block) 6 2 (omega (arith, s1, lb)) (inl (omega arith)))
-    ∙ ap (λ b. word_at b 6) e2 ∙ word_back (old 1) 6 1 (omega (arith, long)) (omega arith) in
-    let last_now : long_at (new 1) 8 ≡ block = ap (λ b. long_at b 8) (first ∙ e3) ∙ long_back one 8 block (omega (arith, s1)) (omega (arith, small)) in
+    ap (λ b. word_at b 6) first ∙ word_in (old 1) 6 list 6 0 (omega (arith, long, s2)) (omega (arith, s2)) (omega arith)
+    ∙ ap (λ b. word_at b 0) e3 ∙ word_at-same (put_at one 2 (long_bytes block)) one 0 (put_at_same one 2 (long_bytes block) 0 2 (omega (arith, s1, lb)) (inl (omega arith)))
+    ∙ ap (λ b. word_at b 0) e2 ∙ word_back zl 0 1 (omega (arith, zls)) (omega arith) in
+    let last_now : long_at (new 1) 8 ≡ block =
+    ap (λ b. long_at b 8) first ∙ long_in (old 1) 6 list 8 2 (omega (arith, long, s2)) (omega (arith, s2)) (omega arith)
+    ∙ ap (λ b. long_at b 2) e3 ∙ long_back one 2 block (omega (arith, s1)) (omega (arith, small)) in
     let alike : (i j : ℕ) → j ≡ 6 + i → i < 202 → get_or (new block) i 0 ≡ get_or (old 1) j 0 = λ i j e below.
     ap (λ b. get_or b i 0) (here ∙ e1) ∙ ap (λ x. get_or (put_at z 0 (take 202 (drop 6 (old 1)))) x 0) (omega arith) ∙ put_at_in z 0 (take 202 (drop 6 (old 1))) i (omega (arith, zs, short)) (omega (arith, short, below))
     ∙ get_or-take 202 (drop 6 (old 1)) i 0 below ∙ get_or-drop 6 (old 1) i 0 ∙ ap (λ x. get_or (old 1) x 0) (sym e) in
@@ -159,7 +160,7 @@ freed_full old new count block z held one two keeps reads full real small zs e1 
         count = word_alike (new block) (old 1) 0 6 (λ j low. alike (0 + j) (6 + j) (omega arith) (omega (arith, low)));
         entry = λ k below. long_alike (new block) (old 1) (2 + 4 * k) (8 + 4 * k) (λ j low. alike (2 + 4 * k + j) (8 + 4 * k + j) (omega arith) (omega (arith, low, below, is)));
       };
-      sized = ap length first ∙ s2;
+      sized = ap length first ∙ length-put_at (old 1) 6 list (omega (arith, long, s2)) ∙ long;
       filled = ap length here ∙ sh;
       front = off 0 6 (inl (omega arith));
       back = off 208 304 (inr (omega arith));

@@ -2,7 +2,7 @@ ghost use Rattle.std.specs.Prelude.{◌<◌};
 ghost use Rattle.mb_alloc.specs.Freeing.{Frees};
 
 use crate::writes::write_at;
-use mb_iface::{Changes, Edited, Need, View, edit, edit_both, seen};
+use mb_iface::{Changes, Edited, Need, View, edit, edit_both, put_and_edit, seen};
 use mb_word::{put_long, put_word, word_at};
 
 /// What became of a change of blocks.
@@ -18,7 +18,7 @@ pub enum Hung {
 
 /// Puts a block, one above 1 and below 262,144, back on the free chain (V7 alloc(9), filsys(5)): its
 /// address becomes the last of the super-block's list. An empty list gets address 0 first, which ends
-/// the chain, and a full one of 50 moves into the block, whose bytes are otherwise kept. It asks for
+/// the chain, and a full one of 50 moves into the block, whose other bytes become zeros. It asks for
 /// block 1 alone: that the view has the block handed in, where the list is full, is for the caller to
 /// see to.
 pub fn free_block<V: View>(view: &V, changes: &mut Changes, block: u32) -> Hung
@@ -34,14 +34,15 @@ pub fn free_block<V: View>(view: &V, changes: &mut Changes, block: u32) -> Hung
         return Hung::Done;
     }
     if count == 50 {
-        let mut first = *bytes;
         let mut held = [0; 512];
-        write_at(&mut held, 0, &first[6..208]);
-        put_word(&mut first, 6, 1);
-        put_long(&mut first, 8, block);
-        return match changes.put_both(block, &held, 1, &first) {
-            Ok(()) => Hung::Done,
-            Err(_) => Hung::NoMemory,
+        write_at(&mut held, 0, &bytes[6..208]);
+        let mut list = [0; 6];
+        put_word(&mut list, 0, 1);
+        put_long(&mut list, 2, block);
+        return match put_and_edit(view, changes, block, &held, 1, 6, &list) {
+            Edited::Done => Hung::Done,
+            Edited::Lacking => Hung::Need(Need::one(1)),
+            Edited::NoMemory => Hung::NoMemory,
         };
     }
     if count == 0 {

@@ -1,10 +1,10 @@
 ghost use Rattle.mb_alloc.specs.Inodes.{FreesInode};
 
 use crate::frees::Hung;
-use crate::writes::write_at;
-use mb_iface::{Changes, Edited, Need, View, edit, seen};
+use crate::writes::word;
+use mb_iface::{Changes, Edited, Need, View, edit, hold_both, seen};
 use mb_layout::{inode_block, inode_place};
-use mb_word::{put_word, word_at};
+use mb_word::word_at;
 
 /// Frees an inode, one from 1 to the last: zeros over its 64 bytes, all but byte 51, which holds no
 /// address and is kept, and its number into the cache of free numbers, where that has fewer than 100
@@ -21,9 +21,8 @@ pub fn free_inode<V: View>(view: &V, changes: &mut Changes, ino: u16) -> Hung
         return Hung::Need(Need::one(holder));
     };
     let count = word_at(bytes, 208);
-    let mut whole = *inodes;
     let mut blank = [0; 64];
-    blank[51] = whole[at + 51];
+    blank[51] = inodes[at + 51];
     if count >= 100 || ino < 3 {
         return match edit(view, changes, holder, at, &blank) {
             Edited::Done => Hung::Done,
@@ -31,12 +30,14 @@ pub fn free_inode<V: View>(view: &V, changes: &mut Changes, ino: u16) -> Hung
             Edited::NoMemory => Hung::NoMemory,
         };
     }
-    write_at(&mut whole, at, &blank);
-    let mut first = *bytes;
-    put_word(&mut first, 208, count + 1);
-    put_word(&mut first, 210 + 2 * count as usize, ino);
-    match changes.put_both(holder, &whole, 1, &first) {
-        Ok(()) => Hung::Done,
-        Err(_) => Hung::NoMemory,
+    match hold_both(view, changes, holder, 1) {
+        Edited::Done => {
+            let _ = changes.patch(holder, at, &blank);
+            let _ = changes.patch(1, 208, &word(count + 1));
+            let _ = changes.patch(1, 210 + 2 * count as usize, &word(ino));
+            Hung::Done
+        }
+        Edited::Lacking => Hung::Need(Need::one(1)),
+        Edited::NoMemory => Hung::NoMemory,
     }
 }

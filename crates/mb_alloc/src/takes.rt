@@ -1,7 +1,8 @@
 ghost use Rattle.std.specs.Prelude.{◌≡◌, ◌≤◌, length, take};
-ghost use Rattle.mb_alloc.specs.Taking.{Takes, TakesZeroed};
+ghost use Rattle.mb_alloc.specs.Taking.{Takes, TakesZeroed, TellsNext};
 
-use mb_iface::{Changes, Edited, Need, View, edit, seen};
+use crate::writes::word;
+use mb_iface::{Changes, Edited, Need, View, edit, put_and_edit, seen};
 use mb_word::{long_at, word_at};
 
 /// A block taken from the free chain.
@@ -9,12 +10,52 @@ use mb_word::{long_at, word_at};
 pub enum Taken {
     /// This block, from 1 on and below 262,144.
     Block(u32),
-    /// The chain has no block: the super-block's list is empty, or its last address is 0.
+    /// The chain has no block: the super-block's list is empty, or its last address is 0. Nothing was
+    /// changed.
     NoneLeft,
-    /// The view lacks block 1, or the taken block where that holds the next list or is to be filled.
+    /// The view lacks block 1, or the taken block where that holds the next list or is to be filled;
+    /// nothing was changed.
     Need(Need),
-    /// Memory was wanted and not given.
+    /// Memory was wanted and not given; nothing was changed.
     NoMemory,
+}
+
+/// The next block of the free chain.
+#[derive(Clone, Copy, Drop)]
+enum Next {
+    /// This block, from 1 on and below 262,144, behind so many addresses of the super-block's list;
+    /// behind none it holds the next list.
+    Block { block: u32, left: u16 },
+    /// The chain has no block.
+    NoneLeft,
+    /// The view lacks block 1.
+    Need(Need),
+}
+
+/// Tells the next block of the free chain, which stays as it is.
+fn next_block<V: View>(view: &V, changes: &Changes) -> Next
+    ensures { TellsNext (V.shown view.now) changes.now result }
+{
+    let Some(bytes) = seen(view, changes, 1) else {
+        return Next::Need(Need::one(1));
+    };
+    let count = word_at(bytes, 6);
+    if count == 0 {
+        return Next::NoneLeft;
+    }
+    // no count of a volume is above 50, nor an address 262,144 or more
+    if count > 50 {
+        return Next::NoneLeft;
+    }
+    let block = long_at(bytes, 4 + 4 * count as usize);
+    if block == 0 {
+        return Next::NoneLeft;
+    }
+    if block >= 262_144 {
+        return Next::NoneLeft;
+    }
+    let left = count - 1;
+    Next::Block { block, left }
 }
 
 /// Takes the next block from the free chain (V7 alloc(9), filsys(5)): the super-block's list falls by
@@ -24,38 +65,23 @@ pub enum Taken {
 pub fn take_block<V: View>(view: &V, changes: &mut Changes) -> Taken
     ensures { Takes (V.shown view.now) changes.old changes.new result }
 {
-    let Some(bytes) = seen(view, changes, 1) else {
-        return Taken::Need(Need::one(1));
+    let (block, left) = match next_block(view, changes) {
+        Next::Block { block, left } => (block, left),
+        Next::NoneLeft => return Taken::NoneLeft,
+        Next::Need(need) => return Taken::Need(need),
     };
-    let count = word_at(bytes, 6);
-    if count == 0 {
-        return Taken::NoneLeft;
-    }
-    // no count of a volume is above 50, nor an address 262,144 or more
-    if count > 50 {
-        return Taken::NoneLeft;
-    }
-    let block = long_at(bytes, 4 + 4 * count as usize);
-    if block == 0 {
-        return Taken::NoneLeft;
-    }
-    if block >= 262_144 {
-        return Taken::NoneLeft;
-    }
-    if count == 1 {
-        let Some(held) = seen(view, changes, block) else {
-            return Taken::Need(Need::one(block));
-        };
-        let list = list_bytes(held);
-        return match edit(view, changes, 1, 6, &list) {
+    if left > 0 {
+        return match edit(view, changes, 1, 6, &word(left)) {
             Edited::Done => Taken::Block(block),
             Edited::Lacking => Taken::Need(Need::one(1)),
             Edited::NoMemory => Taken::NoMemory,
         };
     }
-    let left = count - 1;
-    let low = [(left % 256) as u8, (left / 256) as u8];
-    match edit(view, changes, 1, 6, &low) {
+    let Some(held) = seen(view, changes, block) else {
+        return Taken::Need(Need::one(block));
+    };
+    let list = list_bytes(held);
+    match edit(view, changes, 1, 6, &list) {
         Edited::Done => Taken::Block(block),
         Edited::Lacking => Taken::Need(Need::one(1)),
         Edited::NoMemory => Taken::NoMemory,
@@ -63,25 +89,34 @@ pub fn take_block<V: View>(view: &V, changes: &mut Changes) -> Taken
 }
 
 /// Takes the next block from the free chain and fills it with zeros, so it asks for that block where
-/// the view lacks it, with its neighbours as far as `wanted` blocks are going to be taken. On any other
-/// answer than `Block` the changes may hold the block taken, and are for letting go.
+/// the view lacks it, with its neighbours as far as `wanted` blocks are going to be taken.
 pub fn take_zeroed<V: View>(view: &V, changes: &mut Changes, wanted: u32) -> Taken
     requires { 1 ≤ wanted }
     ensures { TakesZeroed (V.shown view.now) changes.old changes.new result }
 {
-    match take_block(view, changes) {
-        Taken::Block(block) => {
-            let Some(_found) = view.get(block) else {
-                return Taken::Need(Need::run(view, block, wanted));
-            };
-            match changes.put_zeros(block) {
-                Ok(()) => Taken::Block(block),
-                Err(_) => Taken::NoMemory,
-            }
-        }
-        Taken::NoneLeft => Taken::NoneLeft,
-        Taken::Need(need) => Taken::Need(need),
-        Taken::NoMemory => Taken::NoMemory,
+    let (block, left) = match next_block(view, changes) {
+        Next::Block { block, left } => (block, left),
+        Next::NoneLeft => return Taken::NoneLeft,
+        Next::Need(need) => return Taken::Need(need),
+    };
+    let Some(_found) = view.get(block) else {
+        return Taken::Need(Need::run(view, block, wanted));
+    };
+    if left > 0 {
+        return match put_and_edit(view, changes, block, &[0; 512], 1, 6, &word(left)) {
+            Edited::Done => Taken::Block(block),
+            Edited::Lacking => Taken::Need(Need::one(1)),
+            Edited::NoMemory => Taken::NoMemory,
+        };
+    }
+    let Some(held) = seen(view, changes, block) else {
+        return Taken::Need(Need::one(block));
+    };
+    let list = list_bytes(held);
+    match put_and_edit(view, changes, block, &[0; 512], 1, 6, &list) {
+        Edited::Done => Taken::Block(block),
+        Edited::Lacking => Taken::Need(Need::one(1)),
+        Edited::NoMemory => Taken::NoMemory,
     }
 }
 

@@ -1,21 +1,18 @@
 -- A block hung at a level of the way to a part.
-use Rattle.std.proofs.Common.{ℕ, zero, suc, ◌≡◌, ◌≢◌, inl, inr, ◌+◌, ◌*◌, ◌<◌, ◌≤◌, Bool, true, false, cond, nat_eq, nat_lt, Option, Some, IsSome, MatchOption, List, length, slice_index, replicate, refl, sym, ap, subst, ◌∙◌, arith}
-use Rattle.std.specs.Option.{option_or}
+use Rattle.std.proofs.Common.{ℕ, zero, suc, ◌≡◌, ◌≢◌, inl, inr, ◌+◌, ◌*◌, ◌<◌, ◌≤◌, Bool, true, false, cond, nat_lt, Option, List, length, slice_index, replicate, refl, sym, ap, subst, ◌∙◌, arith}
 use Rattle.std.proofs.lemmas.Bool.{cases_lt}
 use Rattle.std.proofs.lemmas.Bool.Decides.{nat_tests}
-use mathlib.Core.Path.{fun_ext}
 use Rattle.mb_kinds.specs.Image.{zeros}
 use Rattle.mb_word.specs.Fields.{inode_block, inode_place, address_of}
 use Rattle.mb_word.specs.Numbers.{put_at, long_bytes, addr_bytes}
 use Rattle.mb_tree.specs.Blocks.{entry_in}
 use Rattle.mb_tree.specs.Places.{at}
-use Rattle.mb_tree.specs.Views.{over, IsPart}
-use Rattle.mb_iface.specs.Changed.{ChangeList, changed, put_block, shown_over, IsWithinView}
-use Rattle.mb_iface.proofs.ChangedBlocks.{over_put, over_both, put_block_same, put_block_other}
-use Rattle.mb_iface.proofs.WithinViews.{within_put}
+use Rattle.mb_tree.specs.Views.{over}
+use Rattle.mb_iface.specs.Changed.{ChangeList, changed, put_block}
+use Rattle.mb_iface.specs.Pairs.{HasPutAndEdited}
+use Rattle.mb_iface.proofs.ChangedBlocks.{put_block_same, put_block_other}
 use Rattle.mb_blocks.specs.Growing.{IsZeroed, IsEntrySet, SetsPlace}
 use Rattle.mb_blocks.proofs.Pointing.{entry_same}
-use Rattle.mb_alloc.proofs.Within.{in_view_both}
 use Rattle.mb_alloc.specs.declared.frees.Hung.{Hung}
 use Rattle.mb_alloc.specs.declared.frees.Hung.TheVariants as hung
 use Rattle.mb_bmap.specs.declared.routes.Route.{Route}
@@ -27,48 +24,9 @@ use Rattle.mb_bmap.proofs.Walking.{IsRoute}
 
 -- ---- a block filled, and then bytes of another changed
 
-either_twice : (b : Bool) (one two other : List ℕ) → cond b two (cond b one other) ≡ cond b two other
-either_twice true one two other = refl
-either_twice false one two other = refl
-
--- of two writes of a block the later one counts
-put_block_twice : (blocks : ℕ → List ℕ) (block : ℕ) (one two : List ℕ) → put_block (put_block blocks block one) block two ≡ put_block blocks block two
-unfolding put_block
-put_block_twice blocks block one two = fun_ext (λ other. either_twice (nat_eq block other) one two (blocks other))
-
-pub record SetsBoth (shown : ℕ → Option (List ℕ)) (old new : ChangeList) (holder at : ℕ) (bytes : List ℕ) (block : ℕ) : Type 0 where
-  pub within : IsSome (shown block) → IsWithinView shown old → IsWithinView shown new
-  pub wrote : (blocks : ℕ → List ℕ) → IsPart shown blocks
-      → over blocks (changed new) ≡ put_block (put_block (over blocks (changed old)) block zeros) holder (put_at (over blocks (changed old) holder) at bytes)
-
-module _ (shown : ℕ → Option (List ℕ)) (old mid new : ChangeList) (holder at block : ℕ) (found bytes : List ℕ)
-    (there : shown_over shown old holder ≡ Some found) (is : (blocks : ℕ → List ℕ) → IsPart shown blocks → over blocks (changed old) holder ≡ found)
-    (both : (other : ℕ) → changed mid other ≡ cond (nat_eq holder other) (Some found) (cond (nat_eq block other) (Some (replicate 512 0)) (changed old other)))
-    (patched : MatchOption (changed mid holder) (new ≡ mid) (λ was. (other : ℕ) → changed new other ≡ cond (nat_eq holder other) (Some (put_at was at bytes)) (changed mid other))) where
-  here : changed mid holder ≡ Some found
-  here =
-      let t : nat_eq holder holder ≡ true = grind (arith, nat_tests) in
-      both holder ∙ ap (λ b. cond b (Some found) (cond (nat_eq block holder) (Some (replicate 512 0)) (changed old holder))) t
-
-  each : (other : ℕ) → changed new other ≡ cond (nat_eq holder other) (Some (put_at found at bytes)) (changed mid other)
-  each = subst (λ (o : Option (List ℕ)). MatchOption o (new ≡ mid) (λ was. (other : ℕ) → changed new other ≡ cond (nat_eq holder other) (Some (put_at was at bytes)) (changed mid other))) here patched
-
-  pub sets_both : SetsBoth shown old new holder at bytes block
-  unfolding zeros
-  sets_both = record {
-    within = λ handed within.
-        (let mid_within = in_view_both shown old mid block (replicate 512 0) holder found both (subst (λ o. IsSome o) (sym there) refl) handed within in
-        within_put shown mid new holder (put_at found at bytes) each (subst (λ c. IsSome (option_or c (shown holder))) (sym here) refl) mid_within);
-    wrote = λ blocks part.
-        (let first = put_block (over blocks (changed old)) block (replicate 512 0) in
-        over_put mid new holder (put_at found at bytes) each blocks
-        ∙ ap (λ f. put_block f holder (put_at found at bytes)) (over_both old mid block (replicate 512 0) holder found both blocks)
-        ∙ put_block_twice first holder found (put_at found at bytes)
-        ∙ ap (λ b. put_block first holder (put_at b at bytes)) (sym (is blocks part)));
-  }
-
-pub by_index : (shown : ℕ → Option (List ℕ)) (old new : ChangeList) (holder at block : ℕ) (bytes : List ℕ) (is_index : Bool) → is_index ≡ true → SetsBoth shown old new holder at bytes block
+pub by_index : (shown : ℕ → Option (List ℕ)) (old new : ChangeList) (holder at block : ℕ) (bytes : List ℕ) (is_index : Bool) → is_index ≡ true → HasPutAndEdited shown old new block (replicate 512 0) holder at bytes
     → SetsBytes shown old new holder at bytes is_index block hung.Done
+unfolding zeros
 by_index shown old new holder at block bytes is_index is sets = subst (λ b. SetsBytes shown old new holder at bytes b block hung.Done) (sym is) (sets.within, sets.wrote)
 
 -- ---- the place where the address is written
@@ -113,13 +71,12 @@ module _ (shown : ℕ → Option (List ℕ)) (old new : ChangeList) (ino part : 
     λ blocks is_part hangable.
         (let was = over blocks (changed old) in
         let two = filled was (nat_lt 0 r.depth) block in
-        let stays : two holder ≡ was holder = ap two at_block ∙ inode_stays was ino r 0 block hangable (nat_lt 0 r.depth) ∙ ap was (sym at_block) in
         record {
           filled = two;
           fills = fills was r 0 block (omega arith);
           set = set_top two (over blocks (changed new)) ino holder slot (slice_index r.places 0) block z value
               (ap length (inode_stays was ino r 0 block hangable (nat_lt 0 r.depth)) ∙ hangable.sized (inode_block ino)) hangable.some at_block at_place is_route.top small zs is
-              (did.1 blocks is_part ∙ ap (λ b. put_block two holder (put_at b (64 * slot + 12 + 3 * slice_index r.places 0) value)) (sym stays));
+              (did.1 blocks is_part);
         }),
   )
   hung_first holder slot z value (hung.Need need) at_block at_place zs is did = (did.0, did.1, λ blocks is_part bounded. inl (did.2 ∙ at_block))
@@ -141,7 +98,7 @@ module _ (shown : ℕ → Option (List ℕ)) (old new : ChangeList) (ino part : 
         let led : address_on two ino r above ≡ index = way_stays was ino r level block hangable (nat_lt level r.depth) above (omega (arith, is_level)) ∙ at_index in
         let p : place ≡ slice_index r.places (suc above) = is_place ∙ ap (slice_index r.places) is_level in
         let set = set_entry two now index place block z value (ap length stays ∙ hangable.sized index) (subst (λ k. k < 128) (sym is_place) (is_route.under level (omega (arith, is_level)))) small zs is
-        (did.1 blocks is_part ∙ ap (λ b. put_block two index (put_at b (4 * place) value)) (sym stays)) in
+        (did.1 blocks is_part) in
         record {
           filled = two;
           fills = fills was r level block low;

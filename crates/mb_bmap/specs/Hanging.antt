@@ -36,10 +36,14 @@ HangsAt shown old new ino r level block hung.Done = (IsSome (shown block) → Is
 HangsAt shown old new ino r level block (hung.Need need) = (new ≡ old) × IsNeed shown need × OnWay shown old ino r (λ blocks. IsOnWayTo blocks ino r level need.first)
 HangsAt shown old new ino r level block hung.NoMemory = new ≡ old
 
+-- bytes of a block changed from an offset on
+abbrev pub IsSetAt : (ℕ → List ℕ) → (ℕ → List ℕ) → ℕ → ℕ → List ℕ → Type 0
+IsSetAt old new holder at bytes = new ≡ put_block old holder (put_at (old holder) at bytes)
+
 -- bytes of a block changed, and before that another block filled with zeros where it is an index block
 abbrev pub SetsBytes : (ℕ → Option (List ℕ)) → ChangeList → ChangeList → ℕ → ℕ → List ℕ → Bool → ℕ → Hung → Type 0
 SetsBytes shown old new holder at bytes is_index block hung.Done = (IsSome (shown block) → IsWithinView shown old → IsWithinView shown new)
     × ((blocks : ℕ → List ℕ) → IsPart shown blocks
-    → over blocks (changed new) ≡ put_block (cond is_index (put_block (over blocks (changed old)) block zeros) (over blocks (changed old))) holder (put_at (over blocks (changed old) holder) at bytes))
+    → IsSetAt (cond is_index (put_block (over blocks (changed old)) block zeros) (over blocks (changed old))) (over blocks (changed new)) holder at bytes)
 SetsBytes shown old new holder at bytes is_index block (hung.Need need) = (new ≡ old) × IsNeed shown need × (need.first ≡ holder)
 SetsBytes shown old new holder at bytes is_index block hung.NoMemory = new ≡ old

@@ -5,7 +5,7 @@ ghost use Rattle.mb_bmap.specs.Ways.{route_of};
 use crate::addresses::{Located, address_at};
 use crate::ways::route;
 use mb_alloc::Hung;
-use mb_iface::{Changes, Edited, Need, View, edit, seen};
+use mb_iface::{Changes, Edited, Need, View, edit, put_and_edit};
 use mb_layout::{inode_block, inode_place};
 use mb_word::{put_addr, put_long};
 
@@ -57,7 +57,7 @@ pub fn hang<V: View>(
     }
 }
 
-/// Changes bytes of a block, and fills another block with zeros where that is an index block.
+/// Changes bytes of a block, and fills another block with zeros before that where it is an index block.
 fn set_bytes<V: View>(
     view: &V,
     changes: &mut Changes,
@@ -74,16 +74,10 @@ fn set_bytes<V: View>(
     ensures { SetsBytes (V.shown view.now) changes.old changes.new holder at bytes.now is_index block result }
 {
     if is_index {
-        let Some(found) = seen(view, changes, holder) else {
-            return Hung::Need(Need::one(holder));
-        };
-        let whole = *found;
-        return match changes.put_both(block, &[0; 512], holder, &whole) {
-            Ok(()) => {
-                let _ = changes.patch(holder, at, bytes);
-                Hung::Done
-            }
-            Err(_) => Hung::NoMemory,
+        return match put_and_edit(view, changes, block, &[0; 512], holder, at, bytes) {
+            Edited::Done => Hung::Done,
+            Edited::Lacking => Hung::Need(Need::one(holder)),
+            Edited::NoMemory => Hung::NoMemory,
         };
     }
     match edit(view, changes, holder, at, bytes) {

@@ -12,18 +12,18 @@ use Rattle.mb_iface.proofs.ChangedBlocks.{over_put, put_block_same}
 use Rattle.mb_iface.proofs.WithinViews.{within_put}
 
 -- one block of the changes is another
-abbrev Sets : ChangeList → ChangeList → ℕ → List ℕ → Type 0
+abbrev pub Sets : ChangeList → ChangeList → ℕ → List ℕ → Type 0
 Sets old new block bytes = (other : ℕ) → changed new other ≡ cond (nat_eq block other) (Some bytes) (changed old other)
 
 -- what a change in place of a block does
-abbrev Patches : Option (List ℕ) → ChangeList → ChangeList → ℕ → ℕ → List ℕ → Type 0
+abbrev pub Patches : Option (List ℕ) → ChangeList → ChangeList → ℕ → ℕ → List ℕ → Type 0
 Patches here old new block at bytes = MatchOption here (new ≡ old) (λ was. Sets old new block (put_at was at bytes))
 
-over_changed : (blocks : ℕ → List ℕ) (changes : ChangeList) (block : ℕ) (bytes : List ℕ) → changed changes block ≡ Some bytes → over blocks (changed changes) block ≡ bytes
+pub over_changed : (blocks : ℕ → List ℕ) (changes : ChangeList) (block : ℕ) (bytes : List ℕ) → changed changes block ≡ Some bytes → over blocks (changed changes) block ≡ bytes
 unfolding over
 over_changed blocks changes block bytes e = ap (λ o. unwrap_or o (blocks block)) e
 
-over_unchanged : (blocks : ℕ → List ℕ) (changes : ChangeList) (block : ℕ) → changed changes block ≡ None → over blocks (changed changes) block ≡ blocks block
+pub over_unchanged : (blocks : ℕ → List ℕ) (changes : ChangeList) (block : ℕ) → changed changes block ≡ None → over blocks (changed changes) block ≡ blocks block
 unfolding over
 over_unchanged blocks changes block e = ap (λ o. unwrap_or o (blocks block)) e
 
@@ -37,13 +37,13 @@ unfolding put_block
 put_block_twice blocks block one two = fun_ext (λ other. either_twice (nat_eq block other) one two (blocks other))
 
 -- a block that is changed, or that the view has, is found under the changes
-found_changed : (shown : ℕ → Option (List ℕ)) (changes : ChangeList) (block : ℕ) (bytes : List ℕ) → changed changes block ≡ Some bytes → IsSome (shown_over shown changes block)
+pub found_changed : (shown : ℕ → Option (List ℕ)) (changes : ChangeList) (block : ℕ) (bytes : List ℕ) → changed changes block ≡ Some bytes → IsSome (shown_over shown changes block)
 found_changed shown changes block bytes e = subst (λ c. IsSome (option_or c (shown block))) (sym e) refl
 
-found_shown : (shown : ℕ → Option (List ℕ)) (changes : ChangeList) (block : ℕ) (bytes : List ℕ) → changed changes block ≡ None → shown block ≡ Some bytes → IsSome (shown_over shown changes block)
+pub found_shown : (shown : ℕ → Option (List ℕ)) (changes : ChangeList) (block : ℕ) (bytes : List ℕ) → changed changes block ≡ None → shown block ≡ Some bytes → IsSome (shown_over shown changes block)
 found_shown shown changes block bytes none there = subst (λ c. IsSome (option_or c (shown block))) (sym none) (subst (λ s. IsSome s) (sym there) refl)
 
-there_now : (old new : ChangeList) (block : ℕ) (bytes : List ℕ) → Sets old new block bytes → IsSome (changed new block)
+pub there_now : (old new : ChangeList) (block : ℕ) (bytes : List ℕ) → Sets old new block bytes → IsSome (changed new block)
 there_now old new block bytes each =
     let t : nat_eq block block ≡ true = grind (arith, nat_tests) in
     subst (λ o. IsSome o) (sym (each block ∙ ap (λ b. cond b (Some bytes) (changed old block)) t)) refl

@@ -4,4 +4,5 @@ pub mod ChangedBlocks
 pub mod CountMaps
 pub mod Editing
 pub mod Marks
+pub mod TwoBlocks
 pub mod WithinViews

@@ -7,3 +7,4 @@ pub mod Near
 pub mod Needs
 pub mod OpenCounts
 pub mod OverlayLaws
+pub mod Pairs

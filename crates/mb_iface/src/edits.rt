@@ -4,14 +4,14 @@ ghost use Rattle.mb_iface.specs.Edits.{Edits, EditsBoth};
 use crate::change_lists::Changes;
 use crate::views::View;
 
-/// What became of bytes of a block that were to be changed.
+/// What became of bytes of blocks that were to be changed.
 #[derive(Clone, Copy, Debug, PartialEq, Drop)]
 pub enum Edited {
-    /// They are changed, and the block is a changed one.
+    /// They are changed, and each block is a changed one.
     Done,
-    /// The block is neither changed nor in the view; nothing was changed.
+    /// A block is neither changed nor in the view; nothing was changed.
     Lacking,
-    /// Memory was wanted and not given, which comes only where the block was not changed before;
+    /// Memory was wanted and not given, which comes only where a block was not changed before;
     /// nothing was changed.
     NoMemory,
 }

@@ -4,9 +4,9 @@
 //! refused.
 //!
 //! `specs/Changed.antt` says how changes lie over the blocks of an image, `specs/Edits.antt` what a
-//! change of some bytes of a block does, `specs/Near.antt` for which blocks a query or an operation may
-//! ask, `specs/Asking.antt` and `specs/Acting.antt` what its answers mean on a volume of the reference
-//! tree.
+//! change of some bytes of a block does, `specs/Pairs.antt` what a change of two blocks, of both or of
+//! none, `specs/Near.antt` for which blocks a query or an operation may ask, `specs/Asking.antt` and
+//! `specs/Acting.antt` what its answers mean on a volume of the reference tree.
 #![tactic(auto)]
 
 mod change_lists;
@@ -14,6 +14,7 @@ mod edits;
 mod laws;
 mod open_counts;
 mod overlays;
+mod pairs;
 mod queries;
 mod replies;
 mod systems;
@@ -26,6 +27,7 @@ pub use edits::{Edited, edit, edit_both};
 pub use laws::{changes_cover, counts_tell, views_under_changes};
 pub use open_counts::Opens;
 pub use overlays::{Over, seen};
+pub use pairs::{hold_both, put_and_edit};
 pub use queries::Query;
 pub use replies::{Acted, Answer, Asked, Need};
 pub use systems::FileSys;

@@ -130,6 +130,44 @@ fn later_one_of_two_edits_lies_over_the_earlier_one(rt: HostRuntime) -> Result<(
 }
 
 #[test]
+fn two_blocks_are_held_or_none(rt: HostRuntime) -> Result<(), Fail> {
+    let view = ones();
+    let mut changes = Changes::new(rt.alloc());
+    changes.put(7, &[2; 512])?;
+    assert_eq!(rt; hold_both(&view, &mut changes, 5, 6), Edited::Lacking);
+    assert_eq!(rt; changes.len(), 1);
+    assert_eq!(rt; hold_both(&view, &mut changes, 5, 7), Edited::Done);
+    assert_eq!(rt; hold_both(&view, &mut changes, 7, 5), Edited::Done);
+    assert_eq!(rt; changes.len(), 2);
+    assert_eq!(rt; changes.get(5).ok_or("block 5 is not changed")?[0], 1);
+    assert_eq!(rt; changes.get(7).ok_or("block 7 is not changed")?[0], 2);
+    Ok(())
+}
+
+#[test]
+fn block_is_put_before_bytes_are_changed(rt: HostRuntime) -> Result<(), Fail> {
+    let view = ones();
+    let mut changes = Changes::new(rt.alloc());
+    let lacking = put_and_edit(&view, &mut changes, 9, &[3; 512], 6, 0, &[4]);
+    assert_eq!(rt; lacking, Edited::Lacking);
+    assert_eq!(rt; changes.len(), 0);
+    // in a copy of the view's block, then in place, and then in the block put itself
+    let copied = put_and_edit(&view, &mut changes, 9, &[3; 512], 5, 0, &[4]);
+    assert_eq!(rt; copied, Edited::Done);
+    let in_place = put_and_edit(&view, &mut changes, 8, &[5; 512], 5, 1, &[6]);
+    assert_eq!(rt; in_place, Edited::Done);
+    let itself = put_and_edit(&view, &mut changes, 8, &[7; 512], 8, 1, &[8]);
+    assert_eq!(rt; itself, Edited::Done);
+    assert_eq!(rt; changes.len(), 3);
+    let bytes = changes.get(5).ok_or("block 5 is not changed")?;
+    assert_eq!(rt; &bytes[..3], [4, 6, 1].as_slice());
+    let bytes = changes.get(8).ok_or("block 8 is not changed")?;
+    assert_eq!(rt; &bytes[..3], [7, 8, 7].as_slice());
+    assert_eq!(rt; changes.get(9).ok_or("block 9 is not changed")?[0], 3);
+    Ok(())
+}
+
+#[test]
 fn run_of_needs_ends_before_a_block_that_is_there(rt: HostRuntime) {
     let view = ones();
     assert_eq!(rt; run_from(&view, 5, 9), None);

@@ -1,12 +1,12 @@
-use Rattle.std.proofs.Common.{refl, sym, ap, subst, IsSome, IfSome, ◌≢◌, ◌∙◌, take, drop, ℕ, replicate, arith}
+use Rattle.std.proofs.Common.{refl, sym, ap, subst, IfSome, ◌≢◌, ◌∙◌, take, drop, ℕ, replicate, arith}
 use Rattle.std.proofs.lemmas.List.{length-replicate}
 use Rattle.mb_word.specs.Fields.{nfree_of}
-use Rattle.mb_word.specs.Numbers.{word_at, put_at, word_bytes}
+use Rattle.mb_word.specs.Numbers.{word_at, put_at}
 use Rattle.mb_tree.specs.Views.{over}
 use Rattle.mb_iface.specs.Changed.{changed}
 use Rattle.mb_alloc.proofs.Takings.{too_many}
 use Rattle.mb_alloc.proofs.Freeings.{freed_none, freed_some, freed_full, put_back, put_back_full}
-use Rattle.mb_alloc.proofs.Within.{in_view_both, length-take_drop}
+use Rattle.mb_alloc.proofs.Within.{length-take_drop}
 use Rattle.mb_alloc.proofs.frees.free_block.Goals as goal
 
 pub returns-then-count-gt50 : goal.returns-then-count-gt50
@@ -18,34 +18,32 @@ returns-then-count-gt50 g c = (
   λ room within. within,
 )
 
-pub returns-in-Ok : goal.returns-in-Ok
-returns-in-Ok g c = (
-  λ handed within.
-      in_view_both (g.V.View.shown c.args.view.now) c.args.changes.now c.put_both.new.self c.args.block _ 1 _ c.in-Ok.ensures.each
-      (subst (λ o. IsSome o) (sym c.in-Some.ensures.there) refl) handed within,
+pub returns-in-Done : goal.returns-in-Done
+returns-in-Done g c = (
+  c.in-Done.ensures.within,
   λ blocks part keeps real.
       (let bytes = c.in-Some.ensures.found blocks part in
       let counted = c.word_at-count.ensures ∙ ap (λ b. word_at b 6) (sym bytes) in
-      put_back_full (over blocks (changed c.args.changes.now)) (over blocks (changed c.put_both.new.self)) c.word_at-count.result c.args.block counted c.if-count-eq50.true
-      (freed_full (over blocks (changed c.args.changes.now)) (over blocks (changed c.put_both.new.self)) c.word_at-count.result c.args.block (replicate {A = ℕ} 512 0) c.write_at.new.into c.put_word.new.b c.put_long.new.b keeps
+      put_back_full (over blocks (changed c.args.changes.now)) (over blocks (changed c.put_and_edit.new.changes)) c.word_at-count.result c.args.block counted c.if-count-eq50.true
+      (freed_full (over blocks (changed c.args.changes.now)) (over blocks (changed c.put_and_edit.new.changes)) c.word_at-count.result c.args.block (replicate {A = ℕ} 512 0) c.write_at.new.into _ _ _ keeps
       counted c.if-count-eq50.true real c.requires (length-replicate {A = ℕ} 512 0)
       (c.write_at.ensures.bytes ∙ ap (λ b. put_at (replicate {A = ℕ} 512 0) 0 (take 202 (drop 6 b))) (sym bytes))
       (length-take_drop (over blocks (changed c.args.changes.now) 1) 202 6 (let l = keeps.sized 1 in omega (arith, l)))
-      (c.put_word.ensures ∙ ap (λ b. put_at b 6 (word_bytes 1)) (sym bytes)) c.put_long.ensures
-      (c.in-Ok.ensures.ok blocks))),
+      refl c.put_word.ensures c.put_long.ensures
+      (c.in-Done.ensures.wrote blocks part))),
   λ room within. absurd (subst (λ o. IfSome o (λ first. nfree_of first ≢ 50)) c.in-Some.ensures.there room (sym c.word_at-count.ensures ∙ c.if-count-eq50.true)),
 )
 
-pub returns-in-Done : goal.returns-in-Done
-returns-in-Done g c = (
-  λ handed. c.in-Done.ensures.within,
+pub returns-in-Done-edit : goal.returns-in-Done-edit
+returns-in-Done-edit g c = (
+  λ handed. c.in-Done-edit.ensures.within,
   λ blocks part keeps real.
       (let bytes = c.in-Some.ensures.found blocks part in
-      put_back (over blocks (changed c.args.changes.now)) (over blocks (changed c.edit.new.changes)) c.args.block _ real (c.in-Done.ensures.wrote blocks part)
+      put_back (over blocks (changed c.args.changes.now)) (over blocks (changed c.edit.new.changes)) c.args.block _ real (c.in-Done-edit.ensures.wrote blocks part)
       (freed_none (over blocks (changed c.args.changes.now)) (over blocks (changed c.edit.new.changes)) c.word_at-count.result c.args.block _ _ _ _ keeps
       (c.word_at-count.ensures ∙ ap (λ b. word_at b 6) (sym bytes)) c.if-count-eq0.true real c.requires refl
-      c.put_word-then-count-eq0.ensures c.put_long-then-count-eq0.ensures c.put_long-then-count-eq0-2.ensures (c.in-Done.ensures.wrote blocks part))),
-  λ room. c.in-Done.ensures.within,
+      c.put_word-then-count-eq0.ensures c.put_long-then-count-eq0.ensures c.put_long-then-count-eq0-2.ensures (c.in-Done-edit.ensures.wrote blocks part))),
+  λ room. c.in-Done-edit.ensures.within,
 )
 
 pub returns-in-Done-edit_both : goal.returns-in-Done-edit_both

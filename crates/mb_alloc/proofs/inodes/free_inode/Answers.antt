@@ -1,10 +1,10 @@
-use Rattle.std.proofs.Common.{ℕ, ◌≡◌, refl, sym, ap, subst, inl, inr, IsSome, length, get_or, set, replicate, ◌∙◌, ◌+◌, ◌*◌, arith}
+use Rattle.std.proofs.Common.{ℕ, List, ◌≡◌, refl, sym, ap, inl, inr, length, get_or, set, replicate, ◌∙◌, ◌+◌, ◌*◌, arith}
 use Rattle.mb_word.specs.Fields.{ninode_of}
-use Rattle.mb_word.specs.Numbers.{put_at, word_bytes}
+use Rattle.mb_word.specs.Numbers.{put_at}
 use Rattle.mb_tree.specs.Views.{over}
 use Rattle.mb_iface.specs.Changed.{changed, put_block}
-use Rattle.mb_iface.proofs.WithinViews.{found_within}
-use Rattle.mb_alloc.proofs.Within.{in_view_both}
+use Rattle.mb_iface.proofs.Editing.{by_patch, by_both}
+use Rattle.mb_iface.proofs.TwoBlocks.{still_there}
 use Rattle.mb_alloc.proofs.Erasings.{erased_at, cached_more, first_stays}
 use Rattle.mb_alloc.proofs.inodes.free_inode.Goals.{then-count-ge100-via-then-count-ge100, then-count-ge100-via-else-count-ge100+then-ino-lt3}
 use Rattle.mb_alloc.proofs.inodes.free_inode.Goals as goal
@@ -32,28 +32,38 @@ returns-in-Done g c = (
       )),
 )
 
-pub returns-in-Ok : goal.returns-in-Ok
-returns-in-Ok g c = (
-  λ within.
-      in_view_both (g.V.View.shown c.args.view.now) c.args.changes.now c.put_both.new.self c.inode_block-holder.result _ 1 _ c.in-Ok.ensures.each
-      (subst (λ o. IsSome o) (sym c.in-Some.ensures.there) refl)
-      (found_within (g.V.View.shown c.args.view.now) c.args.changes.now c.inode_block-holder.result within (subst (λ o. IsSome o) (sym c.in-Some-seen.ensures.there) refl)) within,
-  λ blocks part keeps some.
-      (let old = over blocks (changed c.args.changes.now) in
-      let bytes = c.in-Some.ensures.found blocks part in
-      let held = c.in-Some-seen.ensures.found blocks part in
-      let mid = put_block old c.inode_block-holder.result c.write_at.new.into in
-      let stays = first_stays old c.args.ino c.inode_block-holder.result c.write_at.new.into c.inode_block-holder.ensures in
-      let counted : c.word_at-count.result ≡ ninode_of (mid 1) = c.word_at-count.ensures ∙ ap ninode_of (sym (stays ∙ bytes)) in (
-        mid,
-        erased_at old mid c.args.ino _ c.inode_block-holder.result c.inode_place.result _ keeps some c.inode_block-holder.ensures c.inode_place.ensures refl
-            (ap (λ b. get_or b (64 * c.inode_place.result + 51) 0) (sym held))
-            (ap (put_block old c.inode_block-holder.result) (c.write_at.ensures.bytes ∙ ap (λ b. put_at b (64 * c.inode_place.result) (set (replicate {A = ℕ} 64 0) 51 (get_or c.in-Some-seen.inodes.now (64 * c.inode_place.result + 51) 0))) (sym held))),
-        inr (
-          omega (arith, c.if-count-ge100.false, counted),
-          omega (arith, c.if-ino-lt3.false),
-          cached_more mid (over blocks (changed c.put_both.new.self)) c.word_at-count.result c.args.ino c.put_word.new.b c.put_word-2.new.b (ap length stays ∙ keeps.sized 1) counted (omega (arith, c.if-count-ge100.false)) c.ranges.ino.fits
-              (c.put_word.ensures ∙ ap (λ b. put_at b 208 (word_bytes (c.word_at-count.result + 1))) (sym (stays ∙ bytes))) c.put_word-2.ensures (c.in-Ok.ensures.ok blocks),
-        ),
-      )),
-)
+pub returns-in-Done-hold_both : goal.returns-in-Done-hold_both
+returns-in-Done-hold_both g c =
+    let shown = g.V.View.shown c.args.view.now in
+    let held = c.hold_both.new.changes in
+    let one = c.patch.new.self in
+    let two = c.patch-in-Done-hold_both.new.self in
+    let new = c.patch-in-Done-hold_both-2.new.self in
+    let holder = c.inode_block-holder.result in
+    let place = 210 + 2 * c.word_at-count.result in
+    let blank = set (replicate {A = ℕ} 64 0) 51 (get_or c.in-Some-seen.inodes.now (64 * c.inode_place.result + 51) 0) in
+    let both = c.in-Done-hold_both.ensures in
+    let erases = by_patch shown held one holder (64 * c.inode_place.result) blank both.first c.patch.ensures.each in
+    let there = still_there held one holder (64 * c.inode_place.result) blank both.first c.patch.ensures.each 1 both.second in
+    let counts = by_patch shown one two 1 208 c.word.result there c.patch-in-Done-hold_both.ensures.each in
+    let caches = by_both shown one two new 1 208 place c.word.result c.word-in-Done-hold_both.result counts c.patch-in-Done-hold_both-2.ensures.each in (
+      λ within. caches.within (erases.within (both.within within)),
+      λ blocks part keeps some.
+          (let old = over blocks (changed c.args.changes.now) in
+          let mid = over blocks (changed one) in
+          let bytes = c.in-Some.ensures.found blocks part in
+          let found = c.in-Some-seen.ensures.found blocks part in
+          let wrote : mid ≡ put_block old holder (put_at (old holder) (64 * c.inode_place.result) blank) = erases.wrote blocks part ∙ ap (λ (f : ℕ → List ℕ). put_block f holder (put_at (f holder) (64 * c.inode_place.result) blank)) (both.same blocks part) in
+          let stays : mid 1 ≡ old 1 = ap (λ f. f 1) wrote ∙ first_stays old c.args.ino holder _ c.inode_block-holder.ensures in
+          let counted : c.word_at-count.result ≡ ninode_of (mid 1) = c.word_at-count.ensures ∙ ap ninode_of (sym (stays ∙ bytes)) in (
+            mid,
+            erased_at old mid c.args.ino _ holder c.inode_place.result _ keeps some c.inode_block-holder.ensures c.inode_place.ensures refl
+                (ap (λ b. get_or b (64 * c.inode_place.result + 51) 0) (sym found)) wrote,
+            inr (
+              omega (arith, c.if-count-ge100.false, counted),
+              omega (arith, c.if-ino-lt3.false),
+              cached_more mid (over blocks (changed new)) c.word_at-count.result c.args.ino (put_at (mid 1) 208 c.word.result) _ (ap length stays ∙ keeps.sized 1) counted (omega (arith, c.if-count-ge100.false)) c.ranges.ino.fits
+                  (ap (put_at (mid 1) 208) c.word.ensures) (ap (put_at (put_at (mid 1) 208 c.word.result) place) c.word-in-Done-hold_both.ensures) (caches.wrote blocks part),
+            ),
+          )),
+    )

@@ -1,14 +1,26 @@
-use Rattle.std.proofs.Common.{refl, subst, IsSome}
+use Rattle.std.proofs.Common.{refl, sym, ap, subst, ◌∙◌, take, IsSome, arith}
 use Rattle.mb_tree.specs.Views.{over}
 use Rattle.mb_iface.specs.Changed.{changed}
-use Rattle.mb_alloc.proofs.Within.{in_view}
-use Rattle.mb_alloc.proofs.Takings.{zeroed_now}
+use Rattle.mb_alloc.proofs.Takings.{taken_zeroed_more, taken_zeroed_last}
 use Rattle.mb_alloc.proofs.takes.take_zeroed.Goals as goal
 
-pub returns-in-Ok : goal.returns-in-Ok
-returns-in-Ok g c = (
+pub returns-in-Done : goal.returns-in-Done
+returns-in-Done g c = (
   c.in-Block.ensures.0,
   c.in-Block.ensures.1,
-  λ within. in_view (g.V.View.shown c.args.view.now) c.take_block.new.changes c.put_zeros.new.self c.in-Block.block _ c.in-Ok.ensures.each (subst (λ o. IsSome o) c.in-Some.ensures refl) (c.in-Block.ensures.2 within),
-  λ blocks part keeps. record { between = over blocks (changed c.take_block.new.changes); taken = c.in-Block.ensures.3 blocks part keeps; zeroed = zeroed_now (over blocks (changed c.take_block.new.changes)) (over blocks (changed c.put_zeros.new.self)) c.in-Block.block (c.in-Ok.ensures.ok blocks) },
+  c.in-Done.ensures.within (subst (λ o. IsSome o) c.in-Some.ensures refl),
+  λ blocks part keeps.
+      taken_zeroed_more (over blocks (changed c.args.changes.now)) (over blocks (changed c.put_and_edit.new.changes)) c.in-Block.block c.in-Block.left c.word.result keeps (c.in-Block.ensures.2 blocks part) c.if-left-gt0.true c.word.ensures
+      (c.in-Done.ensures.wrote blocks part),
+)
+
+pub returns-in-Done-put_and_edit : goal.returns-in-Done-put_and_edit
+returns-in-Done-put_and_edit g c = (
+  c.in-Block.ensures.0,
+  c.in-Block.ensures.1,
+  c.in-Done-put_and_edit.ensures.within (subst (λ o. IsSome o) c.in-Some.ensures refl),
+  λ blocks part keeps.
+      (let held = c.in-Some-seen.ensures.found blocks part in
+      taken_zeroed_last (over blocks (changed c.args.changes.now)) (over blocks (changed c.put_and_edit-2.new.changes)) c.in-Block.block c.in-Block.left c.list_bytes-list.result keeps (c.in-Block.ensures.2 blocks part) (omega (arith, c.if-left-gt0.false))
+      (c.list_bytes-list.ensures.bytes ∙ ap (take 202) (sym held)) c.list_bytes-list.ensures.sized (c.in-Done-put_and_edit.ensures.wrote blocks part)),
 )
