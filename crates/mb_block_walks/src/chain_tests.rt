@@ -1,5 +1,6 @@
-use crate::volumes::{fresh, nothing, take_next};
+use crate::volumes::{fresh, take_next};
 use mb_alloc::{Hung, free_block};
+use mb_gathering::nothing;
 use mb_iface::Changes;
 use std::test::Fail;
 

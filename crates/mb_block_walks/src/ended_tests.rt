@@ -1,8 +1,7 @@
-use crate::volumes::{
-    Gathered, cached, fresh, gather, nothing, numbered, with_a_deep_part, without,
-};
+use crate::volumes::{cached, fresh, numbered, with_a_deep_part};
 use mb_alloc::{Hung, Picked, Taken, free_block, free_inode, pick_inode, take_block, take_zeroed};
 use mb_bmap::{Reached, hang, reach};
+use mb_gathering::{Gathered, gather, nothing, without};
 use mb_iface::{Changes, Need};
 use std::alloc::Global;
 use std::test::Fail;

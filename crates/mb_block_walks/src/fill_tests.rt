@@ -1,30 +1,13 @@
 use mb_alloc::{Hung, free_block};
 use mb_bmap::{Reached, reach};
-use mb_iface::{Changes, View};
+use mb_gathering::{Gathered, nothing};
+use mb_iface::Changes;
 use std::alloc::Global;
 use std::test::Fail;
 
-/// The blocks that somebody has gathered.
-#[derive(Drop)]
-struct Gathered {
-    blocks: Changes,
-}
-
-impl View for Gathered {
-    ghost use Rattle.mb_iface.specs.Changed.{changed};
-
-    ghost shown = { λ g. changed g.blocks };
-
-    fn get(&self, block: u32) -> Option<&[u8; 512]> {
-        self.blocks.get(block)
-    }
-}
-
 /// A volume of 400 blocks, of which those from 5 on are free, put back from the last one down.
 fn fresh(heap: Global) -> Result<Gathered, Fail> {
-    let mut disk = Gathered {
-        blocks: Changes::new(heap),
-    };
+    let mut disk = nothing(heap);
     for block in 0..400 {
         disk.blocks.put(block, &[0; 512])?;
     }

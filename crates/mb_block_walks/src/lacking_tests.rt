@@ -1,6 +1,7 @@
-use crate::volumes::{fresh, with_a_deep_part, without};
+use crate::volumes::{fresh, with_a_deep_part};
 use mb_alloc::{Hung, Taken, free_block, take_block};
 use mb_bmap::{Located, Reached, address, hang, reach};
+use mb_gathering::without;
 use mb_iface::Changes;
 use std::test::Fail;
 

@@ -1,5 +1,6 @@
-use crate::volumes::{cached, numbered, without};
+use crate::volumes::{cached, numbered};
 use mb_alloc::{Hung, Picked, free_inode, pick_inode};
+use mb_gathering::without;
 use mb_iface::Changes;
 use mb_word::word_at;
 use std::test::Fail;

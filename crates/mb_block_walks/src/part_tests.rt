@@ -1,5 +1,6 @@
-use crate::volumes::{Gathered, fresh, gather, nothing, take_next};
+use crate::volumes::{fresh, take_next};
 use mb_bmap::{Located, Reached, address, reach};
+use mb_gathering::{Gathered, gather, nothing};
 use mb_iface::{Changes, Over};
 use std::alloc::Global;
 use std::test::Fail;

@@ -1,31 +1,9 @@
 use mb_alloc::{Hung, Taken, free_block, take_block};
 use mb_bmap::{Reached, reach};
-use mb_iface::{Changes, Need, View};
+use mb_gathering::{Gathered, gather, nothing};
+use mb_iface::Changes;
 use std::alloc::Global;
 use std::test::Fail;
-
-/// The blocks that somebody has gathered.
-#[derive(Drop)]
-pub struct Gathered {
-    pub blocks: Changes,
-}
-
-impl View for Gathered {
-    ghost use Rattle.mb_iface.specs.Changed.{changed};
-
-    ghost shown = { λ g. changed g.blocks };
-
-    fn get(&self, block: u32) -> Option<&[u8; 512]> {
-        self.blocks.get(block)
-    }
-}
-
-/// No block.
-pub fn nothing(heap: Global) -> Gathered {
-    Gathered {
-        blocks: Changes::new(heap),
-    }
-}
 
 /// A volume of 4,000 blocks and 16 inodes, of which so many last blocks are free, put back from the
 /// last one down.
@@ -78,31 +56,6 @@ pub fn cached(heap: Global, number: u8, last: &[u8; 8]) -> Result<Gathered, Fail
     }
     let _ = disk.blocks.patch(1, 402, last);
     Ok(disk)
-}
-
-/// The blocks of a disk without one of them.
-pub fn without(heap: Global, disk: &Gathered, lacking: u32) -> Result<Gathered, Fail> {
-    let mut view = nothing(heap);
-    for place in 0..disk.blocks.len() {
-        let (block, bytes) = disk.blocks.at(place);
-        if block != lacking {
-            view.blocks.put(block, bytes)?;
-        }
-    }
-    Ok(view)
-}
-
-/// Gathers the blocks that are asked for, the first of which has to be lacking.
-pub fn gather(disk: &Gathered, view: &mut Gathered, need: Need) -> Result<(), Fail> {
-    if view.get(need.first).is_some() {
-        return Err("a block is asked for that is there".into());
-    }
-    for block in need.first..need.first.saturating_add(need.count).min(4000) {
-        if let Some(bytes) = disk.get(block) {
-            view.blocks.put(block, bytes)?;
-        }
-    }
-    Ok(())
 }
 
 /// Takes a block, by trying anew with the blocks that are asked for; 0 where none is left.

@@ -1,68 +1,18 @@
-use mb_edge::{Bytes, Disk, Fails, MemDisk};
 use mb_file::{empty, put, read};
-use mb_iface::{Acted, Answer, Asked, Changes, Need, View};
+use mb_gathering::{Gathered, SMALL, gather, nothing};
+use mb_iface::{Acted, Answer, Asked, View};
 use mb_kinds::{Errno, Octets};
 use mb_layout::Dinode;
-use mb_mkfs::make;
 use mb_word::{long_at, word_at};
 use std::alloc::Global;
 use std::test::Fail;
 
-/// The blocks that somebody has gathered.
-#[derive(Drop)]
-pub struct Gathered {
-    pub blocks: Changes,
-}
-
-impl View for Gathered {
-    ghost use Rattle.mb_iface.specs.Changed.{changed};
-
-    ghost shown = { λ g. changed g.blocks };
-
-    fn get(&self, block: u32) -> Option<&[u8; 512]> {
-        self.blocks.get(block)
-    }
-}
-
-/// No block.
-fn nothing(heap: Global) -> Gathered {
-    Gathered {
-        blocks: Changes::new(heap),
-    }
-}
-
 /// The fresh volume of 100 blocks and 16 inodes, in which inode 3 is a regular file of no bytes.
 pub fn fresh(heap: Global) -> Result<Gathered, Fail> {
-    let image = Bytes::from_vec(Vec::new(heap));
-    let never = Fails::new(heap);
-    let mut device = MemDisk::new(heap, image, 100, never, Fails::new(heap), Fails::new(heap))?;
-    if make(&mut device, 100, 16).is_err() {
-        return Err("no volume is made".into());
-    }
-    let mut disk = nothing(heap);
-    let mut bytes = [0; 512];
-    for block in 0..100 {
-        if device.read(block, &mut bytes).is_err() {
-            return Err("a block is not read".into());
-        }
-        disk.blocks.put(block, &bytes)?;
-    }
+    let mut disk = mb_gathering::fresh(heap, SMALL)?;
     // the mode 0100644, in the third inode of the i-list's first block
     let _ = disk.blocks.patch(2, 128, &[0xa4, 0x81]);
     Ok(disk)
-}
-
-/// Gathers the blocks that are asked for, the first of which has to be lacking.
-fn gather(disk: &Gathered, view: &mut Gathered, need: Need) -> Result<(), Fail> {
-    if view.get(need.first).is_some() {
-        return Err("a block is asked for that is there".into());
-    }
-    for block in need.first..need.first.saturating_add(need.count).min(100) {
-        if let Some(bytes) = disk.get(block) {
-            view.blocks.put(block, bytes)?;
-        }
-    }
-    Ok(())
 }
 
 /// What an operation came to: its changes are made, or it is refused, with how often it asked.

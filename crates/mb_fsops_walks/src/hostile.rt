@@ -1,7 +1,7 @@
 ghost use Rattle.std.specs.Prelude.{◌≤◌};
 
-use crate::volumes::Gathered;
 use mb_fsops::V7;
+use mb_gathering::{Gathered, nothing};
 use mb_iface::{Acted, Asked, Changes, FileSys, Need, Opens, Query, View};
 use mb_tree::FsOp;
 use std::alloc::Global;
@@ -172,9 +172,7 @@ fn are_below(changes: &Changes) -> bool {
 
 /// A query comes to an answer, or asks for more blocks each time.
 pub fn asks_well(heap: Global, wild: &Wild, query: &Query) -> Result<(), Fail> {
-    let mut view = Gathered {
-        blocks: Changes::new(heap),
-    };
+    let mut view = nothing(heap);
     for _ in 0..ROUNDS {
         match V7.ask(heap, &view, query) {
             Asked::Need(need) => gather(wild, &mut view, need)?,
@@ -193,9 +191,7 @@ pub fn acts_well(
     op: &FsOp,
     pick: Option<u16>,
 ) -> Result<(), Fail> {
-    let mut view = Gathered {
-        blocks: Changes::new(heap),
-    };
+    let mut view = nothing(heap);
     for _ in 0..ROUNDS {
         match V7.act(heap, &view, opens, op, pick) {
             Acted::Need(need) => gather(wild, &mut view, need)?,

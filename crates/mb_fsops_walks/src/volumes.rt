@@ -1,37 +1,13 @@
-use mb_edge::{Bytes, Disk, Fails, MemDisk};
 use mb_fsops::V7;
-use mb_iface::{Acted, Answer, Asked, Changes, FileSys, Need, Opens, Query, View};
+use mb_gathering::{Gathered, SMALL, gather, nothing};
+use mb_iface::{Acted, Answer, Asked, FileSys, Opens, Query};
 use mb_kinds::{Cred, Errno, Name, Octets, Path, Stat};
-use mb_mkfs::make;
 use mb_tree::{FsOp, Inos};
 use std::alloc::Global;
 use std::test::Fail;
 
 /// The root directory.
 pub const ROOT: u16 = 2;
-
-/// The blocks that somebody has gathered.
-#[derive(Drop)]
-pub struct Gathered {
-    pub blocks: Changes,
-}
-
-impl View for Gathered {
-    ghost use Rattle.mb_iface.specs.Changed.{changed};
-
-    ghost shown = { λ g. changed g.blocks };
-
-    fn get(&self, block: u32) -> Option<&[u8; 512]> {
-        self.blocks.get(block)
-    }
-}
-
-/// No block.
-fn nothing(heap: Global) -> Gathered {
-    Gathered {
-        blocks: Changes::new(heap),
-    }
-}
 
 /// A volume in memory with the open files on it.
 #[derive(Drop)]
@@ -50,49 +26,11 @@ pub enum Ended {
 
 /// The fresh volume of 100 blocks and 16 inodes, which has the root alone.
 pub fn fresh(heap: Global) -> Result<Volume, Fail> {
-    let none = Fails::new(heap);
-    let mut disk = MemDisk::new(
-        heap,
-        Bytes::new(heap),
-        100,
-        none,
-        Fails::new(heap),
-        Fails::new(heap),
-    )?;
-    if make(&mut disk, 100, 16).is_err() {
-        return Err("no volume is made".into());
-    }
     Ok(Volume {
         heap,
-        blocks: whole(heap, &mut disk)?,
+        blocks: mb_gathering::fresh(heap, SMALL)?,
         opens: Opens::new(heap),
     })
-}
-
-/// All blocks of a disk of 100.
-fn whole(heap: Global, disk: &mut MemDisk) -> Result<Gathered, Fail> {
-    let mut all = nothing(heap);
-    let mut bytes = [0; 512];
-    for block in 0..100 {
-        if disk.read(block, &mut bytes).is_err() {
-            return Err("a block is not read".into());
-        }
-        all.blocks.put(block, &bytes)?;
-    }
-    Ok(all)
-}
-
-/// Gathers the blocks that are asked for, the first of which has to be lacking.
-fn gather(disk: &Gathered, view: &mut Gathered, need: Need) -> Result<(), Fail> {
-    if view.get(need.first).is_some() {
-        return Err("a block is asked for that is there".into());
-    }
-    for block in need.first..need.first.saturating_add(need.count).min(100) {
-        if let Some(bytes) = disk.get(block) {
-            view.blocks.put(block, bytes)?;
-        }
-    }
-    Ok(())
 }
 
 /// Asks a file system until it asks for no block any longer.

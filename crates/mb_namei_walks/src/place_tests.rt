@@ -1,5 +1,6 @@
-use crate::volumes::{Ended, Gathered, find_on, nothing, place_on, volume};
-use mb_iface::{Answer, View};
+use crate::volumes::{Ended, find_on, place_on, volume};
+use mb_gathering::{nothing, without};
+use mb_iface::Answer;
 use mb_kinds::Errno;
 use std::test::Fail;
 
@@ -59,25 +60,12 @@ fn errors_of_a_place(rt: HostRuntime) -> Result<(), Fail> {
     Ok(())
 }
 
-/// A view that has every block of the volume but one.
-fn without(view: &mut Gathered, disk: &Gathered, missing: u32) -> Result<(), Fail> {
-    for block in 0..120 {
-        if block != missing {
-            if let Some(bytes) = disk.get(block) {
-                view.blocks.put(block, bytes)?;
-            }
-        }
-    }
-    Ok(())
-}
-
 /// Each block in turn is missing, and asked for where it is wanted.
 #[test]
 fn each_block_is_asked_for(rt: HostRuntime) -> Result<(), Fail> {
     let disk = volume(rt.alloc())?;
     for missing in 0..120 {
-        let mut view = nothing(rt.alloc());
-        without(&mut view, &disk, missing)?;
+        let mut view = without(rt.alloc(), &disk, missing)?;
         match find_on(rt.alloc(), &disk, &mut view, 5, b"/big/n999")? {
             Ended::Found(Answer::Node(stat)) => assert_eq!(rt; stat.ino, 4),
             _ => return Err("no inode".into()),

@@ -1,4 +1,5 @@
-use crate::volumes::{Gathered, gather, nothing, numbered, volume};
+use crate::volumes::{numbered, volume};
+use mb_gathering::{Gathered, gather, nothing};
 use mb_iface::Changes;
 use mb_namei::{Sought, search};
 use std::alloc::Global;

@@ -1,32 +1,10 @@
-use mb_iface::{Answer, Asked, Changes, Need, View};
+use mb_gathering::{Gathered, gather, nothing};
+use mb_iface::{Answer, Asked};
 use mb_kinds::{Cred, Errno, Path, Stat};
 use mb_layout::{Dinode, inode_block, inode_place};
 use mb_namei::{find, place, used};
 use std::alloc::Global;
 use std::test::Fail;
-
-/// The blocks that somebody has gathered.
-#[derive(Drop)]
-pub struct Gathered {
-    pub blocks: Changes,
-}
-
-impl View for Gathered {
-    ghost use Rattle.mb_iface.specs.Changed.{changed};
-
-    ghost shown = { λ g. changed g.blocks };
-
-    fn get(&self, block: u32) -> Option<&[u8; 512]> {
-        self.blocks.get(block)
-    }
-}
-
-/// No block.
-pub fn nothing(heap: Global) -> Gathered {
-    Gathered {
-        blocks: Changes::new(heap),
-    }
-}
 
 /// Writes an inode whose first ten parts are the blocks from `first` on, as far as its size goes, and
 /// whose single index block is `index`.
@@ -127,19 +105,6 @@ pub fn volume(heap: Global) -> Result<Gathered, Fail> {
     put_slot(&mut disk, 20, 0, 5, b".");
     put_slot(&mut disk, 20, 1, 2, b"..");
     Ok(disk)
-}
-
-/// Gathers the blocks that are asked for, the first of which has to be lacking.
-pub fn gather(disk: &Gathered, view: &mut Gathered, need: Need) -> Result<(), Fail> {
-    if view.get(need.first).is_some() {
-        return Err("a block is asked for that is there".into());
-    }
-    for block in need.first..need.first.saturating_add(need.count).min(120) {
-        if let Some(bytes) = disk.get(block) {
-            view.blocks.put(block, bytes)?;
-        }
-    }
-    Ok(())
 }
 
 /// What a query came to, once every block that it asked for was gathered.

@@ -1,0 +1,6 @@
+use Rattle.mb_iface.specs.Changed.{changed}
+use Rattle.mb_gathering.specs.Growing.{Grows, IsFrom}
+use Rattle.mb_gathering.proofs.views.gather.Given as goal
+
+abbrev pub invariant-loop-block : goal.invariant-loop-block
+invariant-loop-block l = record { grows : Grows (changed l.fn.view.blocks) (changed l.view.blocks); from : IsFrom (changed l.disk.blocks) (changed l.fn.view.blocks) (changed l.view.blocks) }

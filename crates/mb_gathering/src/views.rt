@@ -1,0 +1,76 @@
+ghost use Rattle.std.specs.Prelude.{◌≡◌, ◌<◌, [], None, IfOk};
+ghost use Rattle.mb_gathering.specs.Growing.{Grows, IsFrom};
+ghost use Rattle.mb_iface.specs.Changed.{changed};
+
+use mb_iface::{Changes, Need, View};
+use std::alloc::Global;
+use std::test::Fail;
+
+/// The blocks that somebody has gathered.
+#[derive(Drop)]
+pub struct Gathered {
+    pub blocks: Changes,
+}
+
+impl View for Gathered {
+    ghost use Rattle.mb_iface.specs.Changed.{changed};
+
+    ghost shown = { λ g. changed g.blocks };
+
+    fn get(&self, block: u32) -> Option<&[u8; 512]> {
+        self.blocks.get(block)
+    }
+}
+
+/// No block.
+pub fn nothing(heap: Global) -> Gathered
+    ensures { result.blocks ≡ [] }
+{
+    Gathered {
+        blocks: Changes::new(heap),
+    }
+}
+
+/// The blocks of a disk without one of them. The only error is want of memory.
+pub fn without(heap: Global, disk: &Gathered, lacking: u32) -> Result<Gathered, Fail>
+    ensures { IfOk result (λ view. changed view.blocks lacking ≡ None) }
+{
+    let mut view = nothing(heap);
+    for place in 0..disk.blocks.len() {
+        let (block, bytes) = disk.blocks.at(place);
+        if block != lacking {
+            view.blocks.put(block, bytes)?;
+        }
+    }
+    Ok(view)
+}
+
+/// Gathers a block that the view lacks, where the disk has it.
+fn gather_block(disk: &Gathered, view: &mut Gathered, block: u32) -> Result<(), Fail>
+    requires { block < 262144 }
+    ensures grows { Grows (changed view.old.blocks) (changed view.new.blocks) }
+    ensures from { IsFrom (changed disk.now.blocks) (changed view.old.blocks) (changed view.new.blocks) }
+{
+    if view.blocks.get(block).is_some() {
+        return Ok(());
+    }
+    if let Some(bytes) = disk.get(block) {
+        view.blocks.put(block, bytes)?;
+    }
+    Ok(())
+}
+
+/// Gathers the blocks that are asked for, as far as the disk has them. An error is a first block that
+/// is there already, with a view as before, or want of memory.
+pub fn gather(disk: &Gathered, view: &mut Gathered, need: Need) -> Result<(), Fail>
+    ensures grows { Grows (changed view.old.blocks) (changed view.new.blocks) }
+    ensures from { IsFrom (changed disk.now.blocks) (changed view.old.blocks) (changed view.new.blocks) }
+{
+    if view.get(need.first).is_some() {
+        return Err("a block is asked for that is there".into());
+    }
+    for block in need.first..need.first.saturating_add(need.count).min(262_144) {
+        gather_block(disk, view, block)?;
+    }
+    Ok(())
+}
