@@ -1,6 +1,7 @@
 -- What a read of blocks one after another gives, and what is kept of it.
-use Rattle.std.specs.Prelude.{List, [], ◌∷◌, ℕ, ◌+◌, ◌≡◌, ◌≤◌, Option, Some, IfSome, IsSome, map, nat_eq}
+use Rattle.std.specs.Prelude.{List, [], ◌∷◌, ℕ, ◌+◌, ◌≡◌, ◌≤◌, Option, Some, IfSome, IsSome, map, nat_eq, option_map, unwrap_or}
 use Rattle.indexmap.specs.IndexMap.{insert_all}
+use Rattle.mb_iface.specs.Changed.{ChangeList, changed}
 use Rattle.mb_kinds.specs.Image.{Image}
 use Rattle.mb_cache.specs.Stamps.{Stamps, stamp_of}
 use Rattle.mb_tree.specs.Views.{IsPart}
@@ -28,6 +29,10 @@ pub record GathersSeen (view : Option Image) (first count : ℕ) (old new : Copy
 -- copies with those of a list, each in the place of its block's copy where it has one, else behind the others
 abbrev pub stored : CopyList → CopyList → CopyList
 stored copies reads = insert_all nat_eq copies reads
+
+-- a view whose blocks have the new bytes, where they are changed; no other block comes
+abbrev pub renewed : ChangeList → (ℕ → Option (List ℕ)) → ℕ → Option (List ℕ)
+renewed changes shown block = option_map (λ bytes. unwrap_or (changed changes block) bytes) (shown block)
 
 -- the steps of the pins on blocks that were read
 abbrev pub pin_steps : CopyList → List Undo

@@ -1,16 +1,19 @@
-ghost use Rattle.std.specs.Prelude.{◌≡◌, ◌≤◌, ◌<◌, ◌+◌, [], ℕ, Some, length, OnOk, OnErr, option_copied};
+ghost use Rattle.std.specs.Prelude.{◌≡◌, ◌≤◌, ◌<◌, ◌+◌, [], ℕ, List, Some, length, OnOk, OnErr, option_copied};
 ghost use Rattle.mb_cache.specs.State.{ReadHasCause, seen};
+ghost use Rattle.mb_core_spec.specs.Copies.{shown};
+ghost use Rattle.mb_iface.specs.Changed.{changed};
+ghost use Rattle.mb_tree.specs.Views.{IsPart, over};
 ghost use Rattle.mb_callers.specs.Reads.{GathersSeen};
 
 use crate::copies::Copies;
 use crate::reads::{Reads, fetch};
 use mb_cache::{Cache, ReadFault};
 use mb_edge::Disk;
-use mb_iface::{Need, View};
+use mb_iface::{Changes, Need, View};
 use std::alloc::Global;
 use std::marker::Model;
 
-/// Blocks as they are seen, gathered for an operation that is done again: they are not pinned, and kept for no call. A
+/// Blocks as they are seen, gathered for operations that are done again: they are not pinned, and kept for no call. A
 /// contract sees their copies, each block once.
 #[derive(Drop)]
 pub struct Blocks {
@@ -52,6 +55,25 @@ impl Blocks {
         self.copies.reserve(self.reads.len())?;
         self.copies.store(&self.reads);
         Ok(())
+    }
+
+    /// Goes with an install: the changed ones of the blocks have their new bytes. At most 128 blocks stay; where there are
+    /// more, none does. Needs no memory.
+    pub fn follow(&mut self, changes: &Changes)
+        ensures part { (blocks : ℕ → List ℕ) → IsPart (shown self.old) blocks → IsPart (shown self.new) (over blocks (changed changes.now)) }
+        ensures few { length self.new ≤ 128 }
+    {
+        self.copies.renew(changes);
+        if self.copies.len() > 128 {
+            self.copies.clear();
+        }
+    }
+
+    /// Drops all blocks, and keeps the room; needs no memory.
+    pub fn clear(&mut self)
+        ensures { self.new ≡ [] }
+    {
+        self.copies.clear();
     }
 }
 

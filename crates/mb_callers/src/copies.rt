@@ -1,9 +1,10 @@
-ghost use Rattle.std.specs.Prelude.{◌≡◌, ◌≤◌, ◌<◌, ◌+◌, [], ℕ, length, OnOk, IsOk, Some, option_copied, nat_eq};
+ghost use Rattle.std.specs.Prelude.{◌≡◌, ◌≤◌, ◌<◌, ◌+◌, ◌∷◌, [], ℕ, length, OnOk, IsOk, IfSome, IfNone, Some, None, option_copied, nat_eq, slice_get};
 ghost use Rattle.std.specs.List.{IsDistinct};
 ghost use Rattle.std.specs.Map.{keys_of};
 ghost use Rattle.indexmap.specs.IndexMap.{insert_entry, spare};
-ghost use Rattle.mb_core_spec.specs.Copies.{kept_at};
-ghost use Rattle.mb_callers.specs.Reads.{stored};
+ghost use Rattle.mb_core_spec.specs.Copies as copy;
+ghost use Rattle.mb_core_spec.specs.Copies.{kept_at, shown};
+ghost use Rattle.mb_callers.specs.Reads.{renewed, stored};
 ghost use Rattle.mb_callers.specs.Stale.{is_fresh, is_same, least_stale, lesser, stale_step};
 
 use crate::reads::Reads;
@@ -11,6 +12,7 @@ use indexmap::IndexMap;
 use indexmap::map::Entry;
 use mb_cache::Cache;
 use mb_edge::{Disk, NoMemory};
+use mb_iface::Changes;
 use std::alloc::{AllocError, Global};
 use std::marker::Model;
 
@@ -107,6 +109,30 @@ fn searched(map: &IndexMap<u32, KeptBlock>, block: u32) -> Option<&KeptBlock>
     map.get(&block)
 }
 
+/// Where a block's copy stands: at the guessed place, else by a search.
+fn place_of(map: &IndexMap<u32, KeptBlock>, guess: u8, block: u32) -> Option<usize>
+    ensures found { IfSome result (λ place. (kept : copy.KeptBlock) × (slice_get map.now.entries place ≡ Some (block, kept))) }
+    ensures none { IfNone result (kept_at map.now.entries block ≡ None) }
+{
+    let guessed = usize::from(guess);
+    if let Some((key, _)) = map.get_index(guessed) {
+        if *key == block {
+            return Some(guessed);
+        }
+    }
+    searched_place(map, block)
+}
+
+/// Where a block's copy stands, by a search. It stays out of its caller, whose way by a guess is short.
+#[inline(never)]
+fn searched_place(map: &IndexMap<u32, KeptBlock>, block: u32) -> Option<usize>
+    ensures found { IfSome result (λ place. (kept : copy.KeptBlock) × (slice_get map.now.entries place ≡ Some (block, kept))) }
+    ensures none { IfNone result (kept_at map.now.entries block ≡ None) }
+{
+    let (place, _, _) = map.get_full(&block)?;
+    Some(place)
+}
+
 /// Copies of blocks, each block once. A contract sees the list and the room.
 #[derive(Drop)]
 pub(crate) struct Copies {
@@ -183,6 +209,34 @@ impl Copies {
         for at in 0..reads.len() {
             let (block, kept) = reads.at(at);
             self.put(block, kept);
+        }
+    }
+
+    /// How many blocks have a copy.
+    pub fn len(&self) -> usize
+        ensures { result ≡ length self.now.items }
+    {
+        self.map.len()
+    }
+
+    /// Gives the copy of a block new bytes, where the block has one; needs no memory.
+    fn rewrite(&mut self, block: u32, bytes: &[u8; 512])
+        ensures { (other : ℕ) → shown self.new.items other ≡ renewed ((block, bytes.now) ∷ []) (shown self.old.items) other }
+    {
+        let guess = self.guesses[guess_of(block)];
+        if let Some(place) = place_of(&self.map, guess, block) {
+            let (_, kept) = self.map.pair_mut(place);
+            kept.bytes = *bytes;
+        }
+    }
+
+    /// Gives the copy of each changed block its new bytes, where the block has one; needs no memory.
+    pub fn renew(&mut self, changes: &Changes)
+        ensures { (block : ℕ) → shown self.new.items block ≡ renewed changes.now (shown self.old.items) block }
+    {
+        for at in 0..changes.len() {
+            let (block, bytes) = changes.at(at);
+            self.rewrite(block, bytes);
         }
     }
 

@@ -6,7 +6,7 @@ ghost use Rattle.mb_core_spec.specs.Events.{without};
 ghost use Rattle.mb_core_state.specs.Rooms.{fresh_cache};
 
 use mb_cache::Cache;
-use mb_callers::Callers;
+use mb_callers::{Blocks, Callers};
 use mb_core_spec::{Config, Stage};
 use mb_edge::{Disk, NoMemory};
 use mb_iface::FileSys;
@@ -29,6 +29,9 @@ pub struct Fields<F: FileSys, D: Disk> {
     pub(crate) stage: Stage,
     pub(crate) incarnation: u32,
     pub(crate) config: Config,
+    /// Blocks as they are seen, which operations that are done again have from one to the next. It is for speed alone: no
+    /// block has to be there.
+    pub(crate) kept: Blocks,
 }
 
 impl<F: FileSys, D: Disk> Model for Fields<F, D> {
@@ -37,6 +40,7 @@ impl<F: FileSys, D: Disk> Model for Fields<F, D> {
     ghost use Rattle.std.specs.Ordering.{nat_cmp};
     ghost use Rattle.mb_tree.specs.contracts.seats.PlainFile as file;
     ghost use Rattle.mb_core_spec.specs.State.{CoreState};
+    ghost use Rattle.mb_core_state.specs.KeptBlocks.{AreSeen};
 
     ghost Value = { CoreState F D };
 
@@ -54,6 +58,8 @@ impl<F: FileSys, D: Disk> Model for Fields<F, D> {
       incarnation = c.incarnation;
       config = c.config;
     } };
+
+    ghost invariant = { λ c. AreSeen D.told c.cache c.kept };
 }
 
 impl<F: FileSys, D: Disk> Fields<F, D> {
@@ -80,6 +86,7 @@ impl<F: FileSys, D: Disk> Fields<F, D> {
             stage: Stage::Running,
             incarnation: 0,
             config,
+            kept: Blocks::new(alloc),
         })
     }
 

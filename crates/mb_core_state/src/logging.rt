@@ -46,6 +46,7 @@ impl<F: FileSys, D: Disk> Fields<F, D> {
         ensures room { self.new.journal.room ≡ self.old.journal.room }
     {
         self.tables.log(caller, op, pick, session)?;
+        self.kept.clear();
         self.cache.install(changes);
         Ok(())
     }

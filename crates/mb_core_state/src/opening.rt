@@ -7,6 +7,7 @@ ghost use Rattle.mb_core_state.specs.Opening.{ActsOnNameless, IsCheckpointedBy, 
 use crate::acting::act_seen;
 use crate::fields::Fields;
 use mb_cache::ReadFault;
+use mb_callers::Blocks;
 use mb_edge::{Disk, NoMemory};
 use mb_iface::{Changes, FileSys};
 use mb_tables::counts_of;
@@ -38,7 +39,16 @@ impl<F: FileSys, D: Disk> Fields<F, D> {
     {
         let opens = counts_of(alloc, nameless.as_slice())?;
         let op = FsOp::Release { inos: nameless };
-        act_seen(alloc, &self.fs, &mut self.cache, &opens, &op, None)
+        let mut blocks = Blocks::new(alloc);
+        act_seen(
+            alloc,
+            &self.fs,
+            &mut self.cache,
+            &mut blocks,
+            &opens,
+            &op,
+            None,
+        )
     }
 
     fn put_checkpointed(&mut self, changes: &Changes) -> Result<(), NoMemory>
@@ -48,6 +58,7 @@ impl<F: FileSys, D: Disk> Fields<F, D> {
     {
         let blocks = changes.len();
         self.cache.reserve(blocks)?;
+        self.kept.clear();
         self.cache.install(changes);
         self.cache.seal();
         Ok(())

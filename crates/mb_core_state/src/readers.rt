@@ -94,6 +94,7 @@ impl<F: FileSys, D: Disk> Fields<F, D> {
             stage: _,
             incarnation: _,
             config: _,
+            kept: _,
         } = self;
         cache.into_disk()
     }

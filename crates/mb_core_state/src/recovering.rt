@@ -52,6 +52,7 @@ impl<F: FileSys, D: Disk> Fields<F, D> {
         ensures dropped { self.new ≡ with_room (dropping self.old) self.new }
         ensures room { Leaves self.old.journal.room self.new.journal.room 1 0 }
     {
+        self.kept.clear();
         self.cache.drop_current();
         self.journal.mark(Step::Dropped);
         self.stage = Stage::Dropped;
@@ -65,6 +66,7 @@ impl<F: FileSys, D: Disk> Fields<F, D> {
         ensures room { Leaves self.old.journal.room self.new.journal.room 1 0 }
     {
         let faults = self.journal.records().len() as u32;
+        self.kept.clear();
         self.cache.drop_current();
         self.journal.mark(Step::Failed(faults));
         self.stage = Stage::Failed;
@@ -107,6 +109,7 @@ impl<F: FileSys, D: Disk> Fields<F, D> {
         ensures room { self.old.journal.room.history ≤ self.new.journal.room.history }
     {
         self.journal.reserve_steps(11)?;
+        self.kept.clear();
         self.cache.seal();
         self.tables.seal();
         self.journal.seal();
@@ -119,6 +122,7 @@ impl<F: FileSys, D: Disk> Fields<F, D> {
         ensures rest { self.new ≡ with_room (flushing self.old self.new.cache.disk self.new.cache.sealed) self.new }
         ensures room { self.new.journal.room ≡ self.old.journal.room }
     {
+        self.kept.clear();
         self.cache.flush_one()
     }
 }

@@ -12,7 +12,7 @@ ghost use Rattle.mb_core_state.specs.Rooms.{HasPins};
 
 use crate::acting::act_seen;
 use crate::fields::Fields;
-use mb_cache::ReadFault;
+use mb_cache::{ReadFault, installs, seen_in_layers};
 use mb_core_spec::{Stage, Step};
 use mb_edge::{Disk, NoMemory};
 use mb_iface::{Changes, FileSys};
@@ -116,6 +116,7 @@ impl<F: FileSys, D: Disk> Fields<F, D> {
             alloc,
             &self.fs,
             &mut self.cache,
+            &mut self.kept,
             self.tables.opens(),
             &logged.op,
             logged.pick,
@@ -149,7 +150,10 @@ impl<F: FileSys, D: Disk> Fields<F, D> {
     {
         let logged = self.journal.operation(done);
         self.tables.redo(&logged.op, logged.pick)?;
+        installs();
+        seen_in_layers();
         self.cache.install(changes);
+        self.kept.follow(changes);
         self.journal.mark(Step::Replayed(done + 1));
         self.stage = Stage::Restored(done + 1);
         Ok(())

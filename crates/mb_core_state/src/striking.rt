@@ -91,6 +91,7 @@ impl<F: FileSys, D: Disk> Fields<F, D> {
     {
         damage_of_pages();
         damage_of_counts();
+        self.kept.clear();
         self.cache.damage(damage);
         self.tables.damage(damage);
     }
