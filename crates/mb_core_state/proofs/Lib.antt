@@ -3,6 +3,7 @@ mod GoneIn
 mod Enterings
 mod Gatherings
 mod Held
+mod Kept
 mod Loggings
 mod Missing
 mod Redoings

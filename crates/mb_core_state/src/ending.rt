@@ -15,6 +15,7 @@ use mb_kinds::{Entry, Reply, Ticket};
 
 impl<F: FileSys, D: Disk> Fields<F, D> {
     /// The call in flight of a caller ends without an entry, and what it took is given back; needs no memory.
+    #[tactic(auto, using(crate::proofs::Kept::still_seen))]
     pub fn quit(&mut self, caller: u8)
         requires caller { caller < length self.old.callers }
         requires pins { HasPins self.old caller }
@@ -26,6 +27,7 @@ impl<F: FileSys, D: Disk> Fields<F, D> {
     }
 
     /// The call in flight of a caller that has its entry ends, and its reply is handed out; needs no memory.
+    #[tactic(auto, using(crate::proofs::Kept::still_seen))]
     pub fn hand_out(&mut self, caller: u8) -> Reply
         requires answer { (mine : CallerState) × (slice_get self.old.callers caller ≡ Some mine) × IsSome mine.answer }
         requires pins { HasPins self.old caller }
@@ -55,6 +57,7 @@ impl<F: FileSys, D: Disk> Fields<F, D> {
         Left::Left(self.depart(ticket))
     }
 
+    #[tactic(auto, using(crate::proofs::Kept::still_seen))]
     fn depart(&mut self, ticket: &Ticket) -> Reply
         requires answer { (mine : CallerState) × (slice_get self.old.callers ticket.now.caller ≡ Some mine) × IsSome mine.answer }
         requires pins { HasPins self.old ticket.now.caller }
@@ -70,6 +73,7 @@ impl<F: FileSys, D: Disk> Fields<F, D> {
     }
 
     /// A call inside is unwound to where it entered, and stays a call in flight; needs no memory.
+    #[tactic(auto, using(crate::proofs::Kept::still_seen))]
     pub fn unwind(&mut self, ticket: Ticket)
         requires caller { ticket.caller < length self.old.callers }
         requires pins { HasPins self.old ticket.caller }
@@ -83,6 +87,7 @@ impl<F: FileSys, D: Disk> Fields<F, D> {
     }
 
     /// The call in flight of a caller ends with an entry that is not the model's step; needs no memory.
+    #[tactic(auto, using(crate::proofs::Kept::still_seen))]
     pub fn answer_by(&mut self, caller: u8, answer: Reply)
         requires flight { (mine : CallerState) × (slice_get self.old.callers caller ≡ Some mine) × IsSome mine.flight }
         requires pins { HasPins self.old caller }

@@ -186,6 +186,7 @@ impl<F: FileSys, D: Disk> Fields<F, D> {
         Ok(())
     }
 
+    #[tactic(auto, using(crate::proofs::Kept::still_seen))]
     fn give_back_copies(&mut self, ticket: Ticket, block: u32)
         requires inside { (mine : CallerState) × (slice_get self.old.callers ticket.caller ≡ Some mine) × (mine.inside ≡ true) }
         requires pins { HasPins self.old ticket.caller }

@@ -54,6 +54,7 @@ impl<F: FileSys, D: Disk> Fields<F, D> {
     }
 
     /// What is asked for is pinned and kept with the caller and in its pages; or nothing changes but the disk.
+    #[tactic(auto, using(crate::proofs::Kept::still_seen))]
     fn gather_for(
         &mut self,
         alloc: Global,

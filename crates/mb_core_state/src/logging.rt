@@ -18,6 +18,7 @@ use std::alloc::Global;
 impl<F: FileSys, D: Disk> Fields<F, D> {
     /// Room for an entry with so many changed blocks, for what the other calls inside may come to, and for a checkpoint
     /// after it. The only error is want of memory.
+    #[tactic(auto, using(crate::proofs::Kept::still_seen))]
     pub(crate) fn reserve_log(&mut self, blocks: usize) -> Result<(), NoMemory>
         ensures same { self.new ≡ with_room self.old self.new }
         ensures pages { OnOk result (blocks ≤ self.new.cache.room.pages) }
@@ -29,6 +30,7 @@ impl<F: FileSys, D: Disk> Fields<F, D> {
     }
 
     /// The changes are installed, and the tables follow. The only error is want of memory, and nothing has changed then.
+    #[tactic(auto, using(crate::proofs::Kept::none_seen))]
     pub(crate) fn put(
         &mut self,
         caller: u8,
@@ -75,6 +77,7 @@ impl<F: FileSys, D: Disk> Fields<F, D> {
     }
 
     /// The entry of a call comes into the journal, and what the call took is given back; needs no memory.
+    #[tactic(auto, using(crate::proofs::Kept::still_seen))]
     pub(crate) fn book(&mut self, ticket: Ticket, entry: Entry, op: Option<FsOp>, reply: Reply)
         requires flight { (mine : CallerState) × (slice_get self.old.callers ticket.caller ≡ Some mine) × IsSome mine.flight }
         requires pins { HasPins self.old ticket.caller }

@@ -30,6 +30,7 @@ impl<F: FileSys, D: Disk> Fields<F, D> {
         Ok(())
     }
 
+    #[tactic(auto, using(crate::proofs::Kept::still_seen))]
     fn release_all(&mut self, alloc: Global, nameless: Inos) -> Result<Changes, ReadFault>
         requires { length nameless < 4294967296 }
         ensures ok { IfOk result (λ changes. ActsOnNameless D.told self.old.cache nameless changes) }
@@ -51,6 +52,7 @@ impl<F: FileSys, D: Disk> Fields<F, D> {
         )
     }
 
+    #[tactic(auto, using(crate::proofs::Kept::none_seen))]
     fn put_checkpointed(&mut self, changes: &Changes) -> Result<(), NoMemory>
         ensures ok { OnOk result (IsCheckpointedBy self.old self.new changes.now) }
         ensures err { OnErr result (self.new ≡ with_room self.old self.new) }

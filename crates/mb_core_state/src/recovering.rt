@@ -47,6 +47,7 @@ impl<F: FileSys, D: Disk> Fields<F, D> {
     }
 
     /// The dirty pages are dropped; needs no memory.
+    #[tactic(auto, using(crate::proofs::Kept::none_seen))]
     pub fn drop_pages(&mut self)
         requires { 0 < self.old.journal.room.trail }
         ensures dropped { self.new ≡ with_room (dropping self.old) self.new }
@@ -59,6 +60,7 @@ impl<F: FileSys, D: Disk> Fields<F, D> {
     }
 
     /// The volume is given up; needs no memory.
+    #[tactic(auto, using(crate::proofs::Kept::none_seen))]
     pub fn give_up(&mut self)
         requires room { 0 < self.old.journal.room.trail }
         requires few { length self.old.journal.records < 4294967296 }
@@ -99,6 +101,7 @@ impl<F: FileSys, D: Disk> Fields<F, D> {
 
     /// A checkpoint is taken. The only error is want of memory, which does not come where there is room for its step of
     /// the trace and ten more; nothing has changed then.
+    #[tactic(auto, using(crate::proofs::Kept::none_seen))]
     pub fn seal(&mut self) -> Result<(), NoMemory>
         requires { length self.old.journal.history < 4294967296 }
         ensures ok { OnOk result ((self.new ≡ with_room (sealing self.old self.new.cache.sealed) self.new) × ((image : Image) → under image self.new.cache.sealed ≡ under (under image self.old.cache.sealed) self.old.cache.current)) }
@@ -117,6 +120,7 @@ impl<F: FileSys, D: Disk> Fields<F, D> {
     }
 
     /// Writes one checkpointed page back; needs no memory.
+    #[tactic(auto, using(crate::proofs::Kept::none_seen))]
     pub fn flush_one(&mut self) -> Flushed
         ensures flushes { Flushes D.told D.faults self.old.cache self.new.cache result }
         ensures rest { self.new ≡ with_room (flushing self.old self.new.cache.disk self.new.cache.sealed) self.new }

@@ -58,6 +58,7 @@ impl<F: FileSys, D: Disk> Fields<F, D> {
 impl<F: FileSys, D: Disk> Fields<F, D> {
     /// Nothing is kept of what was read, block 1 is read, and the log is folded. `Device` comes only where the disk's count
     /// of faults rose; on an error nothing has changed but the disk.
+    #[tactic(auto, using(crate::proofs::Kept::still_seen))]
     fn start_anew(&mut self, alloc: Global) -> Result<(), ReadFault>
         requires { length self.old.journal.oplog < 4294967296 }
         ensures ok { OnOk result (IsRemounted self.old self.new) }
@@ -126,6 +127,7 @@ impl<F: FileSys, D: Disk> Fields<F, D> {
 
 impl<F: FileSys, D: Disk> Fields<F, D> {
     /// Room for an operation that is done again. The only error is want of memory.
+    #[tactic(auto, using(crate::proofs::Kept::still_seen))]
     fn reserve_redo(&mut self, blocks: usize) -> Result<(), NoMemory>
         ensures same { self.new ≡ with_room self.old self.new }
         ensures pages { OnOk result (blocks ≤ self.new.cache.room.pages) }
@@ -142,6 +144,7 @@ impl<F: FileSys, D: Disk> Fields<F, D> {
         requires done { done < length self.old.journal.oplog }
         requires last { done < 4294967295 }
         requires pages { length changes.now ≤ self.old.cache.room.pages }
+        requires are { AreChanges changes.now }
         requires trail { 0 < self.old.journal.room.trail }
         ensures ok { OnOk result ((logged : Logged) → slice_get self.old.journal.oplog done ≡ Some logged → self.new ≡ with_room (redoing self.old logged changes.now done) self.new) }
         ensures err { OnErr result (self.new ≡ self.old) }

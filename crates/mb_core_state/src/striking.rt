@@ -86,6 +86,7 @@ impl<F: FileSys, D: Disk> Fields<F, D> {
     }
 
     /// The strokes of a fault are done to the current pages and to the counts of open files.
+    #[tactic(auto, using(crate::proofs::Kept::none_seen))]
     fn damage(&mut self, damage: &Damage)
         ensures { self.new ≡ record self.old { cache = record self.old.cache { current = (damaged_both self.old damage.now).pages }; tables = record self.old.tables { opens = (damaged_both self.old damage.now).opens } } }
     {
