@@ -15,6 +15,7 @@ pub mod Entered
 pub mod Inside
 pub mod Finishing
 pub mod Rolling
+pub mod Lengthening
 pub mod Going
 pub mod Everybody
 pub mod GivingUp

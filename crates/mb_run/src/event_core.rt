@@ -4,6 +4,7 @@ ghost use Rattle.mb_cache.specs.declared.answers.Flushed.TheVariants as flushed;
 ghost use Rattle.mb_edge.specs.Causes.{Rose};
 ghost use Rattle.mb_run.specs.declared.answers.Stepped.TheVariants as stepped;
 ghost use Rattle.mb_run.specs.Events.{Enters, FaultsWith, Finishes, FlushesWith, Gathers, IsAsked, IsCallOf, IsReadyAt, LeavesWith, Quits, sealed};
+ghost use Rattle.mb_run.specs.Lengths.{Stands};
 ghost use Rattle.mb_run.specs.Pages.{HasTablesFor, Performs, has};
 ghost use Rattle.mb_run.specs.Recovering.{GoOn, RunsFor, Steps};
 ghost use Rattle.mb_run.specs.Served.{MayEnter};
@@ -130,6 +131,7 @@ pub trait EventCore {
         ensures test { H.test hook.new ≡ H.test hook.old }
         ensures steps { Steps (H.test hook.old) by.old by.new (sight self.old) (sight self.new) result }
         ensures device { result ≡ stepped.Device → Rose (faults self.old) (faults self.new) }
+        ensures stands { result ≡ stepped.Device → Stands (sight self.old) (sight self.new) }
         ensures later { faults self.old ≤ faults self.new }
         ensures origin { origin self.new ≡ origin self.old }
         ensures right { IsOrderly (sight self.new) };

@@ -8,7 +8,8 @@
 //! One step of a caller is `step`. Of what its caller did so far, of its ticket, pages and fault points `IsServed`
 //! (`specs/Served.antt`) keeps the account, and `Acts` says what the steps of one caller leave to the others; with both
 //! every loop goes on and ends. Of a caller that acts alone, as in list order, `IsTallied` (`specs/Tallies.antt`) tells at
-//! which fault points its call was, and that the faults there have their records. `drive` runs a job, in list order or by
+//! which fault points its call was, and that the faults there have their records. How many steps a recovery takes is in
+//! `specs/Lengths.antt`: `recovers_soon` is the law, and `recover` makes such a row of steps. `drive` runs a job, in list order or by
 //! its order, and leaves `IsDriven` (`specs/Drives.antt`). `settle` ends a run and leaves `IsSettled`
 //! (`specs/Settling.antt`).
 //!
@@ -36,7 +37,7 @@ pub use event_core::EventCore;
 pub use examples::{
     worked_checkpoints, worked_entering, worked_faults, worked_moments, worked_orders,
 };
-pub use laws::planned_faults;
+pub use laws::{planned_faults, recovers_soon};
 pub use orders::run_order;
 pub use progress::{Next, Turn, Went};
 pub use runner::{At, Runner};

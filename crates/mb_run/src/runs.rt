@@ -2,6 +2,7 @@ ghost use Rattle.std.specs.Prelude.{◌≡◌, ◌<◌, Some, true, length, opti
 ghost use Rattle.std.specs.List.{AllByRecursion};
 ghost use Rattle.mb_edge.specs.declared.crossings.Crossings.{Crossings};
 ghost use Rattle.mb_run.specs.Indexes.{IsIndexOf};
+ghost use Rattle.mb_run.specs.Lengths.{GoesSince, WentForward};
 ghost use Rattle.mb_run.specs.Orders.{IsAnswered, IsWhole};
 ghost use Rattle.mb_run.specs.Recovering.{GoOn};
 ghost use Rattle.mb_run.specs.Runs.{HasTakenTested};
@@ -47,6 +48,7 @@ pub(crate) fn roll<C: EventCore, H: Hook>(
     requires waits { IsWaiting ((C.sight core.old).seats runner.old.crossings.caller) }
     requires recovered { recovers (C.sight core.old).stage ≡ true }
     ensures rolled { Rolled calls.now (H.test hook.old) (C.sight core.old) (C.sight core.new) runner.old runner.new result }
+    ensures forward { WentForward (C.sight core.old) (C.sight core.new) result }
     ensures tallied { Tallies (H.test hook.old) (C.sight core.old) (C.sight core.new) runner.old runner.new result }
     ensures test { H.test hook.new ≡ H.test hook.old }
     ensures origin { C.origin core.new ≡ C.origin core.old }
@@ -107,7 +109,8 @@ pub(crate) fn give_up<C: EventCore>(core: &mut C, runner: &Runner)
     }
 }
 
-/// A recovery, run by a call that waits.
+/// A recovery, run by a call that waits. Its steps since it began, or since the last fault that came, are steps forward, of
+/// which `recovers_soon` says how many there can be.
 pub fn recover<C: EventCore, H: Hook>(
     alloc: Global,
     core: &mut C,
@@ -121,6 +124,7 @@ pub fn recover<C: EventCore, H: Hook>(
     requires waits { IsWaiting ((C.sight core.old).seats runner.old.crossings.caller) }
     requires recovered { recovers (C.sight core.old).stage ≡ true }
     ensures recovers { Recovers calls.now (H.test hook.old) (C.sight core.old) (C.sight core.new) runner.old runner.new result }
+    ensures forward { GoesSince (C.sight core.old) (C.sight core.new) }
     ensures tallied { Tallies (H.test hook.old) (C.sight core.old) (C.sight core.new) runner.old runner.new result }
     ensures test { H.test hook.new ≡ H.test hook.old }
     ensures origin { C.origin core.new ≡ C.origin core.old }

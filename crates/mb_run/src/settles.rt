@@ -1,5 +1,7 @@
-ghost use Rattle.std.specs.Prelude.{◌≡◌, ◌≤◌, true, false};
+ghost use Rattle.std.specs.Prelude.{◌≡◌, ◌≤◌, ◌⊎◌, true, false};
+ghost use Rattle.mb_core_spec.specs.declared.stages.Stage.TheVariants as stage;
 ghost use Rattle.mb_edge.specs.Causes.{Rose};
+ghost use Rattle.mb_run.specs.Lengths.{CalmsForward, GoesForward};
 ghost use Rattle.mb_run.specs.Settling.{Calms, IsFlushed, IsSettled, Keeps};
 ghost use Rattle.mb_run.specs.Sights.{IsOrderly, recovers};
 ghost use Rattle.mb_run.specs.declared.settles.SettleEnd.TheVariants as end;
@@ -34,6 +36,7 @@ fn calm_step<C: EventCore>(alloc: Global, core: &mut C) -> Option<SettleEnd>
     requires right { IsOrderly (C.sight core.old) }
     ensures keeps { Keeps (C.sight core.old) (C.sight core.new) }
     ensures calms { Calms (C.sight core.old) (C.sight core.new) result }
+    ensures forward { CalmsForward (C.sight core.old) (C.sight core.new) result }
     ensures device { result ≡ Some end.Device → Rose (C.faults core.old) (C.faults core.new) }
     ensures later { C.faults core.old ≤ C.faults core.new }
     ensures origin { C.origin core.new ≡ C.origin core.old }
@@ -61,6 +64,7 @@ fn recover_calmly<C: EventCore>(alloc: Global, core: &mut C) -> SettleEnd
     requires right { IsOrderly (C.sight core.old) }
     ensures keeps { Keeps (C.sight core.old) (C.sight core.new) }
     ensures over { result ≡ end.Clean → recovers (C.sight core.new).stage ≡ false }
+    ensures forward { ((C.sight core.new).stage ≡ stage.Failed) ⊎ GoesForward (C.sight core.old) (C.sight core.new) }
     ensures device { result ≡ end.Device → Rose (C.faults core.old) (C.faults core.new) }
     ensures later { C.faults core.old ≤ C.faults core.new }
     ensures origin { C.origin core.new ≡ C.origin core.old }

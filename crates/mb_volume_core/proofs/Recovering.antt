@@ -41,11 +41,13 @@ use Rattle.mb_recover.specs.declared.steps.Stepped.{Stepped as Recovered}
 use Rattle.mb_recover.specs.declared.steps.Stepped.TheVariants as recovered
 use Rattle.mb_run.specs.CoreSight.{seat_of, sight_of}
 use Rattle.mb_run.specs.Events.{Answers}
+use Rattle.mb_run.specs.Lengths.{Stands}
 use Rattle.mb_run.specs.Recovering.{EndsByDevice, GoOn, GoesOn, IsAtNone, IsPassed, IsTaken, Rolls, RunsFor, Steps, Strikes, StrikesBy, Waits, awaits_remount}
 use Rattle.mb_run.specs.Served.{AreCounts, counted}
 use Rattle.mb_run.specs.Sights.{recovers, steps_left}
 use Rattle.mb_run.specs.declared.answers.Stepped.TheVariants as stepped
 use Rattle.mb_run.proofs.Counting.{counted_goes, counted_taken}
+use Rattle.mb_run.proofs.Lengthening.{stands_still}
 use Rattle.mb_volume_core.specs.Answers.{stepped_as}
 use Rattle.mb_volume_core.proofs.Answering.{answered, open_is}
 use Rattle.mb_volume_core.proofs.Gathering.{last_begun}
@@ -439,16 +441,61 @@ device_only told faults core new by test strokes is = elim is [
   ]
 ]
 
+-- the answer of a disk that failed comes from that answer alone
+is_device : (answer : Recovered) → stepped_as answer ≡ stepped.Device → answer ≡ recovered.Device
+is_device recovered.Device told_so = refl
+is_device recovered.Idle told_so = absurd (let wrong : stepped.Idle ≡ stepped.Device = told_so in cc)
+is_device (recovered.Unwound ticket) told_so = absurd (let wrong : stepped.Unwound ticket ≡ stepped.Device = told_so in cc)
+is_device (recovered.Failed count) told_so = absurd (let wrong : stepped.Failed count ≡ stepped.Device = told_so in cc)
+is_device recovered.Dropped told_so = absurd (let wrong : stepped.Dropped ≡ stepped.Device = told_so in cc)
+is_device recovered.Remounted told_so = absurd (let wrong : stepped.Remounted ≡ stepped.Device = told_so in cc)
+is_device recovered.Reopened told_so = absurd (let wrong : stepped.Reopened ≡ stepped.Device = told_so in cc)
+is_device (recovered.Replayed number) told_so = absurd (let wrong : stepped.Replayed number ≡ stepped.Device = told_so in cc)
+is_device recovered.Resumed told_so = absurd (let wrong : stepped.Resumed ≡ stepped.Device = told_so in cc)
+is_device (recovered.Again count) told_so = absurd (let wrong : stepped.Again count ≡ stepped.Device = told_so in cc)
+is_device recovered.NoMemory told_so = absurd (let wrong : stepped.NoMemory ≡ stepped.Device = told_so in cc)
+
 pub rose_at : {F D : Type 0} (told : D → Option Image) (faults : D → ℕ) (core new : CoreState F D) (by : Option Crossings) (test : Option (Crossing → Bool)) (strokes : List Stroke) (answer : Recovered) → Recovers told faults core new by test strokes answer
     → stepped_as answer ≡ stepped.Device → Rose (faults core.cache.disk) (faults new.cache.disk)
-rose_at told faults core new by test strokes recovered.Device is told_so = device_only told faults core new by test strokes is
-rose_at told faults core new by test strokes recovered.Idle is told_so = absurd (let wrong : stepped.Idle ≡ stepped.Device = told_so in cc)
-rose_at told faults core new by test strokes (recovered.Unwound ticket) is told_so = absurd (let wrong : stepped.Unwound ticket ≡ stepped.Device = told_so in cc)
-rose_at told faults core new by test strokes (recovered.Failed count) is told_so = absurd (let wrong : stepped.Failed count ≡ stepped.Device = told_so in cc)
-rose_at told faults core new by test strokes recovered.Dropped is told_so = absurd (let wrong : stepped.Dropped ≡ stepped.Device = told_so in cc)
-rose_at told faults core new by test strokes recovered.Remounted is told_so = absurd (let wrong : stepped.Remounted ≡ stepped.Device = told_so in cc)
-rose_at told faults core new by test strokes recovered.Reopened is told_so = absurd (let wrong : stepped.Reopened ≡ stepped.Device = told_so in cc)
-rose_at told faults core new by test strokes (recovered.Replayed number) is told_so = absurd (let wrong : stepped.Replayed number ≡ stepped.Device = told_so in cc)
-rose_at told faults core new by test strokes recovered.Resumed is told_so = absurd (let wrong : stepped.Resumed ≡ stepped.Device = told_so in cc)
-rose_at told faults core new by test strokes (recovered.Again count) is told_so = absurd (let wrong : stepped.Again count ≡ stepped.Device = told_so in cc)
-rose_at told faults core new by test strokes recovered.NoMemory is told_so = absurd (let wrong : stepped.NoMemory ≡ stepped.Device = told_so in cc)
+rose_at told faults core new by test strokes answer is told_so = device_only told faults core new by test strokes (subst (Recovers told faults core new by test strokes) (is_device answer told_so) is)
+
+-- ---- where the disk failed, the recovery stands where it stood
+
+fewer_inside : (few many ops : ℕ) (now : Stage) → few ≤ many → steps_left few ops now ≤ steps_left many ops now
+fewer_inside few many ops stage.Struck low = omega (arith, low)
+fewer_inside few many ops stage.Running low = omega arith
+fewer_inside few many ops stage.Again low = omega arith
+fewer_inside few many ops stage.Dropped low = omega arith
+fewer_inside few many ops stage.Remounted low = omega arith
+fewer_inside few many ops (stage.Restored done) low = omega arith
+fewer_inside few many ops stage.Failed low = omega arith
+
+module _ {F D : Type 0} (faults : D → ℕ) (core new : CoreState F D) where
+  ends_stands : (caller : ℕ) (mine : CallerState) (flight : Flight) → slice_get core.callers caller ≡ Some mine → EndsIf (with_disk core new.cache.disk) new caller mine (Some flight) → Stands (sight_of core) (sight_of new)
+  ends_stands caller mine flight here ends =
+      let ended : CallerState = taken_back (record mine { flight = None; inside = false; answer = None }) in
+      let less : insiders (slice_set core.callers caller ended) + one_if mine.inside ≡ insiders core.callers + 0 = insiders_set core.callers caller mine ended here in
+      let low = fewer_inside (insiders (slice_set core.callers caller ended)) (insiders core.callers) (length core.journal.oplog) core.stage (omega (arith, less)) in
+      record { nearer = subst (λ (c : CoreState F D). (sight_of c).left + (sight_of core).ops ≤ (sight_of core).left + (sight_of c).ops) (sym ends.0) (omega (arith, low)) }
+
+  fails_stands : (by : Option Crossings) → IfSome by (HasFor core) → FailsStep faults core new (caller_of by) read.Device → Stands (sight_of core) (sight_of new)
+  fails_stands None runs fails = stands_still (sight_of core) (sight_of new) (ap sight_of fails.1.0)
+  fails_stands (Some asks) runs fails =
+      let call = runs.of.0 in
+      ends_stands asks.caller call.mine call.flight call.here (subst (EndsIf (with_disk core new.cache.disk) new asks.caller call.mine) (open_is call.mine.flight call.flight call.flies runs.of.1) (fails.1 call.mine call.here))
+
+  device_stands : (told : D → Option Image) (by : Option Crossings) (test : Option (Crossing → Bool)) (strokes : List Stroke) → IfSome by (HasFor core) → Recovers told faults core new by test strokes recovered.Device → Stands (sight_of core) (sight_of new)
+  device_stands told by test strokes runs is = elim is [
+    | inl plainly ↦ absurd plainly
+    | inr others ↦ elim others [
+      | inl drops ↦ absurd drops
+      | inr more ↦ elim more [
+        | inl remounts ↦ fails_stands by runs remounts.1
+        | inr rest ↦ elim rest [ inl replays ↦ fails_stands by runs replays.1 | inr met ↦ absurd met.struck ]
+      ]
+    ]
+  ]
+
+  pub stands_at : (told : D → Option Image) (by : Option Crossings) (test : Option (Crossing → Bool)) (strokes : List Stroke) (answer : Recovered) → IfSome by (HasFor core) → Recovers told faults core new by test strokes answer → stepped_as answer ≡ stepped.Device
+      → Stands (sight_of core) (sight_of new)
+  stands_at told by test strokes answer runs is told_so = device_stands told by test strokes runs (subst (Recovers told faults core new by test strokes) (is_device answer told_so) is)

@@ -1,5 +1,7 @@
 use Rattle.mb_run.specs.declared.answers.Stepped.TheVariants as stepped
+use Rattle.std.proofs.Common.{inl, inr, refl}
 use Rattle.mb_run.proofs.Inside.{room}
+use Rattle.mb_run.proofs.Lengthening.{no_step, one_step, stands_still}
 use Rattle.mb_run.proofs.Rolling.{kept_roll, device_rolls, rolled_nothing, runs_for}
 use Rattle.mb_run.proofs.TallyRolls.{tallied_device, tallied_roll}
 use Rattle.mb_run.proofs.runs.roll.Goals as goal
@@ -69,3 +71,33 @@ returns-in-Device-clause-tallied g c = rw c.advance.ensures (tallied_device _ _ 
 
 pub returns-in-NoMemory-clause-tallied : goal.returns-in-NoMemory-clause-tallied
 returns-in-NoMemory-clause-tallied g c = λ tally. tt
+
+pub returns-in-Unwound-clause-forward : goal.returns-in-Unwound-clause-forward
+returns-in-Unwound-clause-forward g c = inl (one_step _ _ c.in-Unwound.ensures.steps.1)
+
+pub returns-in-Dropped-clause-forward : goal.returns-in-Dropped-clause-forward
+returns-in-Dropped-clause-forward g c = inl (one_step _ _ c.in-Dropped.ensures.steps.1)
+
+pub returns-in-Remounted-clause-forward : goal.returns-in-Remounted-clause-forward
+returns-in-Remounted-clause-forward g c = inl (one_step _ _ c.in-Remounted.ensures.steps.2)
+
+pub returns-in-Reopened-clause-forward : goal.returns-in-Reopened-clause-forward
+returns-in-Reopened-clause-forward g c = inl (one_step _ _ c.in-Reopened.ensures.steps.1)
+
+pub returns-in-Replayed-clause-forward : goal.returns-in-Replayed-clause-forward
+returns-in-Replayed-clause-forward g c = inl (one_step _ _ c.in-Replayed.ensures.steps.1)
+
+pub returns-in-Again-clause-forward : goal.returns-in-Again-clause-forward
+returns-in-Again-clause-forward g c = inr c.in-Again.ensures.steps.0
+
+pub returns-in-Resumed-clause-forward : goal.returns-in-Resumed-clause-forward
+returns-in-Resumed-clause-forward g c = inr (one_step _ _ c.in-Resumed.ensures.steps.2)
+
+pub returns-in-Failed-clause-forward : goal.returns-in-Failed-clause-forward
+returns-in-Failed-clause-forward g c = inl c.in-Failed.ensures.steps.0
+
+pub returns-in-Device-clause-forward : goal.returns-in-Device-clause-forward
+returns-in-Device-clause-forward g c = inr (no_step _ _ (c.in-Device.ensures.stands refl))
+
+pub returns-in-NoMemory-clause-forward : goal.returns-in-NoMemory-clause-forward
+returns-in-NoMemory-clause-forward g c = inr (no_step _ _ (stands_still _ _ c.in-NoMemory.ensures.steps))

@@ -1,7 +1,8 @@
-use Rattle.std.proofs.Common.{Some}
+use Rattle.std.proofs.Common.{Some, inl, inr, refl}
 use Rattle.mb_edge.specs.Hooks.{nowhere}
 use Rattle.mb_run.specs.declared.answers.Stepped.TheVariants as stepped
 use Rattle.mb_run.proofs.Ending.{alone_keeps}
+use Rattle.mb_run.proofs.Lengthening.{no_step, one_step, stands_still}
 use Rattle.mb_run.proofs.settles.calm_step.Goals as goal
 
 pub returns-in-Idle-clause-keeps : goal.returns-in-Idle-clause-keeps
@@ -33,3 +34,33 @@ returns-in-Reopened-clause-keeps g c = alone_keeps (Some nowhere) _ _ _ stepped.
 
 pub returns-in-Replayed-clause-keeps : goal.returns-in-Replayed-clause-keeps
 returns-in-Replayed-clause-keeps g c = alone_keeps (Some nowhere) _ _ _ (stepped.Replayed c.in-Replayed.field-0) c.recover_step.ensures.on c.in-Replayed.ensures.steps
+
+pub returns-in-Unwound-clause-forward : goal.returns-in-Unwound-clause-forward
+returns-in-Unwound-clause-forward g c = one_step _ _ c.in-Unwound.ensures.steps.1
+
+pub returns-in-Dropped-clause-forward : goal.returns-in-Dropped-clause-forward
+returns-in-Dropped-clause-forward g c = one_step _ _ c.in-Dropped.ensures.steps.1
+
+pub returns-in-Remounted-clause-forward : goal.returns-in-Remounted-clause-forward
+returns-in-Remounted-clause-forward g c = one_step _ _ c.in-Remounted.ensures.steps.2
+
+pub returns-in-Reopened-clause-forward : goal.returns-in-Reopened-clause-forward
+returns-in-Reopened-clause-forward g c = one_step _ _ c.in-Reopened.ensures.steps.1
+
+pub returns-in-Replayed-clause-forward : goal.returns-in-Replayed-clause-forward
+returns-in-Replayed-clause-forward g c = one_step _ _ c.in-Replayed.ensures.steps.1
+
+pub returns-in-Idle-clause-forward : goal.returns-in-Idle-clause-forward
+returns-in-Idle-clause-forward g c = inr (no_step _ _ (stands_still _ _ c.in-Idle.ensures.steps.1))
+
+pub returns-in-Failed-clause-forward : goal.returns-in-Failed-clause-forward
+returns-in-Failed-clause-forward g c = inl c.in-Failed.ensures.steps.0
+
+pub returns-in-Resumed-clause-forward : goal.returns-in-Resumed-clause-forward
+returns-in-Resumed-clause-forward g c = inr (one_step _ _ c.in-Resumed.ensures.steps.2)
+
+pub returns-in-Device-clause-forward : goal.returns-in-Device-clause-forward
+returns-in-Device-clause-forward g c = inr (no_step _ _ (c.in-Device.ensures.stands refl))
+
+pub returns-in-NoMemory-clause-forward : goal.returns-in-NoMemory-clause-forward
+returns-in-NoMemory-clause-forward g c = inr (no_step _ _ (stands_still _ _ c.in-NoMemory.ensures.steps))

@@ -6,7 +6,7 @@ use Rattle.mb_run.specs.declared.answers.Stepped.{Stepped}
 use Rattle.mb_run.specs.declared.answers.Stepped.TheVariants as stepped
 use Rattle.mb_run.proofs.InTime.{if_some_at, steps_time}
 use Rattle.mb_volume_core.proofs.Orderly.{orderly}
-use Rattle.mb_volume_core.proofs.Recovering.{comes, goes_on, has_for, rose_at}
+use Rattle.mb_volume_core.proofs.Recovering.{comes, goes_on, has_for, rose_at, stands_at}
 use Rattle.mb_volume_core.proofs.volume_core.VolumeCoreEventCore.recover_step.Goals as goal
 
 pub recover_step-stepped-requires : goal.recover_step-stepped-requires
@@ -29,6 +29,10 @@ returns-clause-origin g c =
 pub returns-clause-device : goal.returns-clause-device
 returns-clause-device g c = λ is. rose_at g.D.Disk.told g.D.Disk.faults c.args.self.now.core c.recover_step-stepped.new.core c.args.by.now (g.H.Hook.test c.args.hook.now) (g.H.Hook.strokes c.recover_step-stepped.new.hook) c.recover_step-stepped.result
     c.recover_step-stepped.ensures.recovers (sym c.stepped_as.ensures ∙ is)
+
+pub returns-clause-stands : goal.returns-clause-stands
+returns-clause-stands g c = λ is. stands_at g.D.Disk.faults c.args.self.now.core c.recover_step-stepped.new.core g.D.Disk.told c.args.by.now (g.H.Hook.test c.args.hook.now) (g.H.Hook.strokes c.recover_step-stepped.new.hook) c.recover_step-stepped.result
+    (has_for c.args.self.now.core c.args.by.now c.requires.by) c.recover_step-stepped.ensures.recovers (sym c.stepped_as.ensures ∙ is)
 
 pub returns-clause-right : goal.returns-clause-right
 returns-clause-right g c =
