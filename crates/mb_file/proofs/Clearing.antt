@@ -1,5 +1,5 @@
 -- A regular file's inode written as an empty file's, and its blocks put back.
-use Rattle.std.proofs.Common.{ℕ, zero, suc, ◌≡◌, ◌≢◌, inl, inr, ◌+◌, ◌*◌, ◌-◌, ◌<◌, Bool, true, List, [], length, Option, slice_index, replicate, set, get_or, get_or-set_same, get_or-set_other, refl, sym, ap, subst, ◌∙◌, arith}
+use Rattle.std.proofs.Common.{ℕ, zero, suc, ◌≡◌, ◌≢◌, ◌⊎◌, inl, inr, ◌+◌, ◌*◌, ◌-◌, ◌<◌, Bool, true, List, [], length, Option, slice_index, replicate, set, get_or, get_or-set_same, get_or-set_other, refl, sym, ap, subst, ◌∙◌, arith}
 use Rattle.std.specs.List.{Contains}
 use Rattle.std.proofs.lemmas.List.{length-replicate}
 use Rattle.mb_kinds.specs.Image.{Image}
@@ -142,22 +142,30 @@ module _ (shown : ℕ → Option (List ℕ)) (old new : ChangeList) (ino moment 
   )
 
   module _ (d : Dinode) (reads : (blocks : ℕ → List ℕ) → IsPart shown blocks → d ≡ dinode_at (over blocks (changed old) (inode_block ino)) (inode_place ino)) where
-    pub asked_walking : (need : Need) → IsNeed shown need → ((blocks : ℕ → List ℕ) → IsPart shown blocks → Contains (under_dinode (pointers (over blocks (changed old))) d) need.first) → Clears shown old new ino moment (hung.Need need)
-    asked_walking need is among = (
+    pub asked_listing : (need : Need) → IsNeed shown need
+        → ((blocks : ℕ → List ℕ) → IsPart shown blocks → IsListable [] (under_dinode (pointers (over blocks (changed old))) d) → (need.first ≡ 1) ⊎ Contains (under_dinode (pointers (over blocks (changed old))) d) need.first)
+        → Clears shown old new ino moment (hung.Need need)
+    asked_listing need is among = (
       is,
-      λ image tree chain part stored looks node file. file_near (with_changes image old) tree chain stored looks ino node file d (reads image.at part) need.first (among image.at part),
+      λ image tree chain part stored looks node file.
+          (let base = with_changes image old in
+          let read = reads image.at part in
+          elim (among image.at part (file_listable base tree chain stored looks ino node file d read)) [
+            | inl first ↦ super_block first
+            | inr its ↦ file_near base tree chain stored looks ino node file d read need.first its
+          ]),
     )
 
-    module _ (mid : ChangeList) (found list : List ℕ) (order : IsPermutation found list) (within : IsWithinView shown old → IsWithinView shown mid)
+    module _ (mid : ChangeList) (list : List ℕ) (within : IsWithinView shown old → IsWithinView shown mid)
         (written : (blocks : ℕ → List ℕ) → IsPart shown blocks → IsDinodeWritten (over blocks (changed old)) (over blocks (changed mid)) ino (emptied_inode d moment))
-        (lists : (blocks : ℕ → List ℕ) → IsPart shown blocks → IsListable [] (under_dinode (pointers (over blocks (changed old))) d) → found ≡ under_dinode (pointers (over blocks (changed old))) d) where
+        (lists : (blocks : ℕ → List ℕ) → IsPart shown blocks → IsListable [] (under_dinode (pointers (over blocks (changed old))) d) → IsPermutation (under_dinode (pointers (over blocks (changed old))) d) list) where
       pub clears_by : (result : Hung) → PutsAllBack shown mid new list result → Clears shown old new ino moment result
       clears_by hung.Done puts = (
         λ w. puts.0 (within w),
         λ image tree chain part stored looks node file.
             (let base = with_changes image old in
             let read = reads image.at part in
-            let is : IsPermutation (under_dinode (pointers base.at) d) list = subst (λ (xs : List ℕ). IsPermutation xs list) (lists image.at part (file_listable base tree chain stored looks ino node file d read)) order in
+            let is : IsPermutation (under_dinode (pointers base.at) d) list = lists image.at part (file_listable base tree chain stored looks ino node file d read) in
             let hand = cleared_in_hand base tree chain stored looks ino node file d read moment list is (over image.at (changed mid)) (written image.at part) in
             let put = puts.1 image.at (without (has_addresses tree) ino) chain part hand in
             (_, cleared_whole base tree chain stored looks ino node file d read moment list is (over image.at (changed mid)) (written image.at part) (over image.at (changed new)) put)),
@@ -167,7 +175,7 @@ module _ (shown : ℕ → Option (List ℕ)) (old new : ChangeList) (ino moment 
         λ image tree chain part stored looks node file.
             (let base = with_changes image old in
             let read = reads image.at part in
-            let is : IsPermutation (under_dinode (pointers base.at) d) list = subst (λ (xs : List ℕ). IsPermutation xs list) (lists image.at part (file_listable base tree chain stored looks ino node file d read)) order in
+            let is : IsPermutation (under_dinode (pointers base.at) d) list = lists image.at part (file_listable base tree chain stored looks ino node file d read) in
             elim puts.1 [
               | inl first ↦ super_block first
               | inr among ↦ file_near base tree chain stored looks ino node file d read need.first (Contains-permutation list (under_dinode (pointers base.at) d) need.first (IsPermutation-sym (under_dinode (pointers base.at) d) list is) among)

@@ -47,22 +47,29 @@ module _ (shown : ℕ → Option (List ℕ)) (old new : ChangeList) (ino : ℕ) 
       near image tree chain stored looks number (inr own) = subst (IsNearTo (with_changes image old) tree looks) (sym own) (inode_near (with_changes image old) tree chain stored looks ino number.0 number.1)
 
   module _ (d : Dinode) (reads : (blocks : ℕ → List ℕ) → IsPart shown blocks → d ≡ dinode_at (over blocks (changed old) (inode_block ino)) (inode_place ino)) where
-    pub asked_held : (need : Need) → IsNeed shown need → ((blocks : ℕ → List ℕ) → IsPart shown blocks → Contains (held_blocks (pointers (over blocks (changed old))) d) need.first) → Erases shown old new ino (hung.Need need)
+    pub asked_held : (need : Need) → IsNeed shown need
+        → ((blocks : ℕ → List ℕ) → IsPart shown blocks → IsListable [] (held_blocks (pointers (over blocks (changed old))) d) → (need.first ≡ 1) ⊎ Contains (held_blocks (pointers (over blocks (changed old))) d) need.first)
+        → Erases shown old new ino (hung.Need need)
     asked_held need is among = (
       is,
       λ image tree chain part stored looks node erasable.
-          held_is_near (with_changes image old) tree chain stored ino node erasable.has erasable.kind d (reads image.at part) looks erasable.looked need.first (among image.at part),
+          (let base = with_changes image old in
+          let read = reads image.at part in
+          elim (among image.at part (held_listable base tree chain stored ino node erasable.has erasable.kind d read)) [
+            | inl first ↦ super_block first
+            | inr its ↦ held_is_near base tree chain stored ino node erasable.has erasable.kind d read looks erasable.looked need.first its
+          ]),
     )
 
-    module _ (mid : ChangeList) (found list : List ℕ) (order : IsPermutation found list) (frees : FreesInode shown old mid ino hung.Done)
-        (holds : (blocks : ℕ → List ℕ) → IsPart shown blocks → IsListable [] (held_blocks (pointers (over blocks (changed old))) d) → found ≡ held_blocks (pointers (over blocks (changed old))) d) where
+    module _ (mid : ChangeList) (list : List ℕ) (frees : FreesInode shown old mid ino hung.Done)
+        (holds : (blocks : ℕ → List ℕ) → IsPart shown blocks → IsListable [] (held_blocks (pointers (over blocks (changed old))) d) → IsPermutation (held_blocks (pointers (over blocks (changed old))) d) list) where
       pub erases_by : (result : Hung) → PutsAllBack shown mid new list result → Erases shown old new ino result
       erases_by hung.Done puts = (
         λ w. puts.0 (frees.0 w),
         λ image tree chain part stored looks node erasable.
             (let base = with_changes image old in
             let number = its_number base tree chain stored ino node erasable.has in
-            let is : IsPermutation (held_blocks (pointers base.at) d) list = subst (λ (xs : List ℕ). IsPermutation xs list) (holds image.at part (held_listable base tree chain stored ino node erasable.has erasable.kind d (reads image.at part))) order in
+            let is : IsPermutation (held_blocks (pointers base.at) d) list = holds image.at part (held_listable base tree chain stored ino node erasable.has erasable.kind d (reads image.at part)) in
             let lets : LetsGo base.at ino node.body list = lets_reordered base.at ino node.body (held_blocks (pointers base.at) d) list is (held_lets base tree chain stored ino node erasable.has erasable.kind d (reads image.at part)) in
             let freed = frees.1 image.at part (stored_rules base tree chain stored) (omega (arith, number.0)) in
             let hand = blocks_in_hand base tree chain stored ino node erasable.has list lets freed.0 (over image.at (changed mid)) freed.1 freed.2 in
@@ -73,7 +80,7 @@ module _ (shown : ℕ → Option (List ℕ)) (old new : ChangeList) (ino : ℕ) 
         puts.0,
         λ image tree chain part stored looks node erasable.
             (let base = with_changes image old in
-            let is : IsPermutation (held_blocks (pointers base.at) d) list = subst (λ (xs : List ℕ). IsPermutation xs list) (holds image.at part (held_listable base tree chain stored ino node erasable.has erasable.kind d (reads image.at part))) order in
+            let is : IsPermutation (held_blocks (pointers base.at) d) list = holds image.at part (held_listable base tree chain stored ino node erasable.has erasable.kind d (reads image.at part)) in
             elim puts.1 [
               | inl first ↦ super_block first
               | inr among ↦ held_is_near base tree chain stored ino node erasable.has erasable.kind d (reads image.at part) looks erasable.looked need.first (Contains-permutation list (held_blocks (pointers base.at) d) need.first (IsPermutation-sym (held_blocks (pointers base.at) d) list is) among)

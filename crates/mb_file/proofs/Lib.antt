@@ -5,6 +5,7 @@ pub mod ErasedInodes
 pub mod ErasingSteps
 pub mod Finding
 pub mod FreeLooking
+pub mod Hanging
 pub mod Holding
 pub mod InHand
 pub mod Listing

@@ -1,8 +1,11 @@
 -- The blocks under an address listed one index block after another.
-use Rattle.std.proofs.Common.{ℕ, zero, suc, ◌≡◌, ◌⊎◌, inl, inr, ◌+◌, ◌-◌, ◌<◌, ◌≤◌, true, false, cond, nat_lt, Option, List, [], ◌∷◌, ◌++◌, length, length-append, append_assoc, append-nil, refl, sym, ap, subst, ◌∙◌, arith}
+use Rattle.std.proofs.Common.{ℕ, zero, suc, ◌≡◌, ◌⊎◌, inl, inr, ◌+◌, ◌-◌, ◌<◌, ◌≤◌, true, false, cond, nat_lt, Option, Result, Ok, Err, List, [], ◌∷◌, ◌++◌, length, take, set, length-append, append_assoc, append-nil, refl, sym, ap, subst, ◌∙◌, arith}
+use Rattle.std.specs.Prelude.{if◌then◌else◌, OnOk, is_ok}
 use Rattle.std.specs.List.{Contains}
+use Rattle.std.specs.declared.alloc.AllocError.{AllocError}
 use Rattle.std.proofs.lemmas.Bool.{cases_eq}
 use Rattle.std.proofs.lemmas.Bool.Decides.{nat_tests}
+use Rattle.std.proofs.lemmas.List.{take_more_set, length-take-le}
 use Rattle.std.proofs.lemmas.List.Elements.{Contains-append_left, Contains-append_right}
 use Rattle.mb_word.specs.Fields.{index_entry}
 use Rattle.mb_layout.specs.Inode.{address_in}
@@ -13,7 +16,7 @@ use Rattle.mb_tree.specs.Views.{over, IsPart}
 use Rattle.mb_blocks.specs.Walk.{under_block, under_each}
 use Rattle.mb_blocks.proofs.PartBytes.{entry_is}
 use Rattle.mb_iface.specs.Changed.{ChangeList, changed}
-use Rattle.mb_file.specs.Walking.{IsListable, PushesOne, PushesUnder, under_address, under_dinode}
+use Rattle.mb_file.specs.Walking.{IsListable, PushesParts, PushesUnder, parts_in, under_address, under_dinode}
 use Rattle.mb_file.specs.declared.walks.Walked.TheVariants as walked
 
 under_some : (ps : Pointers) (levels address : ℕ) → 0 < address → under_address ps levels address ≡ under_block ps levels address
@@ -98,6 +101,12 @@ pub all_listed : (one : ℕ → ℕ → List ℕ) (address : ℕ → ℕ) (befor
 all_listed one address before now whole left none listed =
     listed.was ∙ ap (λ xs. before ++ xs) (sym (append-nil listed.done) ∙ ap (λ xs. listed.done ++ xs) (sym (no_more one address)) ∙ ap (λ n. listed.done ++ under_each one address n) (sym none) ∙ listed.rest)
 
+listable_behind : (before : List ℕ) (block : ℕ) (more : List ℕ) → IsListable before (block ∷ more) → IsListable (before ++ block ∷ []) more
+listable_behind before block more listable = record {
+  small = λ other among. listable.small other (suc among.0, (let low = among.1 in omega (arith, low)), among.2);
+  few = (let few = listable.few in let n = length-append before (block ∷ []) in omega (arith, few, n));
+}
+
 -- ---- the addresses of an index block
 
 pub record HasPushed (shown : ℕ → Option (List ℕ)) (changes : ChangeList) (block lower : ℕ) (before now : List ℕ) (left : ℕ) : Type 0 where
@@ -127,6 +136,20 @@ module _ (shown : ℕ → Option (List ℕ)) (changes : ChangeList) (address : �
     }
 
     -- what an index block's address leads to stands under the block
+    parts_are : (blocks : ℕ → List ℕ) → IsPart shown blocks → under_each (λ place. under_block (pointers (over blocks (changed changes))) 0) ((pointers (over blocks (changed changes))).entry address) 128 ≡ parts_in index
+    unfolding under_block
+    parts_are blocks part = each_alike (λ place block. block ∷ []) ((pointers (over blocks (changed changes))).entry address) (index_entry index) 128 (λ k low. child_is blocks part k (index_entry index k) refl)
+
+    -- the last level of index blocks
+    pub pushed_parts : (levels : ℕ) (before now after : List ℕ) → levels ≡ 1 → now ≡ before ++ address ∷ [] → PushesParts index now after → PushesUnder shown changes address levels before after walked.Done
+    unfolding under_block
+    pushed_parts levels before now after last is pushes blocks part listable =
+        let ps = pointers (over blocks (changed changes)) in
+        let same : under_address ps levels address ≡ address ∷ parts_in index =
+        under_some ps levels address some ∙ ap (λ n. under_block ps n address) last ∙ ap (λ xs. address ∷ xs) (parts_are blocks part) in
+        let fits = listable_behind before address (parts_in index) (subst (IsListable before) same listable) in
+        pushes (subst (λ (xs : List ℕ). IsListable xs (parts_in index)) (sym is) fits) ∙ ap (λ xs. xs ++ parts_in index) is ∙ append_assoc before (address ∷ []) (parts_in index) ∙ ap (λ xs. before ++ xs) (sym same)
+
     pub asked_under : (lower next child block : ℕ) → next < 128 → child ≡ index_entry index next
         → ((blocks : ℕ → List ℕ) → IsPart shown blocks → Contains (under_address (pointers (over blocks (changed changes))) lower child) block)
         → (blocks : ℕ → List ℕ) → IsPart shown blocks → Contains (under_address (pointers (over blocks (changed changes))) (suc lower) address) block
@@ -154,24 +177,68 @@ module _ (shown : ℕ → Option (List ℕ)) (changes : ChangeList) (address : �
   pushed_alone levels before now none is blocks part listable =
       is ∙ ap (λ xs. before ++ xs) (sym (under_some (pointers (over blocks (changed changes))) levels address some ∙ ap (λ n. under_block (pointers (over blocks (changed changes))) n address) none))
 
--- the last level's block stands alone
-pub pushed_one : (shown : ℕ → Option (List ℕ)) (changes : ChangeList) (lower address : ℕ) (before now : List ℕ) → lower ≡ 0 → PushesOne address before now → PushesUnder shown changes address lower before now walked.Done
-unfolding under_block
-pushed_one shown changes zero address before now none one = λ blocks _ listable. one listable
-pushed_one shown changes (suc lower) address before now none one = absurd (omega (arith, none))
+-- ---- the parts of one index block
 
-alone_is : (address : ℕ) → 0 < address → cond (nat_lt 0 address) (address ∷ []) [] ≡ address ∷ []
-alone_is address some = (let t : nat_lt 0 address ≡ true = grind (arith, nat_tests) in ap (λ b. cond b (address ∷ []) []) t)
+pub record HasParts (index before parts : List ℕ) (count left : ℕ) : Type 0 where
+  pub listed : IsListable before (parts_in index) → HasListed (λ place part. part ∷ []) (index_entry index) before (before ++ take count parts) (parts_in index) left
 
-pub pushed_itself : (address : ℕ) (before now : List ℕ) → 0 < address → now ≡ before ++ address ∷ [] → PushesOne address before now
-pushed_itself address before now some is listable = is ∙ ap (λ xs. before ++ xs) (sym (alone_is address some))
+alone_is : (part : ℕ) → 0 < part → cond (nat_lt 0 part) (part ∷ []) [] ≡ part ∷ []
+alone_is part some = (let t : nat_lt 0 part ≡ true = grind (arith, nat_tests) in ap (λ b. cond b (part ∷ []) []) t)
 
-pub pushed_nothing : (address : ℕ) (before : List ℕ) → address ≡ 0 → PushesOne address before before
-pushed_nothing address before none listable = (let t : nat_lt 0 address ≡ false = grind (arith, nat_tests) in sym (append-nil before) ∙ ap (λ xs. before ++ xs) (sym (ap (λ b. cond b (address ∷ []) []) t)))
+none_is : (part : ℕ) → part ≡ 0 → cond (nat_lt 0 part) (part ∷ []) [] ≡ []
+none_is part none = (let t : nat_lt 0 part ≡ false = grind (arith, nat_tests) in ap (λ b. cond b (part ∷ []) []) t)
 
-pub pushed_never : (address : ℕ) (before now : List ℕ) → 0 < address → (262144 ≤ address) ⊎ (262144 ≤ length before) → PushesOne address before now
-pushed_never address before now some (inl great) listable = absurd (let small = listable.small address (subst (λ (xs : List ℕ). Contains xs address) (sym (alone_is address some)) (0, omega arith, refl)) in omega (arith, great, small))
-pushed_never address before now some (inr many) listable = absurd (let few = listable.few in let n : length (cond (nat_lt 0 address) (address ∷ []) []) ≡ 1 = ap length (alone_is address some) in omega (arith, many, few, n))
+module _ (index before : List ℕ) where
+  pub parts_first : (parts : List ℕ) → HasParts index before parts 0 128
+  parts_first parts = record { listed = λ listable. record { done = []; was = refl; rest = refl } }
+
+  module _ (parts : List ℕ) (count left next part : ℕ) (step : left ≡ suc next) (reads : part ≡ index_entry index next) (was : HasParts index before parts count left) where
+    pub parts_more : (after : List ℕ) → 0 < part → count < length parts → after ≡ set parts count part → HasParts index before after (count + 1) next
+    parts_more after some room wrote = record {
+      listed = λ listable.
+          (let listed = was.listed listable in
+          let one : cond (nat_lt 0 (index_entry index next)) (index_entry index next ∷ []) [] ≡ part ∷ [] = ap (λ x. cond (nat_lt 0 x) (x ∷ []) []) (sym reads) ∙ alone_is part some in
+          part_listed (λ place part. part ∷ []) (index_entry index) before (before ++ take count parts) (parts_in index) left next step listed (before ++ take (count + 1) after)
+          (ap (λ xs. before ++ take (count + 1) xs) wrote ∙ ap (λ xs. before ++ xs) (take_more_set parts count part room) ∙ sym (append_assoc before (take count parts) (part ∷ []))
+          ∙ ap (λ xs. (before ++ take count parts) ++ xs) (sym one)));
+    }
+
+    -- no part, or one that no volume has
+    pub parts_passed : (part ≡ 0) ⊎ (262144 ≤ part) → HasParts index before parts count next
+    parts_passed (inl none) = record {
+      listed = λ listable.
+          (let listed = was.listed listable in
+          let nothing : cond (nat_lt 0 (index_entry index next)) (index_entry index next ∷ []) [] ≡ [] = ap (λ x. cond (nat_lt 0 x) (x ∷ []) []) (sym reads) ∙ none_is part none in
+          part_listed (λ place part. part ∷ []) (index_entry index) before (before ++ take count parts) (parts_in index) left next step listed (before ++ take count parts)
+          (sym (append-nil (before ++ take count parts)) ∙ ap (λ xs. (before ++ take count parts) ++ xs) (sym nothing)));
+    }
+    parts_passed (inr great) = record {
+      listed = λ listable.
+          (let listed = was.listed listable in
+          let one : cond (nat_lt 0 (index_entry index next)) (index_entry index next ∷ []) [] ≡ part ∷ [] = ap (λ x. cond (nat_lt 0 x) (x ∷ []) []) (sym reads) ∙ alone_is part (omega (arith, great)) in
+          let fits = part_listable (λ place part. part ∷ []) (index_entry index) before (before ++ take count parts) (parts_in index) left next step listed listable in
+          let small = fits.small part (subst (λ (xs : List ℕ). Contains xs part) (sym one) (0, omega arith, refl)) in
+          absurd (omega (arith, great, small)));
+    }
+
+  parts_all : (parts after : List ℕ) (count left : ℕ) → left ≡ 0 → after ≡ before ++ take count parts → HasParts index before parts count left → PushesParts index before after
+  parts_all parts after count left none is was listable = is ∙ all_listed (λ place part. part ∷ []) (index_entry index) before (before ++ take count parts) (parts_in index) left none (was.listed listable)
+
+  -- as far as there was memory
+  pub parts_pushed : (parts after : List ℕ) (count left : ℕ) → left ≡ 0 → HasParts index before parts count left → (result : Result (Unit {0}) AllocError)
+      → after ≡ if is_ok result then before ++ take count parts else before → OnOk result (PushesParts index before after)
+  parts_pushed parts after count left none was (Ok x) is = parts_all parts after count left none is was
+  parts_pushed parts after count left none was (Err e) is = tt
+
+  -- more than a volume has behind those that are listed
+  pub parts_many : (parts after : List ℕ) (count left : ℕ) → left ≡ 0 → count ≤ length parts → 262144 < length before + count → HasParts index before parts count left → PushesParts index before after
+  parts_many parts after count left none within many was listable = absurd (
+      let e = ap length (all_listed (λ place part. part ∷ []) (index_entry index) before (before ++ take count parts) (parts_in index) left none (was.listed listable)) in
+      let a = length-append before (take count parts) in
+      let b = length-append before (parts_in index) in
+      let t : length (take count parts) ≡ count = length-take-le count parts within in
+      let few = listable.few in
+      omega (arith, e, a, b, t, few, many))
 
 -- ---- the addresses of an inode
 

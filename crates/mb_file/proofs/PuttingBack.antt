@@ -1,7 +1,9 @@
 -- Blocks put back on the free chain one after another.
-use Rattle.std.proofs.Common.{ℕ, suc, ◌≡◌, ◌+◌, ◌<◌, Bool, Option, List, [], ◌∷◌, ◌++◌, length, take, drop, get_or, refl, sym, ap, subst, ◌∙◌, arith, drop-cons, take-suc}
+use Rattle.std.proofs.Common.{ℕ, suc, ◌≡◌, inl, inr, ◌+◌, ◌<◌, ◌≤◌, Bool, cond, nat_eq, Option, Some, IsSome, List, [], ◌∷◌, ◌++◌, length, take, drop, get_or, refl, sym, ap, subst, ◌∙◌, arith, drop-cons, take-suc}
+use Rattle.std.proofs.lemmas.Bool.{cases_eq}
 use Rattle.std.proofs.lemmas.List.Elements.{All-head}
-use Rattle.mb_word.specs.Fields.{ninode_of}
+use mathlib.Core.Path.{fun_ext}
+use Rattle.mb_word.specs.Fields.{nfree_of, ninode_of}
 use Rattle.mb_word.proofs.Values.{word_at-same}
 use Rattle.mb_tree.specs.Views.{over, IsPart}
 use Rattle.mb_tree.specs.Volume.{IsOpenToFiles}
@@ -10,9 +12,13 @@ use Rattle.mb_blocks.specs.Rules.{KeepsRules}
 use Rattle.mb_blocks.proofs.Freeing.{laid_freed}
 use Rattle.mb_blocks.proofs.Keeping.{sizes_same}
 use Rattle.mb_blocks.proofs.LaidRules.{laid_rules}
-use Rattle.mb_iface.specs.Changed.{ChangeList, changed, IsWithinView}
-use Rattle.mb_file.specs.Freeing.{AreInHand, PutsBack, PutsAllBack}
+use Rattle.mb_iface.specs.Changed.{ChangeList, changed, put_block, shown_over, IsWithinView}
+use Rattle.mb_iface.proofs.ChangedBlocks.{put_block_same, put_block_other}
+use Rattle.mb_iface.proofs.WithinViews.{found_within}
 use Rattle.mb_alloc.specs.declared.frees.Hung.TheVariants as hung
+use Rattle.mb_alloc.proofs.Takings.{too_many}
+use Rattle.mb_alloc.proofs.Within.{in_view}
+use Rattle.mb_file.specs.Freeing.{AreInHand, Hangs, MovesList, PutsBack, PutsAllBack}
 
 -- one block more put back behind others
 freed_more : (old mid new : ℕ → List ℕ) (xs : List ℕ) (block : ℕ) → AreFreed old mid xs → IsFreed mid new block → AreFreed old new (xs ++ block ∷ [])
@@ -46,6 +52,59 @@ hand_freed has old new block hand chain are freed =
       cached = omega (arith, c, n);
     }
 
+-- ---- block 1 apart
+
+put_itself : (blocks : ℕ → List ℕ) (block : ℕ) (bytes : List ℕ) → blocks block ≡ bytes → put_block blocks block bytes ≡ blocks
+put_itself blocks block bytes is = fun_ext (λ other. elim (cases_eq other block) [
+  | inl same ↦ ap (put_block blocks block bytes) same ∙ put_block_same blocks block bytes ∙ sym is ∙ ap blocks (sym same)
+  | inr apart ↦ put_block_other blocks block bytes other apart
+])
+
+-- of two writes of one block the later counts, whatever is written between
+put_between : (blocks : ℕ → List ℕ) (one : ℕ) (early : List ℕ) (block : ℕ) (held late : List ℕ) → put_block (put_block (put_block blocks one early) block held) one late ≡ put_block (put_block blocks block held) one late
+put_between blocks one early block held late = fun_ext (λ other. elim (cases_eq other one) [
+  | inl same ↦
+      ap (put_block (put_block (put_block blocks one early) block held) one late) same ∙ put_block_same (put_block (put_block blocks one early) block held) one late
+      ∙ sym (put_block_same (put_block blocks block held) one late) ∙ ap (put_block (put_block blocks block held) one late) (sym same)
+  | inr apart ↦
+      put_block_other (put_block (put_block blocks one early) block held) one late other apart
+      ∙ elim (cases_eq other block) as (λ _. put_block (put_block blocks one early) block held other ≡ put_block blocks block held other) [
+        | inl here ↦
+            ap (put_block (put_block blocks one early) block held) here ∙ put_block_same (put_block blocks one early) block held
+            ∙ sym (put_block_same blocks block held) ∙ ap (put_block blocks block held) (sym here)
+        | inr off ↦ put_block_other (put_block blocks one early) block held other off ∙ put_block_other blocks one early other apart ∙ sym (put_block_other blocks block held other off)
+      ]
+      ∙ sym (put_block_other (put_block blocks block held) one late other apart)
+])
+
+put_twice : (blocks : ℕ → List ℕ) (one : ℕ) (early late : List ℕ) → put_block (put_block blocks one early) one late ≡ put_block blocks one late
+put_twice blocks one early late = fun_ext (λ other. elim (cases_eq other one) [
+  | inl same ↦
+      ap (put_block (put_block blocks one early) one late) same ∙ put_block_same (put_block blocks one early) one late ∙ sym (put_block_same blocks one late)
+      ∙ ap (put_block blocks one late) (sym same)
+  | inr apart ↦ put_block_other (put_block blocks one early) one late other apart ∙ put_block_other blocks one early other apart ∙ sym (put_block_other blocks one late other apart)
+])
+
+module _ (shown : ℕ → Option (List ℕ)) (old : ChangeList) (first after : List ℕ) (block : ℕ) where
+  pub back_hung : Hangs first after block → PutsBack shown old old first after block hung.Done
+  back_hung hangs = (
+    λ w. w,
+    λ blocks part keeps real small.
+        (let now = over blocks (changed old) in
+        subst (λ (x : ℕ → List ℕ). IsFreed (put_block now 1 first) x block) (put_twice now 1 first after) (hangs (put_block now 1 first) (put_block_same now 1 first) keeps real small)),
+  )
+
+  pub back_moved : (new : ChangeList) (held : List ℕ) → MovesList first after held block → IsSome (shown block) → ((other : ℕ) → changed new other ≡ cond (nat_eq block other) (Some held) (changed old other))
+      → ((blocks : ℕ → List ℕ) → over blocks (changed new) ≡ put_block (over blocks (changed old)) block held) → PutsBack shown old new first after block hung.Done
+  back_moved new held moves there each wrote = (
+    in_view shown old new block held each there,
+    λ blocks part keeps real small.
+        (let now = over blocks (changed old) in
+        let is : put_block (put_block (put_block now 1 first) block held) 1 after ≡ put_block (over blocks (changed new)) 1 after =
+        put_between now 1 first block held after ∙ ap (λ (b : ℕ → List ℕ). put_block b 1 after) (sym (wrote blocks)) in
+        subst (λ (x : ℕ → List ℕ). IsFreed (put_block now 1 first) x block) is (moves (put_block now 1 first) (put_block_same now 1 first) keeps real small)),
+  )
+
 -- ---- some of them put back
 
 pub record HasPut (has : ℕ → Bool) (old now : ℕ → List ℕ) (list : List ℕ) (count : ℕ) : Type 0 where
@@ -53,34 +112,60 @@ pub record HasPut (has : ℕ → Bool) (old now : ℕ → List ℕ) (list : List
   pub freed : AreFreed old now (take count list)
   pub hand : AreInHand has now (drop count list) left
 
-pub record HasPutBack (shown : ℕ → Option (List ℕ)) (old now : ChangeList) (list : List ℕ) (count : ℕ) : Type 0 where
+-- with block 1 apart
+pub record HasPutBack (shown : ℕ → Option (List ℕ)) (old now : ChangeList) (first list : List ℕ) (count : ℕ) : Type 0 where
+  pub few : nfree_of first ≤ 50
   pub within : IsWithinView shown old → IsWithinView shown now
   pub put : (blocks : ℕ → List ℕ) (has : ℕ → Bool) (chain : List ℕ) → IsPart shown blocks → AreInHand has (over blocks (changed old)) list chain
-      → HasPut has (over blocks (changed old)) (over blocks (changed now)) list count
+      → HasPut has (over blocks (changed old)) (put_block (over blocks (changed now)) 1 first) list count
 
 module _ (shown : ℕ → Option (List ℕ)) (old : ChangeList) (list : List ℕ) where
-  pub put_first : HasPutBack shown old old list 0
-  put_first = record { within = λ w. w; put = λ blocks has chain part are. record { left = chain; freed = refl; hand = are } }
+  -- no count of a volume is above 50
+  pub put_never : (first : List ℕ) → ((blocks : ℕ → List ℕ) → IsPart shown blocks → over blocks (changed old) 1 ≡ first) → 50 < nfree_of first → PutsAllBack shown old old list hung.Done
+  put_never first found many = (
+    λ w. w,
+    λ blocks has chain part are.
+        absurd (too_many (over blocks (changed old)) (nfree_of first) (hand_rules has (over blocks (changed old)) list chain are) (ap nfree_of (sym (found blocks part))) many),
+  )
 
-  pub put_next : (mid new : ChangeList) (count block : ℕ) → count < length list → block ≡ get_or list count 0 → PutsBack shown mid new block hung.Done → HasPutBack shown old mid list count → HasPutBack shown old new list (count + 1)
-  put_next mid new count block low is puts was = record {
+  pub put_first : (first : List ℕ) → nfree_of first ≤ 50 → ((blocks : ℕ → List ℕ) → IsPart shown blocks → over blocks (changed old) 1 ≡ first) → HasPutBack shown old old first list 0
+  put_first first few found = record {
+    few = few;
+    within = λ w. w;
+    put = λ blocks has chain part are.
+        (let same = put_itself (over blocks (changed old)) 1 first (found blocks part) in
+        record { left = chain; freed = same; hand = subst (λ (b : ℕ → List ℕ). AreInHand has b list chain) (sym same) are });
+  }
+
+  pub put_next : (mid new : ChangeList) (first after : List ℕ) (count block : ℕ) → count < length list → block ≡ get_or list count 0 → nfree_of after ≤ 50
+      → PutsBack shown mid new first after block hung.Done → HasPutBack shown old mid first list count → HasPutBack shown old new after list (count + 1)
+  put_next mid new first after count block low is few puts was = record {
+    few = few;
     within = λ w. puts.0 (was.within w);
     put = λ blocks has chain part are.
         (let so_far = was.put blocks has chain part are in
+        let now = put_block (over blocks (changed mid)) 1 first in
+        let then = put_block (over blocks (changed new)) 1 after in
         let split : drop count list ≡ block ∷ drop (suc count) list = drop-cons list count 0 low ∙ ap (λ b. b ∷ drop (suc count) list) (sym is) in
-        let hand = subst (λ (xs : List ℕ). AreInHand has (over blocks (changed mid)) xs so_far.left) split so_far.hand in
-        let range = hand_open has (over blocks (changed mid)) block (drop (suc count) list) so_far.left hand in
-        let freed = puts.1 blocks part (hand_rules has (over blocks (changed mid)) (block ∷ drop (suc count) list) so_far.left hand) range.0 range.1 in
+        let hand = subst (λ (xs : List ℕ). AreInHand has now xs so_far.left) split so_far.hand in
+        let range = hand_open has now block (drop (suc count) list) so_far.left hand in
+        let freed = puts.1 blocks part (hand_rules has now (block ∷ drop (suc count) list) so_far.left hand) range.0 range.1 in
         let more : take (suc count) list ≡ take count list ++ block ∷ [] = take-suc list count 0 low ∙ ap (λ b. take count list ++ b ∷ []) (sym is) in
-        let next = hand_freed has (over blocks (changed mid)) (over blocks (changed new)) block (drop (suc count) list) so_far.left hand freed in
+        let next = hand_freed has now then block (drop (suc count) list) so_far.left hand freed in
         let step : suc count ≡ count + 1 = omega arith in
         record {
           left = block ∷ so_far.left;
-          freed = subst (λ n. AreFreed (over blocks (changed old)) (over blocks (changed new)) (take n list)) step (subst (AreFreed (over blocks (changed old)) (over blocks (changed new))) (sym more)
-              (freed_more (over blocks (changed old)) (over blocks (changed mid)) (over blocks (changed new)) (take count list) block so_far.freed freed));
-          hand = subst (λ n. AreInHand has (over blocks (changed new)) (drop n list) (block ∷ so_far.left)) step next;
+          freed = subst (λ n. AreFreed (over blocks (changed old)) then (take n list)) step (subst (AreFreed (over blocks (changed old)) then) (sym more)
+              (freed_more (over blocks (changed old)) now then (take count list) block so_far.freed freed));
+          hand = subst (λ n. AreInHand has then (drop n list) (block ∷ so_far.left)) step next;
         });
   }
 
-  pub put_all : (now : ChangeList) (count : ℕ) → take count list ≡ list → HasPutBack shown old now list count → PutsAllBack shown old now list hung.Done
-  put_all now count all was = (was.within, λ blocks has chain part are. subst (AreFreed (over blocks (changed old)) (over blocks (changed now))) all (was.put blocks has chain part are).freed)
+  pub put_all : (mid new : ChangeList) (first : List ℕ) (count : ℕ) → take count list ≡ list → IsSome (shown_over shown old 1) → ((other : ℕ) → changed new other ≡ cond (nat_eq 1 other) (Some first) (changed mid other))
+      → ((blocks : ℕ → List ℕ) → over blocks (changed new) ≡ put_block (over blocks (changed mid)) 1 first) → HasPutBack shown old mid first list count → PutsAllBack shown old new list hung.Done
+  put_all mid new first count all there each wrote was = (
+    λ w. in_view shown mid new 1 first each (found_within shown old 1 w there) (was.within w),
+    λ blocks has chain part are.
+        subst (λ (b : ℕ → List ℕ). AreFreed (over blocks (changed old)) b list) (sym (wrote blocks))
+        (subst (AreFreed (over blocks (changed old)) (put_block (over blocks (changed mid)) 1 first)) all (was.put blocks has chain part are).freed),
+  )

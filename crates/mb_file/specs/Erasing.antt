@@ -1,37 +1,25 @@
 -- An inode erased with all that it holds: a step of an operation.
 use Rattle.std.specs.Prelude.{List, [], ℕ, ◌≡◌, ◌||◌, Bool, true, Option, Some, cond}
-use Rattle.std.specs.List.{Contains}
 use Rattle.std.specs.FinMap as fin
 use Rattle.mb_kinds.specs.Image.{Image}
 use Rattle.mb_layout.specs.declared.dinodes.Dinode.{Dinode}
-use Rattle.mb_tree.specs.Blocks.{pointers}
 use Rattle.mb_tree.specs.Inodes.{is_directory, is_regular}
 use Rattle.mb_tree.specs.Places.{Pointers}
 use Rattle.mb_tree.specs.Trees.{HasKind}
-use Rattle.mb_tree.specs.Views.{over, IsPart}
 use Rattle.mb_tree.specs.declared.nodes.Node.{Node}
 use Rattle.mb_tree.specs.declared.trees.Tree.{Tree}
 use Rattle.mb_iface.specs.Acting.{with_changes}
-use Rattle.mb_iface.specs.Changed.{ChangeList, changed, IsWithinView}
+use Rattle.mb_iface.specs.Changed.{ChangeList, IsWithinView}
 use Rattle.mb_iface.specs.Needs.{IsNeed}
 use Rattle.mb_alloc.specs.declared.frees.Hung.{Hung}
 use Rattle.mb_alloc.specs.declared.frees.Hung.TheVariants as hung
 use Rattle.mb_nodes.specs.Stored.{without_node}
 use Rattle.mb_moves.specs.Advancing.{AdvancesTo, IsNearTo, OnStored}
-use Rattle.mb_file.specs.Walking.{IsListable, under_dinode}
-use Rattle.mb_file.specs.declared.walks.Collected.{Collected}
-use Rattle.mb_file.specs.declared.walks.Collected.TheVariants as collected
+use Rattle.mb_file.specs.Walking.{under_dinode}
 
 -- the blocks that an inode of a kind with addresses holds
 abbrev pub held_blocks : Pointers → Dinode → List ℕ
 held_blocks ps d = cond (is_directory d.mode || is_regular d.mode) (under_dinode ps d) []
-
-abbrev pub ListsHeld : (ℕ → Option (List ℕ)) → ChangeList → Dinode → Collected → Type 0
-ListsHeld shown changes d (collected.Blocks list) = (blocks : ℕ → List ℕ) → IsPart shown blocks
-    → IsListable [] (held_blocks (pointers (over blocks (changed changes))) d) → list.items ≡ held_blocks (pointers (over blocks (changed changes))) d
-ListsHeld shown changes d (collected.Need need) = IsNeed shown need
-    × ((blocks : ℕ → List ℕ) → IsPart shown blocks → Contains (held_blocks (pointers (over blocks (changed changes))) d) need.first)
-ListsHeld shown changes d collected.NoMemory = Unit {0}
 
 -- a node that is looked at, of the kind that its mode says
 pub record IsErasable (tree : Tree) (looks : ℕ → Bool) (ino : ℕ) (node : Node) : Type 0 where

@@ -1,6 +1,7 @@
 -- The blocks that an inode's addresses lead to, listed (V7 filsys(5)).
 use Rattle.std.specs.Prelude.{List, [], ◌∷◌, ◌++◌, ℕ, ◌+◌, ◌-◌, ◌<◌, ◌≤◌, ◌≡◌, cond, nat_lt, Option, IfSome, length}
 use Rattle.std.specs.List.{Contains}
+use Rattle.mb_word.specs.Fields.{index_entry}
 use Rattle.mb_layout.specs.Inode.{address_in}
 use Rattle.mb_layout.specs.declared.dinodes.Dinode.{Dinode}
 use Rattle.mb_tree.specs.Blocks.{pointers}
@@ -28,9 +29,12 @@ pub record IsListable (before more : List ℕ) : Type 0 where
   pub small : (block : ℕ) → Contains more block → block < 262144
   pub few : length before + length more ≤ 262144
 
--- the block alone to which an address leads
-abbrev pub PushesOne : ℕ → List ℕ → List ℕ → Type 0
-PushesOne address before after = IsListable before (cond (nat_lt 0 address) (address ∷ []) []) → after ≡ before ++ cond (nat_lt 0 address) (address ∷ []) []
+-- the parts to which an index block's addresses lead, the last first
+abbrev pub parts_in : List ℕ → List ℕ
+parts_in index = under_each (λ place part. part ∷ []) (index_entry index) 128
+
+abbrev pub PushesParts : List ℕ → List ℕ → List ℕ → Type 0
+PushesParts index before after = IsListable before (parts_in index) → after ≡ before ++ parts_in index
 
 abbrev pub PushesUnder : (ℕ → Option (List ℕ)) → ChangeList → ℕ → ℕ → List ℕ → List ℕ → Walked → Type 0
 PushesUnder shown changes address levels before after walked.Done = (blocks : ℕ → List ℕ) → IsPart shown blocks
@@ -51,3 +55,9 @@ Collects shown changes d (collected.Blocks list) = (blocks : ℕ → List ℕ) �
 Collects shown changes d (collected.Need need) = IsNeed shown need
     × ((blocks : ℕ → List ℕ) → IsPart shown blocks → Contains (under_dinode (pointers (over blocks (changed changes))) d) need.first)
 Collects shown changes d collected.NoMemory = Unit {0}
+
+-- no more blocks than a volume has
+abbrev pub HasFew : Collected → Type 0
+HasFew (collected.Blocks list) = length list.items ≤ 262144
+HasFew (collected.Need need) = Unit {0}
+HasFew collected.NoMemory = Unit {0}

@@ -10,8 +10,8 @@ ghost use Rattle.mb_iface.specs.Acting.{Acts};
 ghost use Rattle.mb_iface.specs.Needs.{ActsFor};
 ghost use Rattle.mb_file.specs.Clearing.{Clears, emptied_inode};
 
-use crate::frees::{arrange, put_all_back};
-use crate::walks::{Collected, collect};
+use crate::frees::{blocks_to_free, put_all_back};
+use crate::walks::Collected;
 use mb_alloc::Hung;
 use mb_iface::{Acted, Changes, Edited, Need, View};
 use mb_inodes::{Inode, read_inode, write_inode};
@@ -44,12 +44,11 @@ fn clear<V: View>(alloc: Global, view: &V, changes: &mut Changes, ino: u16, mome
         Inode::Here(inode) => inode,
         Inode::Need(need) => return Hung::Need(need),
     };
-    let mut list = match collect(alloc, view, changes, &inode) {
+    let list = match blocks_to_free(alloc, view, changes, &inode) {
         Collected::Blocks(list) => list,
         Collected::Need(need) => return Hung::Need(need),
         Collected::NoMemory => return Hung::NoMemory,
     };
-    arrange(view, changes, &mut list);
     let holes = without_parts(&inode, moment);
     match write_inode(view, changes, ino, &holes) {
         Edited::Done => put_all_back(view, changes, &list),

@@ -1,7 +1,8 @@
-ghost use Rattle.mb_file.specs.Erasing.{Erases, ErasesWhole, ListsHeld};
+ghost use Rattle.mb_file.specs.Erasing.{Erases, ErasesWhole, held_blocks};
+ghost use Rattle.mb_file.specs.Freeing.{ListsToFree};
 
-use crate::frees::{arrange, put_all_back};
-use crate::walks::{Collected, collect};
+use crate::frees::{blocks_to_free, put_all_back};
+use crate::walks::Collected;
 use mb_alloc::{Hung, free_inode};
 use mb_iface::{Changes, Over, View};
 use mb_inodes::{Inode, read_inode};
@@ -38,12 +39,11 @@ pub fn erase_in<V: View>(alloc: Global, view: &V, changes: &mut Changes, ino: u1
         Inode::Here(inode) => inode,
         Inode::Need(need) => return Hung::Need(need),
     };
-    let mut list = match held(alloc, view, changes, &inode) {
+    let list = match held(alloc, view, changes, &inode) {
         Collected::Blocks(list) => list,
         Collected::Need(need) => return Hung::Need(need),
         Collected::NoMemory => return Hung::NoMemory,
     };
-    arrange(view, changes, &mut list);
     match free_inode(view, changes, ino) {
         Hung::Done => put_all_back(view, changes, &list),
         Hung::Need(need) => Hung::Need(need),
@@ -51,12 +51,13 @@ pub fn erase_in<V: View>(alloc: Global, view: &V, changes: &mut Changes, ino: u1
     }
 }
 
-/// The blocks that an inode holds: none where it is neither a directory nor a regular file.
+/// The blocks that an inode holds, in the order in which they are put back: none where it is neither a
+/// directory nor a regular file. Everything that putting them back wants is asked for.
 fn held<V: View>(alloc: Global, view: &V, changes: &Changes, inode: &Dinode) -> Collected
-    ensures { ListsHeld (V.shown view.now) changes.now inode.now result }
+    ensures { ListsToFree (V.shown view.now) changes.now (λ ps. held_blocks ps inode.now) result }
 {
     if is_directory(inode.mode) || is_regular(inode.mode) {
-        collect(alloc, view, changes, inode)
+        blocks_to_free(alloc, view, changes, inode)
     } else {
         Collected::Blocks(Vec::new(alloc))
     }

@@ -13,6 +13,7 @@
 mod clears;
 mod erases;
 mod frees;
+mod hangs;
 mod parts;
 mod puts;
 mod reads;

@@ -1,5 +1,5 @@
-ghost use Rattle.std.specs.Prelude.{OnOk};
-ghost use Rattle.mb_file.specs.Walking.{Collects, LacksIndex, PushesOne, PushesUnder};
+ghost use Rattle.std.specs.Prelude.{OnOk, ◌≤◌, vec_len};
+ghost use Rattle.mb_file.specs.Walking.{Collects, HasFew, LacksIndex, PushesParts, PushesUnder};
 
 use mb_iface::{Changes, Need, View, seen};
 use mb_layout::Dinode;
@@ -28,22 +28,26 @@ pub(crate) enum Collected {
     NoMemory,
 }
 
-/// Lists the block to which an address leads; nothing for address 0, nor for what no volume has, as
-/// `push_under` says.
-fn push_part(address: u32, list: &mut Vec<u32>) -> Result<(), AllocError>
-    ensures { OnOk result (PushesOne address list.old.items list.new.items) }
+/// Lists the parts to which an index block's addresses lead, the last first; nothing for address 0, nor
+/// for what no volume has, as `push_under` says.
+fn push_parts(index: &[u8; 512], list: &mut Vec<u32>) -> Result<(), AllocError>
+    requires { vec_len list.old ≤ 262144 }
+    ensures parts { OnOk result (PushesParts index.now list.old.items list.new.items) }
+    ensures few { vec_len list.new ≤ 262144 }
 {
-    if address == 0 {
+    let mut parts = [0; 128];
+    let mut count = 0;
+    for passed in 0..128usize {
+        let part = long_at(index, 4 * (127 - passed));
+        if part > 0 && part < 262_144 {
+            parts[count] = part;
+            count += 1;
+        }
+    }
+    if list.len() + count > 262_144 {
         return Ok(());
     }
-    if address >= 262_144 {
-        return Ok(());
-    }
-    if list.len() >= 262_144 {
-        return Ok(());
-    }
-    list.push(address)?;
-    Ok(())
+    list.extend_from_slice(&parts[..count])
 }
 
 /// Lists the block to which an address leads and all that stands under it, so many levels of index
@@ -56,7 +60,9 @@ fn push_under<V: View>(
     levels: u8,
     list: &mut Vec<u32>,
 ) -> Walked
-    ensures { PushesUnder (V.shown view.now) changes.now address levels list.old.items list.new.items result }
+    requires { vec_len list.old ≤ 262144 }
+    ensures under { PushesUnder (V.shown view.now) changes.now address levels list.old.items list.new.items result }
+    ensures few { vec_len list.new ≤ 262144 }
 {
     if address == 0 {
         return Walked::Done;
@@ -77,19 +83,18 @@ fn push_under<V: View>(
     let Some(index) = seen(view, changes, address) else {
         return Walked::Need(Need::one(address));
     };
+    if levels == 1 {
+        return match push_parts(index, list) {
+            Ok(()) => Walked::Done,
+            Err(_) => Walked::NoMemory,
+        };
+    }
     for passed in 0..128usize {
         let child = long_at(index, 4 * (127 - passed));
-        if levels == 1 {
-            match push_part(child, list) {
-                Ok(()) => {}
-                Err(_) => return Walked::NoMemory,
-            }
-        } else {
-            match push_under(view, changes, child, levels - 1, list) {
-                Walked::Done => {}
-                Walked::Need(need) => return Walked::Need(need),
-                Walked::NoMemory => return Walked::NoMemory,
-            }
+        match push_under(view, changes, child, levels - 1, list) {
+            Walked::Done => {}
+            Walked::Need(need) => return Walked::Need(need),
+            Walked::NoMemory => return Walked::NoMemory,
         }
     }
     Walked::Done
@@ -131,7 +136,8 @@ pub(crate) fn collect<V: View>(
     changes: &Changes,
     inode: &Dinode,
 ) -> Collected
-    ensures { Collects (V.shown view.now) changes.now inode.now result }
+    ensures lists { Collects (V.shown view.now) changes.now inode.now result }
+    ensures few { HasFew result }
 {
     for place in 10..13u8 {
         if let Some(need) = lacking_index(view, changes, inode.address(place), place - 9) {

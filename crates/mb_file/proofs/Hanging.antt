@@ -1,0 +1,145 @@
+-- A block's address behind those of the super-block's list, by the bytes of block 1.
+use Rattle.std.proofs.Common.{ℕ, ◌≡◌, ◌≢◌, ◌+◌, ◌*◌, ◌<◌, ◌≤◌, ◌⊎◌, inl, inr, true, false, cond, nat_eq, max, List, ◌++◌, length, take, drop, get_or, refl, sym, ap, subst, ◌∙◌, arith}
+use Rattle.std.proofs.lemmas.Bool.{cases_eq}
+use Rattle.std.proofs.lemmas.Bool.Decides.{nat_tests}
+use Rattle.mb_word.specs.Numbers.{word_at, long_at, put_at, word_bytes, long_bytes, SameFrom}
+use Rattle.mb_word.specs.Fields.{nfree_of, free_of}
+use Rattle.mb_word.proofs.Writes.{put_at_same, length-put_at}
+use Rattle.mb_word.proofs.Values.{word_back, long_back, long_at-same, word_at-same, length-word_bytes, length-long_bytes}
+use Rattle.mb_tree.specs.Chain.{Listed}
+use Rattle.mb_iface.specs.Changed.{put_block}
+use Rattle.mb_iface.proofs.ChangedBlocks.{put_block_same, put_block_other}
+use Rattle.mb_blocks.specs.FreeLists.{IsSameList, pushed, ended, emptied, after_freeing}
+use Rattle.mb_alloc.proofs.Freeings.{freed_full}
+use Rattle.mb_alloc.proofs.Within.{length-take_drop}
+use Rattle.mb_file.specs.Freeing.{Hangs, MovesList}
+
+-- the list that a super-block's bytes hold
+abbrev listed_in : List ℕ → Listed
+listed_in first = record { count = nfree_of first; entry = free_of first }
+
+-- the list behind which an address is put: an empty one gets the end first
+abbrev before_it : Listed → Listed
+before_it it = cond (nat_eq it.count 0) ended it
+
+after_room : (it : Listed) (block : ℕ) → it.count ≢ 50 → after_freeing it block ≡ pushed (before_it it) block
+unfolding after_freeing
+after_room it block room =
+    let t : nat_eq it.count 50 ≡ false = grind (arith, nat_tests) in
+    ap (λ b. pushed (cond (nat_eq it.count 0) ended (cond b emptied it)) block) t
+
+-- the same addresses and one more
+pushed_same : (like ready it : Listed) (block : ℕ) → IsSameList ready it → like.count ≡ ready.count + 1 → like.entry ready.count ≡ block → ((k : ℕ) → k < ready.count → like.entry k ≡ ready.entry k) → IsSameList like (pushed it block)
+pushed_same like ready it block same count last before =
+    let many = same.count in
+    record {
+      count = omega (arith, count, many);
+      entry = λ k below. elim (cases_eq k it.count) [
+        | inl is ↦ (let t : nat_eq k it.count ≡ true = grind (arith, nat_tests) in ap like.entry (let e : k ≡ ready.count = omega (arith, is, many) in e) ∙ last ∙ ap (λ b. cond b block (it.entry k)) (sym t))
+        | inr apart ↦
+            (let t : nat_eq k it.count ≡ false = grind (arith, nat_tests) in
+            before k (omega (arith, below, apart, many)) ∙ same.entry k (omega (arith, below, apart)) ∙ ap (λ b. cond b block (it.entry k)) (sym t))
+      ];
+    }
+
+-- the bytes in which an address is written next, at this place
+pub record IsReady (first ready : List ℕ) (count : ℕ) : Type 0 where
+  pub sized : length ready ≡ 512
+  pub front : SameFrom ready first 0 6
+  pub back : SameFrom ready first 208 304
+  pub listed : IsSameList (record { count = count; entry = free_of ready }) (before_it (listed_in first))
+
+pub ready_none : (first ready : List ℕ) (held count : ℕ) → length first ≡ 512 → held ≡ nfree_of first → held ≡ 0 → count ≡ max held 1 → ready ≡ put_at first 8 (long_bytes 0) → IsReady first ready count
+ready_none first ready held count long reads none is wrote =
+    let l = length-long_bytes 0 in
+    let one : count ≡ 1 = omega (arith, is, none) in
+    let t : nat_eq (nfree_of first) 0 ≡ true = (let e : nfree_of first ≡ 0 = omega (arith, reads, none) in grind (arith, nat_tests)) in
+    record {
+      sized = ap length wrote ∙ length-put_at first 8 (long_bytes 0) (omega (arith, long, l)) ∙ long;
+      front = λ k low high. ap (λ b. get_or b k 0) wrote ∙ put_at_same first 8 (long_bytes 0) 0 6 (omega (arith, long, l)) (inl (omega arith)) k low high;
+      back = λ k low high. ap (λ b. get_or b k 0) wrote ∙ put_at_same first 8 (long_bytes 0) 208 304 (omega (arith, long, l)) (inr (omega (arith, l))) k low high;
+      listed = subst (IsSameList (record { count = count; entry = free_of ready })) (sym (ap (λ b. cond b ended (listed_in first)) t)) (record {
+        count = one;
+        entry = λ k below. ap (λ i. long_at ready i) (let e : 8 + 4 * k ≡ 8 = omega (arith, below) in e) ∙ ap (λ b. long_at b 8) wrote ∙ long_back first 8 0 (omega (arith, long)) (omega arith);
+      });
+    }
+
+pub ready_some : (first : List ℕ) (held count : ℕ) → length first ≡ 512 → held ≡ nfree_of first → held ≢ 0 → count ≡ max held 1 → IsReady first first count
+ready_some first held count long reads some is =
+    let t : nat_eq (nfree_of first) 0 ≡ false = (let e : nfree_of first ≢ 0 = omega (arith, reads, some) in grind (arith, nat_tests)) in
+    record {
+      sized = long;
+      front = λ k low high. refl;
+      back = λ k low high. refl;
+      listed = subst (IsSameList (record { count = count; entry = free_of first })) (sym (ap (λ b. cond b ended (listed_in first)) t)) (record { count = omega (arith, reads, some, is); entry = λ k below. refl });
+    }
+
+module _ (first ready one two : List ℕ) (count block : ℕ) (is : IsReady first ready count) (few : nfree_of first < 50) (room : count < 50)
+    (e1 : one ≡ put_at ready (8 + 4 * count) (long_bytes block)) (e2 : two ≡ put_at one 6 (word_bytes (count + 1))) where
+  long_one : length one ≡ 512
+  long_one = (let l = length-long_bytes block in let s = is.sized in ap length e1 ∙ length-put_at ready (8 + 4 * count) (long_bytes block) (omega (arith, s, l, room)) ∙ s)
+
+  long_two : length two ≡ 512
+  long_two = (let w = length-word_bytes (count + 1) in let s = long_one in ap length e2 ∙ length-put_at one 6 (word_bytes (count + 1)) (omega (arith, s, w)) ∙ s)
+
+  off_count : (from n : ℕ) → (from + n ≤ 6) ⊎ (8 ≤ from) → SameFrom two one from n
+  off_count from n away k low high =
+      let w = length-word_bytes (count + 1) in
+      let s = long_one in
+      ap (λ b. get_or b k 0) e2 ∙ put_at_same one 6 (word_bytes (count + 1)) from n (omega (arith, s, w)) (elim away [ inl a ↦ inl a | inr a ↦ inr (omega (arith, a, w)) ]) k low high
+
+  off_both : (from n : ℕ) → (from + n ≤ 6) ⊎ (8 ≤ from) → (from + n ≤ 8 + 4 * count) ⊎ (12 + 4 * count ≤ from) → SameFrom two ready from n
+  off_both from n away apart k low high =
+      let l = length-long_bytes block in
+      let s = is.sized in
+      off_count from n away k low high ∙ ap (λ b. get_or b k 0) e1
+      ∙ put_at_same ready (8 + 4 * count) (long_bytes block) from n (omega (arith, s, l, room)) (elim apart [ inl a ↦ inl a | inr a ↦ inr (omega (arith, a, l)) ]) k low high
+
+  pub count_now : nfree_of two ≡ count + 1
+  count_now = (let s = long_one in ap (λ b. word_at b 6) e2 ∙ word_back one 6 (count + 1) (omega (arith, s)) (omega (arith, room)))
+
+  last_now : block < 262144 → free_of two count ≡ block
+  last_now small =
+      let s = is.sized in
+      long_at-same two one (8 + 4 * count) (off_count (8 + 4 * count) 4 (inr (omega arith))) ∙ ap (λ b. long_at b (8 + 4 * count)) e1 ∙ long_back ready (8 + 4 * count) block (omega (arith, s, room)) (omega (arith, small))
+
+  list_now : block < 262144 → IsSameList (listed_in two) (pushed (before_it (listed_in first)) block)
+  list_now small =
+      pushed_same (listed_in two) (record { count = count; entry = free_of ready }) (before_it (listed_in first)) block is.listed count_now (last_now small)
+      (λ k below. long_at-same two ready (8 + 4 * k) (off_both (8 + 4 * k) 4 (inr (omega arith)) (inl (omega (arith, below)))))
+
+  pub hung : Hangs first two block
+  hung blocks here keeps real small =
+      let new = put_block blocks 1 two in
+      let now : put_block blocks 1 two 1 ≡ two = put_block_same blocks 1 two in
+      let after : after_freeing (listed_in (blocks 1)) block ≡ pushed (before_it (listed_in first)) block = ap (λ b. after_freeing (listed_in b) block) here ∙ after_room (listed_in first) block (omega (arith, few)) in
+      let s = long_two in
+      record {
+        list = subst (λ (b : List ℕ). IsSameList (listed_in b) (after_freeing (listed_in (blocks 1)) block)) (sym now) (subst (IsSameList (listed_in two)) (sym after) (list_now small));
+        copied = λ full. absurd (let e : nfree_of (blocks 1) ≡ nfree_of first = ap nfree_of here in omega (arith, e, full, few));
+        sized = ap length now ∙ s;
+        filled = ap length (put_block_other blocks 1 two block (omega (arith, real))) ∙ keeps.sized block;
+        front = λ k low high. ap (λ b. get_or b k 0) now ∙ off_both 0 6 (inl (omega arith)) (inl (omega arith)) k low high ∙ is.front k low high ∙ ap (λ b. get_or b k 0) (sym here);
+        back = λ k low high. ap (λ b. get_or b k 0) now ∙ off_both 208 304 (inr (omega arith)) (inr (omega (arith, room))) k low high ∙ is.back k low high ∙ ap (λ b. get_or b k 0) (sym here);
+        others = λ other apart beside. put_block_other blocks 1 two other apart;
+      }
+
+-- bytes copied over a list's front
+pub front_put : (b xs : List ℕ) (n : ℕ) → length xs ≡ n → xs ++ drop n b ≡ put_at b 0 xs
+unfolding put_at
+front_put b xs n long = ap (λ i. xs ++ drop i b) (omega (arith, long))
+
+pub count_one : (first one two : List ℕ) (block : ℕ) → length first ≡ 512 → one ≡ put_at first 6 (word_bytes 1) → two ≡ put_at one 8 (long_bytes block) → nfree_of two ≡ 1
+count_one first one two block long e1 e2 =
+    let w = length-word_bytes 1 in
+    let l = length-long_bytes block in
+    let s : length one ≡ 512 = ap length e1 ∙ length-put_at first 6 (word_bytes 1) (omega (arith, long, w)) ∙ long in
+    ap (λ b. word_at b 6) e2 ∙ word_at-same (put_at one 8 (long_bytes block)) one 6 (put_at_same one 8 (long_bytes block) 6 2 (omega (arith, s, l)) (inl (omega arith)))
+    ∙ ap (λ b. word_at b 6) e1 ∙ word_back first 6 1 (omega (arith, long)) (omega arith)
+
+pub moved : (first zeros held one two : List ℕ) (block : ℕ) → nfree_of first ≡ 50 → length zeros ≡ 512 → held ≡ put_at zeros 0 (take 202 (drop 6 first)) → one ≡ put_at first 6 (word_bytes 1) → two ≡ put_at one 8 (long_bytes block)
+    → MovesList first two held block
+moved first zeros held one two block full long e1 e2 e3 blocks here keeps real small =
+    freed_full blocks (put_block (put_block blocks block held) 1 two) (nfree_of first) block zeros held one two keeps (ap nfree_of (sym here)) full real small long
+    (e1 ∙ ap (λ b. put_at zeros 0 (take 202 (drop 6 b))) (sym here)) (length-take_drop (blocks 1) 202 6 (let l = keeps.sized 1 in omega (arith, l)))
+    (e2 ∙ ap (λ b. put_at b 6 (word_bytes 1)) (sym here)) e3 refl

@@ -1,0 +1,11 @@
+use Rattle.std.proofs.Common.{IsSome, option_copied, refl, sym, subst}
+use Rattle.mb_file.proofs.PuttingBack.{back_hung, back_moved}
+use Rattle.mb_file.proofs.frees.put_back.Goals as goal
+
+pub returns-then-word_at-lt50-clause-back : goal.returns-then-word_at-lt50-clause-back
+returns-then-word_at-lt50-clause-back g c = back_hung (g.V.View.shown c.args.view.now) c.args.changes.now c.args.first.now c.hang.new.first c.args.block c.hang.ensures.hangs
+
+pub returns-in-Ok-clause-back : goal.returns-in-Ok-clause-back
+returns-in-Ok-clause-back g c =
+    back_moved (g.V.View.shown c.args.view.now) c.args.changes.now c.args.first.now c.move_list-held.new.first c.args.block c.put.new.self c.move_list-held.result c.move_list-held.ensures.moves
+    (subst (λ o. IsSome o) c.get.ensures (subst (λ r. IsSome (option_copied r)) (sym c.in-Some.is) refl)) c.in-Ok.ensures.each c.in-Ok.ensures.ok
