@@ -137,9 +137,9 @@ count_one first one two block long e1 e2 =
     ap (λ b. word_at b 6) e2 ∙ word_at-same (put_at one 8 (long_bytes block)) one 6 (put_at_same one 8 (long_bytes block) 6 2 (omega (arith, s, l)) (inl (omega arith)))
     ∙ ap (λ b. word_at b 6) e1 ∙ word_back first 6 1 (omega (arith, long)) (omega arith)
 
-pub moved : (first zeros held one two : List ℕ) (block : ℕ) → nfree_of first ≡ 50 → length zeros ≡ 512 → held ≡ put_at zeros 0 (take 202 (drop 6 first)) → one ≡ put_at first 6 (word_bytes 1) → two ≡ put_at one 8 (long_bytes block)
+pub moved : (first bytes held one two : List ℕ) (block : ℕ) → nfree_of first ≡ 50 → length bytes ≡ 512 → held ≡ put_at bytes 0 (take 202 (drop 6 first)) → one ≡ put_at first 6 (word_bytes 1) → two ≡ put_at one 8 (long_bytes block)
     → MovesList first two held block
-moved first zeros held one two block full long e1 e2 e3 blocks here keeps real small =
-    freed_full blocks (put_block (put_block blocks block held) 1 two) (nfree_of first) block zeros held one two keeps (ap nfree_of (sym here)) full real small long
-    (e1 ∙ ap (λ b. put_at zeros 0 (take 202 (drop 6 b))) (sym here)) (length-take_drop (blocks 1) 202 6 (let l = keeps.sized 1 in omega (arith, l)))
+moved first bytes held one two block full long e1 e2 e3 blocks here keeps real small =
+    freed_full blocks (put_block (put_block blocks block held) 1 two) (nfree_of first) block bytes held one two keeps (ap nfree_of (sym here)) full real small long
+    (e1 ∙ ap (λ b. put_at bytes 0 (take 202 (drop 6 b))) (sym here)) (length-take_drop (blocks 1) 202 6 (let l = keeps.sized 1 in omega (arith, l)))
     (e2 ∙ ap (λ b. put_at b 6 (word_bytes 1)) (sym here)) e3 refl

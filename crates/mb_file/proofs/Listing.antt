@@ -1,11 +1,12 @@
 -- The blocks under an address listed one index block after another.
-use Rattle.std.proofs.Common.{ℕ, zero, suc, ◌≡◌, ◌⊎◌, inl, inr, ◌+◌, ◌-◌, ◌<◌, ◌≤◌, true, false, cond, nat_lt, Option, Result, Ok, Err, List, [], ◌∷◌, ◌++◌, length, take, set, length-append, append_assoc, append-nil, refl, sym, ap, subst, ◌∙◌, arith}
+use mir.Val.{bool_byte}
+use Rattle.std.proofs.Common.{ℕ, zero, suc, ◌≡◌, ◌⊎◌, inl, inr, ◌+◌, ◌-◌, ◌%◌, ◌<◌, ◌≤◌, true, false, cond, ltb, nat_lt, Option, Result, Ok, Err, List, [], ◌∷◌, ◌++◌, length, take, set, length-append, append_assoc, append-nil, refl, sym, ap, subst, ◌∙◌, arith}
 use Rattle.std.specs.Prelude.{if◌then◌else◌, OnOk, is_ok}
 use Rattle.std.specs.List.{Contains}
 use Rattle.std.specs.declared.alloc.AllocError.{AllocError}
-use Rattle.std.proofs.lemmas.Bool.{cases_eq}
+use Rattle.std.proofs.lemmas.Bool.{cases_eq, cases_lt}
 use Rattle.std.proofs.lemmas.Bool.Decides.{nat_tests}
-use Rattle.std.proofs.lemmas.List.{take_more_set, length-take-le}
+use Rattle.std.proofs.lemmas.List.{take_more_set, take-set, length-take-le}
 use Rattle.std.proofs.lemmas.List.Elements.{Contains-append_left, Contains-append_right}
 use Rattle.mb_word.specs.Fields.{index_entry}
 use Rattle.mb_layout.specs.Inode.{address_in}
@@ -188,12 +189,21 @@ alone_is part some = (let t : nat_lt 0 part ≡ true = grind (arith, nat_tests) 
 none_is : (part : ℕ) → part ≡ 0 → cond (nat_lt 0 part) (part ∷ []) [] ≡ []
 none_is part none = (let t : nat_lt 0 part ≡ false = grind (arith, nat_tests) in ap (λ b. cond b (part ∷ []) []) t)
 
+-- 1 for a part and 0 for any other number of 32 bits, by one test
+is_part : (part some : ℕ) → part < 4294967296 → some ≡ bool_byte (ltb ((part + 4294967295) % 4294967296) 262143) → ((some ≡ 1) × (0 < part) × (part < 262144)) ⊎ ((some ≡ 0) × ((part ≡ 0) ⊎ (262144 ≤ part)))
+is_part part some wide told = elim (cases_lt ((part + 4294967295) % 4294967296) 262143) [
+  | inl low ↦ (let t : ltb ((part + 4294967295) % 4294967296) 262143 ≡ true = grind (arith, nat_tests) in inl (told ∙ ap bool_byte t, omega (arith, wide, low), omega (arith, wide, low)))
+  | inr high ↦
+      (let t : ltb ((part + 4294967295) % 4294967296) 262143 ≡ false = grind (arith, nat_tests) in
+      inr (told ∙ ap bool_byte t, elim (cases_eq part 0) [ inl none ↦ inl none | inr real ↦ inr (omega (arith, wide, high, real)) ]))
+]
+
 module _ (index before : List ℕ) where
   pub parts_first : (parts : List ℕ) → HasParts index before parts 0 128
   parts_first parts = record { listed = λ listable. record { done = []; was = refl; rest = refl } }
 
   module _ (parts : List ℕ) (count left next part : ℕ) (step : left ≡ suc next) (reads : part ≡ index_entry index next) (was : HasParts index before parts count left) where
-    pub parts_more : (after : List ℕ) → 0 < part → count < length parts → after ≡ set parts count part → HasParts index before after (count + 1) next
+    parts_more : (after : List ℕ) → 0 < part → count < length parts → after ≡ set parts count part → HasParts index before after (count + 1) next
     parts_more after some room wrote = record {
       listed = λ listable.
           (let listed = was.listed listable in
@@ -204,15 +214,16 @@ module _ (index before : List ℕ) where
     }
 
     -- no part, or one that no volume has
-    pub parts_passed : (part ≡ 0) ⊎ (262144 ≤ part) → HasParts index before parts count next
-    parts_passed (inl none) = record {
+    parts_passed : (after : List ℕ) → (part ≡ 0) ⊎ (262144 ≤ part) → after ≡ set parts count part → HasParts index before after count next
+    parts_passed after (inl none) wrote = record {
       listed = λ listable.
           (let listed = was.listed listable in
           let nothing : cond (nat_lt 0 (index_entry index next)) (index_entry index next ∷ []) [] ≡ [] = ap (λ x. cond (nat_lt 0 x) (x ∷ []) []) (sym reads) ∙ none_is part none in
-          part_listed (λ place part. part ∷ []) (index_entry index) before (before ++ take count parts) (parts_in index) left next step listed (before ++ take count parts)
-          (sym (append-nil (before ++ take count parts)) ∙ ap (λ xs. (before ++ take count parts) ++ xs) (sym nothing)));
+          part_listed (λ place part. part ∷ []) (index_entry index) before (before ++ take count parts) (parts_in index) left next step listed (before ++ take count after)
+          (ap (λ xs. before ++ take count xs) wrote ∙ ap (λ xs. before ++ xs) (take-set parts count part) ∙ sym (append-nil (before ++ take count parts))
+          ∙ ap (λ xs. (before ++ take count parts) ++ xs) (sym nothing)));
     }
-    parts_passed (inr great) = record {
+    parts_passed after (inr great) wrote = record {
       listed = λ listable.
           (let listed = was.listed listable in
           let one : cond (nat_lt 0 (index_entry index next)) (index_entry index next ∷ []) [] ≡ part ∷ [] = ap (λ x. cond (nat_lt 0 x) (x ∷ []) []) (sym reads) ∙ alone_is part (omega (arith, great)) in
@@ -220,6 +231,14 @@ module _ (index before : List ℕ) where
           let small = fits.small part (subst (λ (xs : List ℕ). Contains xs part) (sym one) (0, omega arith, refl)) in
           absurd (omega (arith, great, small)));
     }
+
+  -- a part stands behind the others, and what is none is passed
+  pub parts_next : (parts after : List ℕ) (count left next part some : ℕ) → left ≡ suc next → part ≡ index_entry index next → part < 4294967296 → some ≡ bool_byte (ltb ((part + 4294967295) % 4294967296) 262143)
+      → count < length parts → after ≡ set parts count part → HasParts index before parts count left → (some ≤ 1) × HasParts index before after (count + some) next
+  parts_next parts after count left next part some step reads wide told room wrote was = elim (is_part part some wide told) [
+    | inl real ↦ rw (real.0) (omega arith, parts_more parts count left next part step reads was after real.1 room wrote)
+    | inr none ↦ (let e : count ≡ count + some = (let z = none.0 in omega (arith, z)) in (let z = none.0 in omega (arith, z), subst (λ n. HasParts index before after n next) e (parts_passed parts count left next part step reads was after none.1 wrote)))
+  ]
 
   parts_all : (parts after : List ℕ) (count left : ℕ) → left ≡ 0 → after ≡ before ++ take count parts → HasParts index before parts count left → PushesParts index before after
   parts_all parts after count left none is was listable = is ∙ all_listed (λ place part. part ∷ []) (index_entry index) before (before ++ take count parts) (parts_in index) left none (was.listed listable)

@@ -33,7 +33,8 @@ fn put_back<V: View>(view: &V, changes: &mut Changes, first: &mut [u8; 512], blo
     let Some(_found) = view.get(block) else {
         return Hung::Need(Need::one(block));
     };
-    let held = move_list(first, block);
+    let mut held = [0; 512];
+    move_list(first, &mut held, block);
     match changes.put(block, &held) {
         Ok(()) => Hung::Done,
         Err(_) => Hung::NoMemory,

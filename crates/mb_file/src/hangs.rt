@@ -20,16 +20,14 @@ pub(crate) fn hang(first: &mut [u8; 512], block: u32)
     put_word(first, 6, count + 1);
 }
 
-/// Moves the super-block's list, a full one of 50, into a block, whose address alone is left in it (V7
-/// alloc(9), filsys(5)). It answers the block's bytes.
-pub(crate) fn move_list(first: &mut [u8; 512], block: u32) -> [u8; 512]
+/// Moves the super-block's list, a full one of 50, into the bytes of a block, which are otherwise kept. The
+/// block's address alone is left in the list (V7 alloc(9), filsys(5)).
+pub(crate) fn move_list(first: &mut [u8; 512], held: &mut [u8; 512], block: u32)
     requires { nfree_of first.old ≡ 50 }
-    ensures moves { MovesList first.old first.new result block }
+    ensures moves { MovesList first.old first.new held.new block }
     ensures count { nfree_of first.new ≡ 1 }
 {
-    let mut held = [0; 512];
     held[..202].copy_from_slice(&first[6..208]);
     put_word(first, 6, 1);
     put_long(first, 8, block);
-    held
 }

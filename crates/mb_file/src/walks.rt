@@ -39,10 +39,9 @@ fn push_parts(index: &[u8; 512], list: &mut Vec<u32>) -> Result<(), AllocError>
     let mut count = 0;
     for passed in 0..128usize {
         let part = long_at(index, 4 * (127 - passed));
-        if part > 0 && part < 262_144 {
-            parts[count] = part;
-            count += 1;
-        }
+        parts[count] = part;
+        // what is no part is written over by the next one: 0, which wraps, and 262,144 or more
+        count += usize::from(part.wrapping_sub(1) < 262_143);
     }
     if list.len() + count > 262_144 {
         return Ok(());

@@ -7,5 +7,5 @@ returns-then-word_at-lt50-clause-back g c = back_hung (g.V.View.shown c.args.vie
 
 pub returns-in-Ok-clause-back : goal.returns-in-Ok-clause-back
 returns-in-Ok-clause-back g c =
-    back_moved (g.V.View.shown c.args.view.now) c.args.changes.now c.args.first.now c.move_list-held.new.first c.args.block c.put.new.self c.move_list-held.result c.move_list-held.ensures.moves
+    back_moved (g.V.View.shown c.args.view.now) c.args.changes.now c.args.first.now c.move_list.new.first c.args.block c.put.new.self c.move_list.new.held c.move_list.ensures.moves
     (subst (λ o. IsSome o) c.get.ensures (subst (λ r. IsSome (option_copied r)) (sym c.in-Some.is) refl)) c.in-Ok.ensures.each c.in-Ok.ensures.ok

@@ -1,13 +1,12 @@
-use Rattle.std.proofs.Common.{ℕ, replicate, ap, ◌∙◌, arith}
-use Rattle.std.proofs.lemmas.List.{length-replicate}
+use Rattle.std.proofs.Common.{ap, ◌∙◌, arith}
 use Rattle.mb_word.specs.Numbers.{put_at}
 use Rattle.mb_file.proofs.Hanging.{front_put, count_one, moved}
 use Rattle.mb_file.proofs.hangs.move_list.Goals as goal
 
 pub returns-clause-moves : goal.returns-clause-moves
 returns-clause-moves c =
-    moved c.args.first.now (replicate {A = ℕ} 512 0) _ c.put_word.new.b c.put_long.new.b c.args.block c.requires (length-replicate {A = ℕ} 512 0)
-    (front_put (replicate {A = ℕ} 512 0) c.copy_from_slice.new.self 202 (omega arith) ∙ ap (put_at (replicate {A = ℕ} 512 0) 0) c.copy_from_slice.ensures.after)
+    moved c.args.first.now c.args.held.now _ c.put_word.new.b c.put_long.new.b c.args.block c.requires (omega arith)
+    (front_put c.args.held.now c.copy_from_slice.new.self 202 (omega arith) ∙ ap (put_at c.args.held.now 0) c.copy_from_slice.ensures.after)
     c.put_word.ensures c.put_long.ensures
 
 pub returns-clause-count : goal.returns-clause-count
