@@ -3,15 +3,15 @@ use Rattle.std.proofs.Common.{ℕ, ◌≡◌, ◌≢◌, ◌+◌, ◌*◌, ◌<�
 use Rattle.std.proofs.lemmas.Bool.{cases_eq}
 use Rattle.std.proofs.lemmas.Bool.Decides.{nat_tests}
 use Rattle.mb_word.specs.Numbers.{word_at, long_at, put_at, word_bytes, long_bytes, SameFrom}
-use Rattle.mb_word.specs.Fields.{nfree_of, free_of}
-use Rattle.mb_word.proofs.Writes.{put_at_same, length-put_at}
+use Rattle.mb_word.specs.Fields.{nfree_of, free_of, chain_count, chain_entry}
+use Rattle.mb_word.proofs.Parts.{get_or-part, length-part}
+use Rattle.mb_word.proofs.Writes.{put_at_in, put_at_same, length-put_at}
 use Rattle.mb_word.proofs.Values.{word_back, long_back, long_at-same, word_at-same, length-word_bytes, length-long_bytes}
+use Rattle.mb_layout.proofs.Steps.{Alike, alike_part, word_alike, long_alike}
 use Rattle.mb_tree.specs.Chain.{Listed}
 use Rattle.mb_iface.specs.Changed.{put_block}
 use Rattle.mb_iface.proofs.ChangedBlocks.{put_block_same, put_block_other}
 use Rattle.mb_blocks.specs.FreeLists.{IsSameList, pushed, ended, emptied, after_freeing}
-use Rattle.mb_alloc.proofs.Freeings.{freed_full}
-use Rattle.mb_alloc.proofs.Within.{length-take_drop}
 use Rattle.mb_file.specs.Freeing.{Hangs, MovesList}
 
 -- the list that a super-block's bytes hold
@@ -124,22 +124,87 @@ module _ (first ready one two : List ℕ) (count block : ℕ) (is : IsReady firs
         others = λ other apart beside. put_block_other blocks 1 two other apart;
       }
 
+-- ---- a full list, which moves into the block
+
+after_full : (it : Listed) (block : ℕ) → it.count ≡ 50 → after_freeing it block ≡ pushed emptied block
+unfolding after_freeing
+after_full it block full =
+    let t : nat_eq it.count 0 ≡ false = grind (arith, nat_tests) in
+    let u : nat_eq it.count 50 ≡ true = grind (arith, nat_tests) in
+    ap (λ b. pushed (cond b ended (cond (nat_eq it.count 50) emptied it)) block) t ∙ ap (λ b. pushed (cond b emptied it) block) u
+
 -- bytes copied over a list's front
 pub front_put : (b xs : List ℕ) (n : ℕ) → length xs ≡ n → xs ++ drop n b ≡ put_at b 0 xs
 unfolding put_at
 front_put b xs n long = ap (λ i. xs ++ drop i b) (omega (arith, long))
 
-pub count_one : (first one two : List ℕ) (block : ℕ) → length first ≡ 512 → one ≡ put_at first 6 (word_bytes 1) → two ≡ put_at one 8 (long_bytes block) → nfree_of two ≡ 1
-count_one first one two block long e1 e2 =
-    let w = length-word_bytes 1 in
-    let l = length-long_bytes block in
-    let s : length one ≡ 512 = ap length e1 ∙ length-put_at first 6 (word_bytes 1) (omega (arith, long, w)) ∙ long in
-    ap (λ b. word_at b 6) e2 ∙ word_at-same (put_at one 8 (long_bytes block)) one 6 (put_at_same one 8 (long_bytes block) 6 2 (omega (arith, s, l)) (inl (omega arith)))
-    ∙ ap (λ b. word_at b 6) e1 ∙ word_back first 6 1 (omega (arith, long)) (omega arith)
+module _ (first bytes held one two : List ℕ) (block : ℕ) (long : length first ≡ 512) (room : length bytes ≡ 512) (copied : held ≡ put_at bytes 0 (take 202 (drop 6 first)))
+    (e1 : one ≡ put_at first 6 (word_bytes 1)) (e2 : two ≡ put_at one 8 (long_bytes block)) where
+  abbrev part : List ℕ
+  part = take 202 (drop 6 first)
 
-pub moved : (first bytes held one two : List ℕ) (block : ℕ) → nfree_of first ≡ 50 → length bytes ≡ 512 → held ≡ put_at bytes 0 (take 202 (drop 6 first)) → one ≡ put_at first 6 (word_bytes 1) → two ≡ put_at one 8 (long_bytes block)
-    → MovesList first two held block
-moved first bytes held one two block full long e1 e2 e3 blocks here keeps real small =
-    freed_full blocks (put_block (put_block blocks block held) 1 two) (nfree_of first) block bytes held one two keeps (ap nfree_of (sym here)) full real small long
-    (e1 ∙ ap (λ b. put_at bytes 0 (take 202 (drop 6 b))) (sym here)) (length-take_drop (blocks 1) 202 6 (let l = keeps.sized 1 in omega (arith, l)))
-    (e2 ∙ ap (λ b. put_at b 6 (word_bytes 1)) (sym here)) e3 refl
+  long_part : length part ≡ 202
+  long_part = length-part first 6 202 (omega (arith, long))
+
+  one_long : length one ≡ 512
+  one_long = (let w = length-word_bytes 1 in ap length e1 ∙ length-put_at first 6 (word_bytes 1) (omega (arith, long, w)) ∙ long)
+
+  two_long : length two ≡ 512
+  two_long = (let l = length-long_bytes block in let s = one_long in ap length e2 ∙ length-put_at one 8 (long_bytes block) (omega (arith, s, l)) ∙ s)
+
+  held_long : length held ≡ 512
+  held_long = (let n = long_part in ap length copied ∙ length-put_at bytes 0 part (omega (arith, room, n)) ∙ room)
+
+  off_two : (from n : ℕ) → (from + n ≤ 8) ⊎ (12 ≤ from) → SameFrom two one from n
+  off_two from n away k low high =
+      let l = length-long_bytes block in
+      let s = one_long in
+      ap (λ b. get_or b k 0) e2 ∙ put_at_same one 8 (long_bytes block) from n (omega (arith, s, l)) (elim away [ inl a ↦ inl a | inr a ↦ inr (omega (arith, a, l)) ]) k low high
+
+  off_one : (from n : ℕ) → (from + n ≤ 6) ⊎ (12 ≤ from) → SameFrom two first from n
+  off_one from n away k low high =
+      let w = length-word_bytes 1 in
+      off_two from n (elim away [ inl a ↦ inl (omega (arith, a)) | inr a ↦ inr a ]) k low high ∙ ap (λ b. get_or b k 0) e1
+      ∙ put_at_same first 6 (word_bytes 1) from n (omega (arith, long, w)) (elim away [ inl a ↦ inl a | inr a ↦ inr (omega (arith, a, w)) ]) k low high
+
+  pub count_one : nfree_of two ≡ 1
+  count_one = word_at-same two one 6 (off_two 6 2 (inl (omega arith))) ∙ ap (λ b. word_at b 6) e1 ∙ word_back first 6 1 (omega (arith, long)) (omega arith)
+
+  block_alone : block < 262144 → IsSameList (listed_in two) (pushed emptied block)
+  block_alone small =
+      let s = one_long in
+      pushed_same (listed_in two) emptied emptied block (record { count = refl; entry = λ k below. refl }) count_one (ap (λ b. long_at b 8) e2 ∙ long_back one 8 block (omega (arith, s)) (omega (arith, small)))
+      (λ k below. absurd (omega (arith, below)))
+
+  held_alike : Alike held first 0 6 202
+  held_alike k below =
+      let n = long_part in
+      ap (λ b. get_or b (0 + k) 0) copied ∙ put_at_in bytes 0 part k (omega (arith, room, n)) (omega (arith, n, below)) ∙ get_or-part first 6 202 k below
+
+  list_held : nfree_of first ≡ 50 → IsSameList (record { count = chain_count held; entry = chain_entry held }) (listed_in first)
+  list_held full = record {
+    count = word_alike held first 0 6 (alike_part held first 0 6 202 0 2 held_alike (omega arith));
+    entry = λ k below.
+        ap (long_at held) (let e : 2 + 4 * k ≡ 0 + (2 + 4 * k) = omega arith in e)
+        ∙ long_alike held first (0 + (2 + 4 * k)) (6 + (2 + 4 * k)) (alike_part held first 0 6 202 (2 + 4 * k) 4 held_alike (omega (arith, below, full)))
+        ∙ ap (long_at first) (let e : 6 + (2 + 4 * k) ≡ 8 + 4 * k = omega arith in e);
+  }
+
+  pub moved : nfree_of first ≡ 50 → MovesList first two held block
+  moved full blocks here keeps real small =
+      let now : put_block (put_block blocks block held) 1 two 1 ≡ two = put_block_same (put_block blocks block held) 1 two in
+      let moved_to : put_block (put_block blocks block held) 1 two block ≡ held =
+      put_block_other (put_block blocks block held) 1 two block (omega (arith, real)) ∙ put_block_same blocks block held in
+      let after : after_freeing (listed_in (blocks 1)) block ≡ pushed emptied block = ap (λ b. after_freeing (listed_in b) block) here ∙ after_full (listed_in first) block full in
+      let s = two_long in
+      let h = held_long in
+      record {
+        list = subst (λ (b : List ℕ). IsSameList (listed_in b) (after_freeing (listed_in (blocks 1)) block)) (sym now) (subst (IsSameList (listed_in two)) (sym after) (block_alone small));
+        copied = λ _. subst (λ (b : List ℕ). IsSameList (record { count = chain_count b; entry = chain_entry b }) (listed_in (blocks 1))) (sym moved_to)
+            (subst (λ (b : List ℕ). IsSameList (record { count = chain_count held; entry = chain_entry held }) (listed_in b)) (sym here) (list_held full));
+        sized = ap length now ∙ s;
+        filled = ap length moved_to ∙ h;
+        front = λ k low high. ap (λ b. get_or b k 0) now ∙ off_one 0 6 (inl (omega arith)) k low high ∙ ap (λ b. get_or b k 0) (sym here);
+        back = λ k low high. ap (λ b. get_or b k 0) now ∙ off_one 208 304 (inr (omega arith)) k low high ∙ ap (λ b. get_or b k 0) (sym here);
+        others = λ other apart beside. put_block_other (put_block blocks block held) 1 two other apart ∙ put_block_other blocks block held other beside;
+      }

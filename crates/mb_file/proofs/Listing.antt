@@ -175,7 +175,7 @@ module _ (shown : ℕ → Option (List ℕ)) (changes : ChangeList) (address : �
 
   pub pushed_alone : (levels : ℕ) (before now : List ℕ) → levels ≡ 0 → now ≡ before ++ address ∷ [] → PushesUnder shown changes address levels before now walked.Done
   unfolding under_block
-  pushed_alone levels before now none is blocks part listable =
+  pushed_alone levels before now none is blocks _ listable =
       is ∙ ap (λ xs. before ++ xs) (sym (under_some (pointers (over blocks (changed changes))) levels address some ∙ ap (λ n. under_block (pointers (over blocks (changed changes))) n address) none))
 
 -- ---- the parts of one index block

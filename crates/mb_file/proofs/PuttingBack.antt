@@ -1,6 +1,7 @@
 -- Blocks put back on the free chain one after another.
-use Rattle.std.proofs.Common.{ℕ, suc, ◌≡◌, inl, inr, ◌+◌, ◌<◌, ◌≤◌, Bool, cond, nat_eq, Option, Some, IsSome, List, [], ◌∷◌, ◌++◌, length, take, drop, get_or, refl, sym, ap, subst, ◌∙◌, arith, drop-cons, take-suc}
+use Rattle.std.proofs.Common.{ℕ, suc, ◌≡◌, inl, inr, ◌+◌, ◌<◌, ◌≤◌, Bool, cond, nat_eq, Option, Some, None, IsSome, List, [], ◌∷◌, ◌++◌, length, take, drop, get_or, refl, sym, ap, subst, ◌∙◌, arith, drop-cons, take-suc}
 use Rattle.std.proofs.lemmas.Bool.{cases_eq}
+use Rattle.std.specs.Option.{option_or}
 use Rattle.std.proofs.lemmas.List.Elements.{All-head}
 use mathlib.Core.Path.{fun_ext}
 use Rattle.mb_word.specs.Fields.{nfree_of, ninode_of}
@@ -14,10 +15,9 @@ use Rattle.mb_blocks.proofs.Keeping.{sizes_same}
 use Rattle.mb_blocks.proofs.LaidRules.{laid_rules}
 use Rattle.mb_iface.specs.Changed.{ChangeList, changed, put_block, shown_over, IsWithinView}
 use Rattle.mb_iface.proofs.ChangedBlocks.{put_block_same, put_block_other}
-use Rattle.mb_iface.proofs.WithinViews.{found_within}
+use Rattle.mb_iface.proofs.WithinViews.{found_within, within_put}
 use Rattle.mb_alloc.specs.declared.frees.Hung.TheVariants as hung
 use Rattle.mb_alloc.proofs.Takings.{too_many}
-use Rattle.mb_alloc.proofs.Within.{in_view}
 use Rattle.mb_file.specs.Freeing.{AreInHand, Hangs, MovesList, PutsBack, PutsAllBack}
 
 -- one block more put back behind others
@@ -85,6 +85,11 @@ put_twice blocks one early late = fun_ext (λ other. elim (cases_eq other one) [
   | inr apart ↦ put_block_other (put_block blocks one early) one late other apart ∙ put_block_other blocks one early other apart ∙ sym (put_block_other blocks one late other apart)
 ])
 
+-- a block of a view is one under changes
+shown_still : (c s : Option (List ℕ)) → IsSome s → IsSome (option_or c s)
+shown_still None s some = some
+shown_still (Some bytes) s some = refl
+
 module _ (shown : ℕ → Option (List ℕ)) (old : ChangeList) (first after : List ℕ) (block : ℕ) where
   pub back_hung : Hangs first after block → PutsBack shown old old first after block hung.Done
   back_hung hangs = (
@@ -97,7 +102,7 @@ module _ (shown : ℕ → Option (List ℕ)) (old : ChangeList) (first after : L
   pub back_moved : (new : ChangeList) (held : List ℕ) → MovesList first after held block → IsSome (shown block) → ((other : ℕ) → changed new other ≡ cond (nat_eq block other) (Some held) (changed old other))
       → ((blocks : ℕ → List ℕ) → over blocks (changed new) ≡ put_block (over blocks (changed old)) block held) → PutsBack shown old new first after block hung.Done
   back_moved new held moves there each wrote = (
-    in_view shown old new block held each there,
+    within_put shown old new block held each (shown_still (changed old block) (shown block) there),
     λ blocks part keeps real small.
         (let now = over blocks (changed old) in
         let is : put_block (put_block (put_block now 1 first) block held) 1 after ≡ put_block (over blocks (changed new)) 1 after =
@@ -164,7 +169,7 @@ module _ (shown : ℕ → Option (List ℕ)) (old : ChangeList) (list : List ℕ
   pub put_all : (mid new : ChangeList) (first : List ℕ) (count : ℕ) → take count list ≡ list → IsSome (shown_over shown old 1) → ((other : ℕ) → changed new other ≡ cond (nat_eq 1 other) (Some first) (changed mid other))
       → ((blocks : ℕ → List ℕ) → over blocks (changed new) ≡ put_block (over blocks (changed mid)) 1 first) → HasPutBack shown old mid first list count → PutsAllBack shown old new list hung.Done
   put_all mid new first count all there each wrote was = (
-    λ w. in_view shown mid new 1 first each (found_within shown old 1 w there) (was.within w),
+    λ w. within_put shown mid new 1 first each (shown_still (changed mid 1) (shown 1) (found_within shown old 1 w there)) (was.within w),
     λ blocks has chain part are.
         subst (λ (b : ℕ → List ℕ). AreFreed (over blocks (changed old)) b list) (sym (wrote blocks))
         (subst (AreFreed (over blocks (changed old)) (put_block (over blocks (changed mid)) 1 first)) all (was.put blocks has chain part are).freed),

@@ -35,8 +35,9 @@ pub fn empty<V: View>(alloc: Global, view: &V, ino: u16, moment: u32) -> Acted
     }
 }
 
-/// Writes a regular file's inode as an empty file's, and puts its blocks back on the free chain. On any
-/// other answer than `Done` the changes are for letting go.
+/// Writes a regular file's inode as an empty file's, and puts its blocks back on the free chain. What that
+/// wants is asked for before anything is changed. On any other answer than `Done` the changes are for
+/// letting go.
 fn clear<V: View>(alloc: Global, view: &V, changes: &mut Changes, ino: u16, moment: u32) -> Hung
     ensures { Clears (V.shown view.now) changes.old changes.new ino moment result }
 {

@@ -31,7 +31,7 @@ pub fn erase<V: View>(alloc: Global, view: &V, changes: &mut Changes, ino: u16) 
 
 /// Erases an inode as `erase` does, without a promise of the changes on any other answer than `Done`:
 /// an operation makes them on changes of its own. It asks for block 1, the inode's block, and blocks
-/// that the inode holds.
+/// that the inode holds, before anything is changed.
 pub fn erase_in<V: View>(alloc: Global, view: &V, changes: &mut Changes, ino: u16) -> Hung
     ensures { Erases (V.shown view.now) changes.old changes.new ino result }
 {

@@ -14,7 +14,7 @@ use std::alloc::Global;
 
 /// Puts a block back on the free chain (V7 alloc(9), filsys(5)), on a copy of block 1's bytes: of the
 /// changes only the block itself is written, where it gets a full list, and it is asked for there. Block 0
-/// and one past 262,143 are no volume's, and get none.
+/// and one past 262,143, to which no inode of a volume leads, get none.
 fn put_back<V: View>(view: &V, changes: &mut Changes, first: &mut [u8; 512], block: u32) -> Hung
     requires { nfree_of first.old ≤ 50 }
     ensures back { PutsBack (V.shown view.now) changes.old changes.new first.old first.new block result }

@@ -20,9 +20,9 @@ pub(crate) enum Walked {
 /// The blocks that an inode holds.
 #[derive(Drop)]
 pub(crate) enum Collected {
-    /// All of them, each once: an index block, and then what stands under its addresses, the last first.
+    /// All of them, each once.
     Blocks(Vec<u32>),
-    /// The view lacks an index block.
+    /// The view lacks these blocks.
     Need(Need),
     /// Memory was wanted and not given.
     NoMemory,
@@ -127,8 +127,8 @@ fn lacking_index<V: View>(view: &V, changes: &Changes, address: u32, levels: u8)
     None
 }
 
-/// The blocks that an inode's thirteen addresses lead to, the last first. Its index blocks are asked for
-/// before any block is listed.
+/// The blocks that an inode's thirteen addresses lead to, the last first: an index block, and then what
+/// stands under its own. Index blocks are asked for before any block is listed.
 pub(crate) fn collect<V: View>(
     alloc: Global,
     view: &V,
