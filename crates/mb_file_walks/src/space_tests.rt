@@ -1,4 +1,4 @@
-use crate::volumes::{Ended, cost, empty_on, free, fresh, put_on, read_on, size};
+use crate::volumes::{Ended, cost, empty_on, erase_on, free, fresh, put_on, read_on, size};
 use mb_kinds::Errno;
 use std::test::Fail;
 
@@ -76,5 +76,30 @@ fn greatest_file_has_one_byte(rt: HostRuntime) -> Result<(), Fail> {
     );
     let _ = empty_on(rt.alloc(), &mut disk)?;
     assert_eq!(rt; (cost(&disk), free(&disk), size(&disk)), (1, 95, 0));
+    Ok(())
+}
+
+/// An erased file gives all back, too, and each block of it that is wanted is asked for before one is
+/// changed.
+#[test]
+fn erased_file_is_asked_for_first(rt: HostRuntime) -> Result<(), Fail> {
+    let mut disk = fresh(rt.alloc())?;
+    let bytes = vec![in rt.alloc(); 65; 48_128]?;
+    let _ = put_on(rt.alloc(), &mut disk, 0, &bytes)?;
+    erase_on(rt.alloc(), &mut disk)?;
+    assert_eq!(rt; (cost(&disk), free(&disk), size(&disk)), (1, 95, 0));
+    Ok(())
+}
+
+/// A list of the chain that counts more addresses than it has places for is on no volume, and stays.
+#[test]
+fn count_above_50_is_kept(rt: HostRuntime) -> Result<(), Fail> {
+    let mut disk = fresh(rt.alloc())?;
+    let _ = put_on(rt.alloc(), &mut disk, 0, &[65; 5000])?;
+    let _ = disk.blocks.patch(1, 6, &[51, 0]);
+    let before = disk.blocks.get(1).copied();
+    let _ = empty_on(rt.alloc(), &mut disk)?;
+    assert_eq!(rt; disk.blocks.get(1).copied() == before, true);
+    assert_eq!(rt; size(&disk), 0);
     Ok(())
 }

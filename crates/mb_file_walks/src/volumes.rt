@@ -1,6 +1,6 @@
-use mb_file::{empty, put, read};
+use mb_file::{Hung, empty, erase_in, put, read};
 use mb_gathering::{Gathered, SMALL, gather, nothing};
-use mb_iface::{Acted, Answer, Asked, View};
+use mb_iface::{Acted, Answer, Asked, Changes, View};
 use mb_kinds::{Errno, Octets};
 use mb_layout::Dinode;
 use mb_word::{long_at, word_at};
@@ -54,6 +54,28 @@ pub fn empty_on(heap: Global, disk: &mut Gathered) -> Result<Ended, Fail> {
         }
     }
     Err("an emptying asks too often".into())
+}
+
+/// Erases inode 3, from a view of nothing. As long as it asks it has changed no block.
+pub fn erase_on(heap: Global, disk: &mut Gathered) -> Result<(), Fail> {
+    let mut view = nothing(heap);
+    for _ in 0..400 {
+        let mut changes = Changes::new(heap);
+        match erase_in(heap, &view, &mut changes, 3) {
+            Hung::Done => {
+                disk.blocks.absorb(changes)?;
+                return Ok(());
+            }
+            Hung::Need(need) => {
+                if changes.len() > 0 {
+                    return Err("a block is changed before all are asked for".into());
+                }
+                gather(disk, &mut view, need)?;
+            }
+            Hung::NoMemory => return Err("no memory".into()),
+        }
+    }
+    Err("an erasure asks too often".into())
 }
 
 /// Reads bytes of inode 3, from a view of nothing.
