@@ -129,11 +129,7 @@ fn agrees(cache: &mut Cache<MemDisk>, plain: &Plain) -> bool {
 }
 
 // Moves both, and then writes every page back. Returns the number of the first move after which they differ.
-fn walk(
-    alloc: Global,
-    cache: &mut Cache<MemDisk>,
-    plain: &mut Plain,
-) -> Result<Option<u32>, Fail> {
+fn walk(alloc: Global, cache: &mut Cache<MemDisk>, plain: &mut Plain) -> Result<Option<u32>, Fail> {
     let mut random = Pcg32::new(42, 54);
     for number in 0..MOVES {
         let answered = step(alloc, cache, plain, &mut random)?;
