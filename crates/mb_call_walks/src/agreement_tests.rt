@@ -2,7 +2,7 @@ use crate::benches::Answered;
 use crate::draws::Draws;
 use crate::pairs::Pair;
 use crate::tallies::Tally;
-use crate::volumes::{SMALL, Size};
+use mb_gathering::{SMALL, Size};
 use mb_kinds::{Cred, Creds};
 use std::alloc::Global;
 use std::test::Fail;
@@ -20,7 +20,7 @@ fn agrees(heap: Global, draws: &mut Draws, pair: &mut Pair, moment: u32) -> Resu
     pair.call(caller, &call, moment)
 }
 
-/// After every hundredth of them the image shows the model's tree, and the checker finds no fault in the last.
+/// After every tenth of them the image shows the model's tree, and the checker finds no fault in the last.
 #[test]
 fn random_calls_are_answered_as_the_model_answers(rt: HostRuntime) -> Result<(), Fail> {
     let heap = rt.alloc();
@@ -28,7 +28,7 @@ fn random_calls_are_answered_as_the_model_answers(rt: HostRuntime) -> Result<(),
     let mut pair = pair(heap, SMALL)?;
     for moment in 1..100_001 {
         agrees(heap, &mut draws, &mut pair, moment)?;
-        if moment % 100 == 0 {
+        if moment % 10 == 0 {
             pair.shows_the_tree()?;
         }
     }
@@ -36,7 +36,7 @@ fn random_calls_are_answered_as_the_model_answers(rt: HostRuntime) -> Result<(),
 }
 
 /// After each operation on a tree that grew by the calls before, the image shows the tree that the model has then, and the
-/// checker finds no fault in every hundredth. There are 2,000, some of each kind.
+/// checker finds no fault in every hundredth. There are 10,000, some of each kind.
 #[test]
 fn random_operations_leave_the_tree_that_the_model_has(rt: HostRuntime) -> Result<(), Fail> {
     let heap = rt.alloc();
@@ -47,7 +47,7 @@ fn random_operations_leave_the_tree_that_the_model_has(rt: HostRuntime) -> Resul
     };
     let mut pair = pair(heap, size)?;
     let mut tally = Tally::new();
-    for moment in 1..100_001 {
+    for moment in 1..200_001 {
         let Answered { op, .. } = agrees(heap, &mut draws, &mut pair, moment)?;
         if let Some(op) = &op {
             pair.shows_the_tree()?;
@@ -56,11 +56,11 @@ fn random_operations_leave_the_tree_that_the_model_has(rt: HostRuntime) -> Resul
                 pair.is_sound()?;
             }
         }
-        if tally.total() == 2_000 {
+        if tally.total() == 10_000 {
             break;
         }
     }
-    assert_eq!(rt; tally.total(), 2_000);
+    assert_eq!(rt; tally.total(), 10_000);
     assert!(rt; tally.least() >= 10);
     Ok(())
 }

@@ -3,10 +3,10 @@ ghost use Rattle.mb_calls.specs.Following.{ViewGrows};
 ghost use Rattle.mb_iface.specs.Changed.{changed};
 ghost use Rattle.mb_tree.specs.Sessions.{HasDescriptorInRange};
 
-use crate::volumes::{Gathered, SMALL, Size, disk_of, fresh, gather, nothing};
 use mb_calls::{Performed, Performing, Ready, perform, walks_go_on};
 use mb_edge::MemDisk;
 use mb_fsops::V7;
+use mb_gathering::{Gathered, SMALL, Size, disk_of, fresh, gather, nothing};
 use mb_iface::Opens;
 use mb_kinds::{Call, Cred, Creds, Reply};
 use mb_tables::Tables;
@@ -85,9 +85,7 @@ impl Bench {
     }
 
     /// The blocks of the volume.
-    pub fn volume(&self) -> &Gathered
-        ensures { result.now ≡ self.now.disk }
-    {
+    pub fn volume(&self) -> &Gathered {
         &self.disk
     }
 

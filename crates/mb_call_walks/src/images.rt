@@ -1,6 +1,6 @@
 use crate::fields::{address, bytes, long, word};
-use crate::marks::Marks;
-use crate::volumes::{Gathered, block_of};
+use crate::marks::{Marks, block_of};
+use mb_gathering::Gathered;
 use mb_tree::{Body, Node, Nodes, Parts, PlainSlot, PlainSlots, Tree};
 use std::alloc::Global;
 use std::test::Fail;

@@ -28,5 +28,3 @@ mod pairs;
 mod tables;
 #[cfg(test)]
 mod tallies;
-#[cfg(test)]
-mod volumes;

@@ -1,7 +1,16 @@
 use crate::fields::{long, word};
-use crate::volumes::{Gathered, block_of};
+use mb_gathering::Gathered;
+use mb_iface::View;
 use std::alloc::Global;
 use std::test::Fail;
+
+/// The block of that number.
+pub fn block_of(volume: &Gathered, number: u32) -> Result<[u8; 512], Fail> {
+    match volume.get(number) {
+        Some(block) => Ok(*block),
+        None => Err("a block is not there".into()),
+    }
+}
 
 /// The blocks of a volume's files, which are those from the i-list's end to the volume's, and which of them something was
 /// found to hold.

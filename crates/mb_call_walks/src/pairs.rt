@@ -1,9 +1,9 @@
 use crate::benches::{Answered, Bench};
 use crate::images::shown_tree;
-use crate::volumes::Size;
 use mb_calls::Performed;
 use mb_check::sound;
 use mb_check_tree::machine;
+use mb_gathering::Size;
 use mb_kinds::{Call, Creds, Reply};
 use mb_model_walks::tree_difference;
 use mb_tree::Machine;

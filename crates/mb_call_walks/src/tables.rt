@@ -1,5 +1,5 @@
 use crate::pairs::Pair;
-use crate::volumes::SMALL;
+use mb_gathering::SMALL;
 use mb_jobs::{Job, job_of};
 use mb_kinds::{Creds, Entry};
 use mb_print::transcript;
