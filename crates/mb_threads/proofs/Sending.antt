@@ -11,6 +11,7 @@ use Rattle.mb_volume.specs.contracts.volume.Volume.{the_row as volume_row}
 use Rattle.mb_cache.proofs.caches.Cache.TheSendSync.{the_send as cache_send}
 use Rattle.mb_tables.proofs.tables.Tables.TheSendSync.{the_send as tables_send}
 use Rattle.mb_journal.proofs.journals.Journal.TheSendSync.{the_send as journal_send}
+use Rattle.mb_callers.proofs.blocks.Blocks.TheSendSync.{the_send as blocks_send}
 use Rattle.mb_callers.proofs.callers.Callers.TheSendSync.{the_send as callers_send}
 use Rattle.mb_jobs.proofs.jobs.JobCall.TheSendSync.{the_sync as call_syncs}
 use Rattle.std.specs.declared.clone.Clone.{Ghosts as CloneGhosts}
@@ -19,7 +20,7 @@ use Rattle.mb_turn.proofs.Sending.{pass_send, turn_sync}
 use Rattle.mb_threads.specs.contracts.worker.Worker.{the_row as worker_row}
 
 pub fields_send : (F D : RattleType) (g : DiskGhosts D.Denot) → IsSend F → IsSend D → IsSend (fields_row F D g)
-fields_send F D g code disk = search (sendable, crosses, cache_send, tables_send, journal_send, callers_send) depth 60 fits 20000
+fields_send F D g code disk = search (sendable, crosses, cache_send, tables_send, journal_send, callers_send, blocks_send) depth 60 fits 20000
 
 pub core_send : (F D : RattleType) (g : DiskGhosts D.Denot) → IsSend F → IsSend D → IsSend (core_row F D g)
 core_send F D g code disk = search (sendable, crosses, fields_send) depth 60
