@@ -1,3 +1,5 @@
+ghost use Rattle.std.specs.Prelude.{◌<◌};
+
 use crate::plain::{BLOCKS, FAILING, Page, Plain, put};
 use mb_cache::{Cache, Flushed};
 use mb_edge::{Bytes, Damage, Fails, MemDisk, Stroke};
@@ -32,7 +34,9 @@ fn over_disk(alloc: Global) -> Result<Cache<MemDisk>, Fail> {
     }
 }
 
-fn random_page(random: &mut Pcg32) -> Page {
+fn random_page(random: &mut Pcg32) -> Page
+    ensures { result.block < 12 }
+{
     Page {
         block: random.next_word() % BLOCKS,
         byte: (random.next_word() % 256) as u8,
