@@ -1,4 +1,4 @@
-use Rattle.std.proofs.Common.{◌≡◌, ◌+◌, ◌-◌, inl, inr, sym, subst, arith}
+use Rattle.std.proofs.Common.{◌≡◌, ◌+◌, ◌-◌, inl, sym, subst, arith}
 use Rattle.std.specs.List.{Contains}
 use Rattle.mb_tree.specs.Blocks.{pointers}
 use Rattle.mb_tree.specs.Views.{over}
