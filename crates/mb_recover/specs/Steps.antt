@@ -3,6 +3,7 @@ use Rattle.std.specs.Prelude.{List, ℕ, ◌+◌, ◌<◌, ◌≤◌, ◌≡◌,
 use Rattle.mb_kinds.specs.Image.{Image}
 use Rattle.mb_kinds.specs.declared.faults.Kind.{Kind}
 use Rattle.mb_kinds.specs.declared.faults.Kind.TheVariants.{Remount, Replay}
+use Rattle.mb_edge.specs.Causes.{Rose}
 use Rattle.mb_edge.specs.Crossings.{next_nth, place_of}
 use Rattle.mb_edge.specs.declared.crossings.Crossing.{Crossing}
 use Rattle.mb_edge.specs.declared.crossings.Crossings.{Crossings}
@@ -124,3 +125,15 @@ abbrev pub IsUnheard : Option (Crossing → Bool) → Option Crossing → Option
 IsUnheard test struck (Some by) stepped.Remounted = (struck ≡ None) × IsUnfired test Remount by
 IsUnheard test struck (Some by) (stepped.Replayed number) = (struck ≡ None) × IsUnfired test Replay by
 IsUnheard test struck by answer = Unit {0}
+
+-- a fault struck in the step: the recovery begins anew, or is given up elsewhere than where the dirty pages are to be dropped
+abbrev pub was_struck : Stepped → Phase → Bool
+was_struck (stepped.Again faults) phase = true
+was_struck (stepped.Failed faults) phase.Drop = false
+was_struck (stepped.Failed faults) _ = true
+was_struck _ phase = false
+
+-- the hook's count of faults never falls, and a fault strikes only where it rose in that step
+pub record HasStruckCause (phase : Phase) (before now : ℕ) (answer : Stepped) : Type 0 where
+  pub later : before ≤ now
+  pub struck : was_struck answer phase ≡ true → Rose before now

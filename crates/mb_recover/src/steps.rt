@@ -1,6 +1,7 @@
 ghost use Rattle.std.specs.Prelude.{◌≡◌, ◌≤◌, ◌⊎◌, true, None, Some, IfSome, length};
-ghost use Rattle.mb_recover.specs.Steps.{CountsAt, Drops, IsMet, IsStruck, IsUnfired, IsUnheard, PassesLimit, Recovers, Remounts, Replays, RunsFor, caller_of, counted_if, next_if};
+ghost use Rattle.mb_recover.specs.Steps.{CountsAt, Drops, HasStruckCause, IsMet, IsStruck, IsUnfired, IsUnheard, PassesLimit, Recovers, Remounts, Replays, RunsFor, caller_of, counted_if, next_if};
 ghost use Rattle.mb_core_events.specs.Callings.{HasCall, MayMeetFault, phase_now};
+ghost use Rattle.mb_edge.specs.Causes.{Rose};
 ghost use Rattle.mb_edge.specs.declared.crossings.Crossings.{Crossings};
 
 use mb_cache::ReadFault;
@@ -40,7 +41,8 @@ pub enum Stepped {
 
 /// Makes the next step of a recovery. `by` holds the crossings of the call that runs the step, which is in flight and has
 /// no entry; where it is `None` no hook is asked. The start of the file system and each operation that is done again are
-/// fault points: there the hook is asked first, at the next crossing of that kind.
+/// fault points: there the hook is asked first, at the next crossing of that kind. Its count of faults never falls, and rose
+/// where the recovery was struck.
 pub fn recover_step<F: FileSys, D: Disk, H: Hook>(
     alloc: Global,
     core: &mut Core<F, D>,
@@ -52,6 +54,7 @@ pub fn recover_step<F: FileSys, D: Disk, H: Hook>(
     ensures later { D.faults core.old.cache.disk ≤ D.faults core.new.cache.disk }
     ensures counted { CountsAt (phase_now core.old) by.old by.new }
     ensures heard { IsUnheard (H.test hook.old) (H.struck hook.new) by.old result }
+    ensures cause { HasStruckCause (phase_now core.old) (H.faults hook.old) (H.faults hook.new) result }
     ensures test { H.test hook.new ≡ H.test hook.old }
 {
     match core.phase() {
@@ -100,6 +103,7 @@ fn remount<F: FileSys, D: Disk, H: Hook>(
     ensures later { D.faults core.old.cache.disk ≤ D.faults core.new.cache.disk }
     ensures counted { by.new ≡ counted_if Kind.Remount by.old }
     ensures heard { IsUnheard (H.test hook.old) (H.struck hook.new) by.old result }
+    ensures cause { HasStruckCause (phase_now core.old) (H.faults hook.old) (H.faults hook.new) result }
     ensures test { H.test hook.new ≡ H.test hook.old }
 {
     if let Some(at) = meets(by, hook, Kind::Remount) {
@@ -127,6 +131,7 @@ fn replay<F: FileSys, D: Disk, H: Hook>(
     ensures later { D.faults core.old.cache.disk ≤ D.faults core.new.cache.disk }
     ensures counted { by.new ≡ counted_if Kind.Replay by.old }
     ensures heard { IsUnheard (H.test hook.old) (H.struck hook.new) by.old result }
+    ensures cause { HasStruckCause (phase_now core.old) (H.faults hook.old) (H.faults hook.new) result }
     ensures test { H.test hook.new ≡ H.test hook.old }
 {
     if let Some(at) = meets(by, hook, Kind::Replay) {
@@ -164,6 +169,8 @@ fn meets<H: Hook>(by: &mut Option<Crossings>, hook: &mut H, kind: Kind) -> Optio
     ensures tested { IfSome result (λ at. IfSome (H.test hook.old) (λ fires. fires at ≡ true)) }
     ensures heard { IfSome by.old (λ (passed : Crossings). H.struck hook.new ≡ result) }
     ensures unfired { result ≡ None → IfSome by.old (λ (passed : Crossings). IsUnfired (H.test hook.old) kind passed) }
+    ensures later { H.faults hook.old ≤ H.faults hook.new }
+    ensures rose { IfSome result (λ at. Rose (H.faults hook.old) (H.faults hook.new)) }
     ensures test { H.test hook.new ≡ H.test hook.old }
 {
     let Some(mut crossings) = *by else {
