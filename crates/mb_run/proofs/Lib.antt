@@ -29,6 +29,7 @@ pub mod Listing
 pub mod InOrder
 pub mod Indexed
 pub mod Resting
+pub mod Rising
 pub mod Planned
 pub mod Completing
 pub mod Beginning

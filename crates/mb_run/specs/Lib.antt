@@ -4,6 +4,7 @@ pub mod Sights
 pub mod CoreSight
 pub mod Events
 pub mod Recovering
+pub mod Rising
 pub mod Lengths
 pub mod Firsts
 pub mod Served

@@ -7,6 +7,7 @@ ghost use Rattle.mb_run.specs.Events.{Enters, FaultsWith, Finishes, FlushesWith,
 ghost use Rattle.mb_run.specs.Lengths.{Stands};
 ghost use Rattle.mb_run.specs.Pages.{HasTablesFor, Performs, has};
 ghost use Rattle.mb_run.specs.Recovering.{GoOn, RunsFor, Steps};
+ghost use Rattle.mb_run.specs.Rising.{RisesWith};
 ghost use Rattle.mb_run.specs.Served.{MayEnter};
 ghost use Rattle.mb_run.specs.Sights.{HasTicket, IsOrderly, IsTicketOf, IsWaiting, Sight, limits_of};
 
@@ -118,7 +119,7 @@ pub trait EventCore {
         ensures right { IsOrderly (sight self.new) };
 
     /// One step of a recovery, run by a call in flight without an entry, whose crossings `by` has, or by nobody; the
-    /// fault injector is asked for a call alone.
+    /// fault injector is asked for a call alone, and its count of faults rose where a fault record came.
     fn recover_step<H: Hook>(
         &mut self,
         alloc: Global,
@@ -130,6 +131,7 @@ pub trait EventCore {
         ensures on { GoOn by.old by.new }
         ensures test { H.test hook.new ≡ H.test hook.old }
         ensures steps { Steps (H.test hook.old) by.old by.new (sight self.old) (sight self.new) result }
+        ensures rises { RisesWith (H.faults hook.old) (H.faults hook.new) (sight self.old).records (sight self.new).records }
         ensures device { result ≡ stepped.Device → Rose (faults self.old) (faults self.new) }
         ensures stands { result ≡ stepped.Device → Stands (sight self.old) (sight self.new) }
         ensures later { faults self.old ≤ faults self.new }
