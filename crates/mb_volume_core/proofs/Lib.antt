@@ -9,4 +9,5 @@ pub mod Freshness
 pub mod Gathering
 pub mod Finishing
 pub mod Recovering
+pub mod Rising
 pub mod Sealing

@@ -7,6 +7,7 @@ use Rattle.mb_run.specs.declared.answers.Stepped.TheVariants as stepped
 use Rattle.mb_run.proofs.InTime.{if_some_at, steps_time}
 use Rattle.mb_volume_core.proofs.Orderly.{orderly}
 use Rattle.mb_volume_core.proofs.Recovering.{comes, goes_on, has_for, rose_at, stands_at}
+use Rattle.mb_volume_core.proofs.Rising.{rises}
 use Rattle.mb_volume_core.proofs.volume_core.VolumeCoreEventCore.recover_step.Goals as goal
 
 pub recover_step-stepped-requires : goal.recover_step-stepped-requires
@@ -33,6 +34,12 @@ returns-clause-device g c = λ is. rose_at g.D.Disk.told g.D.Disk.faults c.args.
 pub returns-clause-stands : goal.returns-clause-stands
 returns-clause-stands g c = λ is. stands_at g.D.Disk.faults c.args.self.now.core c.recover_step-stepped.new.core g.D.Disk.told c.args.by.now (g.H.Hook.test c.args.hook.now) (g.H.Hook.strokes c.recover_step-stepped.new.hook) c.recover_step-stepped.result
     (has_for c.args.self.now.core c.args.by.now c.requires.by) c.recover_step-stepped.ensures.recovers (sym c.stepped_as.ensures ∙ is)
+
+pub returns-clause-rises : goal.returns-clause-rises
+returns-clause-rises g c =
+    let steps = subst (λ (answer : Stepped). Steps (g.H.Hook.test c.args.hook.now) c.args.by.now c.recover_step-stepped.new.by (sight_of c.args.self.now.core) (sight_of c.recover_step-stepped.new.core) answer) c.stepped_as.ensures (returns-clause-steps g c) in
+    rises g.D.Disk.told g.D.Disk.faults c.args.self.now.core c.recover_step-stepped.new.core c.args.by.now c.recover_step-stepped.new.by (g.H.Hook.test c.args.hook.now) (g.H.Hook.strokes c.recover_step-stepped.new.hook) _ _ c.recover_step-stepped.result
+    c.requires.by c.recover_step-stepped.ensures.recovers steps c.recover_step-stepped.ensures.cause
 
 pub returns-clause-right : goal.returns-clause-right
 returns-clause-right g c =
