@@ -8,6 +8,7 @@ pub mod Rolled
 pub mod Replies
 pub mod Pairs
 pub mod Telling
+pub mod Rising
 pub mod Holding
 pub mod Quitting
 pub mod Calling

@@ -4,3 +4,4 @@ pub mod Parts
 pub mod Called
 pub mod Underway
 pub mod Passing
+pub mod Rising

@@ -1,9 +1,12 @@
 ghost use Rattle.std.specs.Prelude.{◌≡◌, ◌<◌, ◌≤◌, true};
 ghost use Rattle.mb_calls.specs.declared.performing.Performed.TheVariants as performed;
+ghost use Rattle.mb_edge.specs.declared.hooks.Word.TheVariants as word;
 ghost use Rattle.mb_run.specs.Pages.{Performs, has};
+ghost use Rattle.mb_run.specs.Rising.{RisesWith};
 ghost use Rattle.mb_run.specs.Sights.{IsOrderly, IsWaiting};
 ghost use Rattle.mb_run.specs.declared.runner.At.TheVariants as at;
 ghost use Rattle.mb_volume.specs.Parts.{Moves, part_of};
+ghost use Rattle.mb_volume.specs.Rising.{RisesAfter, word_for};
 ghost use Rattle.mb_volume.specs.Underway.{Goes, GoesUnasked, HoldsTicket, IsMet, IsOn, MayCome, rolled};
 
 use crate::attempt::Attempt;
@@ -57,6 +60,7 @@ fn enter<C: EventCore>(alloc: Global, core: &mut C, attempt: &mut Attempt, call:
     ensures goes { GoesUnasked call.now (part_of (C.sight core.old) attempt.old.crossings.caller) (part_of (C.sight core.new) attempt.old.crossings.caller) attempt.old attempt.new result }
     ensures same { attempt.new.crossings.caller ≡ attempt.old.crossings.caller }
     ensures moves { Moves attempt.old.crossings.caller (C.sight core.old) (C.sight core.new) }
+    ensures still { (C.sight core.new).records ≡ (C.sight core.old).records }
     ensures origin { C.origin core.new ≡ C.origin core.old }
     ensures right { IsOrderly (C.sight core.new) }
 {
@@ -89,6 +93,7 @@ fn gather<C: EventCore>(
     ensures goes { GoesUnasked call.now (part_of (C.sight core.old) attempt.old.crossings.caller) (part_of (C.sight core.new) attempt.old.crossings.caller) attempt.old attempt.new result }
     ensures same { attempt.new.crossings.caller ≡ attempt.old.crossings.caller }
     ensures moves { Moves attempt.old.crossings.caller (C.sight core.old) (C.sight core.new) }
+    ensures still { (C.sight core.new).records ≡ (C.sight core.old).records }
     ensures origin { C.origin core.new ≡ C.origin core.old }
     ensures right { IsOrderly (C.sight core.new) }
 {
@@ -121,6 +126,7 @@ fn finish<C: EventCore>(
     ensures goes { GoesUnasked call.now (part_of (C.sight core.old) attempt.old.crossings.caller) (part_of (C.sight core.new) attempt.old.crossings.caller) attempt.old attempt.new result }
     ensures same { attempt.new.crossings.caller ≡ attempt.old.crossings.caller }
     ensures moves { Moves attempt.old.crossings.caller (C.sight core.old) (C.sight core.new) }
+    ensures still { (C.sight core.new).records ≡ (C.sight core.old).records }
     ensures origin { C.origin core.new ≡ C.origin core.old }
     ensures right { IsOrderly (C.sight core.new) }
 {
@@ -154,6 +160,7 @@ fn leave<C: EventCore>(core: &mut C, attempt: &mut Attempt, call: &Call, ticket:
     ensures goes { GoesUnasked call.now (part_of (C.sight core.old) attempt.old.crossings.caller) (part_of (C.sight core.new) attempt.old.crossings.caller) attempt.old attempt.new result }
     ensures same { attempt.new.crossings.caller ≡ attempt.old.crossings.caller }
     ensures moves { Moves attempt.old.crossings.caller (C.sight core.old) (C.sight core.new) }
+    ensures still { (C.sight core.new).records ≡ (C.sight core.old).records }
     ensures origin { C.origin core.new ≡ C.origin core.old }
     ensures right { IsOrderly (C.sight core.new) }
 {
@@ -184,6 +191,7 @@ fn fault<C: EventCore, H: Hook>(
     ensures goes { Goes call.now (H.test hook.now) (part_of (C.sight core.old) attempt.old.crossings.caller) (part_of (C.sight core.new) attempt.old.crossings.caller) attempt.old attempt.new result }
     ensures same { attempt.new.crossings.caller ≡ attempt.old.crossings.caller }
     ensures moves { Moves attempt.old.crossings.caller (C.sight core.old) (C.sight core.new) }
+    ensures rises { RisesAfter word.Fault (H.faults hook.now) (H.faults hook.now) (C.sight core.old).records (C.sight core.new).records }
     ensures origin { C.origin core.new ≡ C.origin core.old }
     ensures right { IsOrderly (C.sight core.new) }
 {
@@ -220,6 +228,7 @@ fn recover<C: EventCore, H: Hook>(
     ensures goes { Goes call.now (H.test hook.old) (part_of (C.sight core.old) attempt.old.crossings.caller) (part_of (C.sight core.new) attempt.old.crossings.caller) attempt.old attempt.new result }
     ensures same { attempt.new.crossings.caller ≡ attempt.old.crossings.caller }
     ensures moves { Moves attempt.old.crossings.caller (C.sight core.old) (C.sight core.new) }
+    ensures rises { RisesWith (H.faults hook.old) (H.faults hook.new) (C.sight core.old).records (C.sight core.new).records }
     ensures test { H.test hook.new ≡ H.test hook.old }
     ensures origin { C.origin core.new ≡ C.origin core.old }
     ensures right { IsOrderly (C.sight core.new) }
@@ -246,6 +255,7 @@ pub(crate) fn act<C: EventCore, H: Hook>(
     ensures goes { Goes call.now (H.test hook.old) (part_of (C.sight core.old) attempt.old.crossings.caller) (part_of (C.sight core.new) attempt.old.crossings.caller) attempt.old attempt.new result }
     ensures same { attempt.new.crossings.caller ≡ attempt.old.crossings.caller }
     ensures moves { Moves attempt.old.crossings.caller (C.sight core.old) (C.sight core.new) }
+    ensures rises { RisesAfter (word_for event) (H.faults hook.old) (H.faults hook.new) (C.sight core.old).records (C.sight core.new).records }
     ensures test { H.test hook.new ≡ H.test hook.old }
     ensures origin { C.origin core.new ≡ C.origin core.old }
     ensures right { IsOrderly (C.sight core.new) }

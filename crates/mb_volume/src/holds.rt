@@ -1,12 +1,14 @@
 ghost use Rattle.std.specs.Prelude.{◌≡◌, ◌<◌, ◌≤◌, true, false, IfNone, IfSome};
 ghost use Rattle.mb_calls.specs.declared.performing.Performed.TheVariants as performed;
 ghost use Rattle.mb_run.specs.Pages.{Performs, has};
+ghost use Rattle.mb_run.specs.Rising.{RisesWith};
 ghost use Rattle.mb_run.specs.Served.{counted};
 ghost use Rattle.mb_run.specs.Sights.{IsWaiting};
 ghost use Rattle.mb_run.specs.declared.runner.At.TheVariants as at;
 ghost use Rattle.mb_turn.specs.Passes.{IsIdle};
 ghost use Rattle.mb_volume.specs.Attempts.{new_attempt};
 ghost use Rattle.mb_volume.specs.Passing.{IsLater, IsMaking, part_in};
+ghost use Rattle.mb_volume.specs.Rising.{RisesAfter, word_for};
 ghost use Rattle.mb_volume.specs.Underway.{HoldsTicket, IsLeftOff, Leads, MayCome};
 
 use crate::attempt::Attempt;
@@ -63,6 +65,7 @@ impl<F: FileSys, D: Disk> Volume<F, D> {
         ensures later { IsLater self.now.table pass.old pass.new }
         ensures leads { Leads call.now (H.test hook.old) (part_in pass.old) (part_in pass.new) attempt.old attempt.new result.0 }
         ensures same { attempt.new.crossings.caller ≡ attempt.old.crossings.caller }
+        ensures rises { RisesAfter (word_for event) (H.faults hook.old) (H.faults hook.new) (part_in pass.old).struck (part_in pass.new).struck }
         ensures test { H.test hook.new ≡ H.test hook.old }
     {
         let mut shared = self.turn.take(rt, pass);
@@ -93,6 +96,7 @@ impl<F: FileSys, D: Disk> Volume<F, D> {
         ensures later { IsLater self.now.table pass.old pass.new }
         ensures leads { IfSome result (Leads call.now (H.test hook.old) (part_in pass.old) (part_in pass.new) attempt.old attempt.new) }
         ensures same { attempt.new.crossings.caller ≡ attempt.old.crossings.caller }
+        ensures rises { RisesWith (H.faults hook.old) (H.faults hook.new) (part_in pass.old).struck (part_in pass.new).struck }
         ensures test { H.test hook.new ≡ H.test hook.old }
     {
         let mut passed = attempt.crossings;
@@ -111,6 +115,7 @@ impl<F: FileSys, D: Disk> Volume<F, D> {
     }
 
     /// The call enters; where it is inside, the fault injector is asked.
+    #[tactic(auto, using(crate::proofs::Rising::rises_unasked))]
     fn enter<H: Hook, R: Wait>(
         &self,
         rt: &R,
@@ -126,6 +131,7 @@ impl<F: FileSys, D: Disk> Volume<F, D> {
         ensures later { IsLater self.now.table pass.old pass.new }
         ensures leads { Leads call.now (H.test hook.old) (part_in pass.old) (part_in pass.new) attempt.old attempt.new result }
         ensures same { attempt.new.crossings.caller ≡ attempt.old.crossings.caller }
+        ensures rises { RisesWith (H.faults hook.old) (H.faults hook.new) (part_in pass.old).struck (part_in pass.new).struck }
         ensures test { H.test hook.new ≡ H.test hook.old }
     {
         let (came, _) = self.hold(rt, alloc, pass, hook, attempt, call, Event::Enter);
@@ -160,6 +166,7 @@ impl<F: FileSys, D: Disk> Volume<F, D> {
         ensures later { IsLater self.now.table pass.old pass.new }
         ensures leads { Leads call.now (H.test hook.old) (part_in pass.old) (part_in pass.new) attempt.old attempt.new result.0 }
         ensures same { attempt.new.crossings.caller ≡ attempt.old.crossings.caller }
+        ensures rises { RisesWith (H.faults hook.old) (H.faults hook.new) (part_in pass.old).struck (part_in pass.new).struck }
         ensures test { H.test hook.new ≡ H.test hook.old }
     {
         match self.ask(rt, alloc, pass, hook, attempt, call, ticket, Kind::Gather) {
@@ -191,6 +198,7 @@ impl<F: FileSys, D: Disk> Volume<F, D> {
         ensures later { IsLater self.now.table pass.old pass.new }
         ensures leads { Leads call.now (H.test hook.old) (part_in pass.old) (part_in pass.new) attempt.old attempt.new result }
         ensures same { attempt.new.crossings.caller ≡ attempt.old.crossings.caller }
+        ensures rises { RisesWith (H.faults hook.old) (H.faults hook.new) (part_in pass.old).struck (part_in pass.new).struck }
         ensures test { H.test hook.new ≡ H.test hook.old }
     {
         if !attempt.asked {
@@ -222,6 +230,7 @@ impl<F: FileSys, D: Disk> Volume<F, D> {
         ensures later { IsLater self.now.table pass.old pass.new }
         ensures leads { Leads call.now (H.test hook.old) (part_in pass.old) (part_in pass.new) attempt.old attempt.new result }
         ensures same { attempt.new.crossings.caller ≡ attempt.old.crossings.caller }
+        ensures rises { RisesWith (H.faults hook.old) (H.faults hook.new) (part_in pass.old).struck (part_in pass.new).struck }
         ensures test { H.test hook.new ≡ H.test hook.old }
     {
         match self.ask(rt, alloc, pass, hook, attempt, call, ticket, Kind::Leave) {
@@ -234,6 +243,7 @@ impl<F: FileSys, D: Disk> Volume<F, D> {
 
     /// The call, which is inside, is performed over what it gathered, outside the turn, and finishes, or it gathers what
     /// is not there yet.
+    #[tactic(auto, using(crate::proofs::Rising::rises_same))]
     fn go_on<H: Hook, R: Wait>(
         &self,
         rt: &R,
@@ -251,6 +261,7 @@ impl<F: FileSys, D: Disk> Volume<F, D> {
         ensures later { IsLater self.now.table pass.old pass.new }
         ensures leads { Leads call.now (H.test hook.old) (part_in pass.old) (part_in pass.new) attempt.old attempt.new result }
         ensures same { attempt.new.crossings.caller ≡ attempt.old.crossings.caller }
+        ensures rises { RisesWith (H.faults hook.old) (H.faults hook.new) (part_in pass.old).struck (part_in pass.new).struck }
         ensures test { H.test hook.new ≡ H.test hook.old }
     {
         if has_tables(&attempt.pages) {
@@ -275,6 +286,7 @@ impl<F: FileSys, D: Disk> Volume<F, D> {
     }
 
     /// The next step of the caller's call, where it waits for a recovery a step of that.
+    #[tactic(auto, using(crate::proofs::Rising::rises_unasked))]
     pub(crate) fn step<H: Hook, R: Wait>(
         &self,
         rt: &R,
@@ -291,6 +303,7 @@ impl<F: FileSys, D: Disk> Volume<F, D> {
         ensures later { IsLater self.now.table pass.old pass.new }
         ensures leads { Leads call.now (H.test hook.old) (part_in pass.old) (part_in pass.new) attempt.old attempt.new result }
         ensures same { attempt.new.crossings.caller ≡ attempt.old.crossings.caller }
+        ensures rises { RisesWith (H.faults hook.old) (H.faults hook.new) (part_in pass.old).struck (part_in pass.new).struck }
         ensures test { H.test hook.new ≡ H.test hook.old }
     {
         if shut {

@@ -7,6 +7,7 @@ ghost use Rattle.mb_run.specs.CoreSight.{sight_of};
 ghost use Rattle.mb_run.specs.Seals.{AreInTime};
 ghost use Rattle.mb_run.specs.Sights.{IsOrderly};
 ghost use Rattle.mb_volume.specs.Parts.{Moves, part_of, stand_in};
+ghost use Rattle.mb_volume.specs.Rising.{RisesAfter, word_for};
 ghost use Rattle.mb_volume.specs.Shared.{origin_of};
 ghost use Rattle.mb_volume.specs.Underway.{Goes, IsOn, MayCome};
 
@@ -89,6 +90,7 @@ impl<F: FileSys, D: Disk> SharedCore<F, D> {
         ensures goes { Goes call.now (H.test hook.old) (part_of (sight_of self.old.core.core) attempt.old.crossings.caller) (part_of (sight_of self.new.core.core) attempt.old.crossings.caller) attempt.old attempt.new result }
         ensures same { attempt.new.crossings.caller ≡ attempt.old.crossings.caller }
         ensures moves { Moves attempt.old.crossings.caller (sight_of self.old.core.core) (sight_of self.new.core.core) }
+        ensures rises { RisesAfter (word_for event) (H.faults hook.old) (H.faults hook.new) self.old.core.core.journal.records self.new.core.core.journal.records }
         ensures test { H.test hook.new ≡ H.test hook.old }
         ensures origin { origin_of self.new ≡ origin_of self.old }
     {

@@ -3,6 +3,7 @@ ghost use Rattle.std.specs.List.{AllByRecursion};
 ghost use mathlib.Core.List.{IsPrefix};
 ghost use Rattle.mb_kinds.specs.Own.{own};
 ghost use Rattle.mb_run.specs.CoreSight.{sight_of};
+ghost use Rattle.mb_run.specs.Rising.{RisesWith};
 ghost use Rattle.mb_run.specs.Seals.{AreInTime};
 ghost use Rattle.mb_run.specs.Sights.{IsOrderly};
 ghost use Rattle.mb_turn.specs.Passes.{IsIdle, dealt};
@@ -55,7 +56,8 @@ impl<F: FileSys, D: Disk> Volume<F, D> {
     }
 
     /// Makes one call of the pass's caller, which has none in flight and may begin one more. It may wait for other
-    /// callers. The reply stands in the core's history. After `NoMemory` the call has no entry there.
+    /// callers. The reply stands in the core's history. After `NoMemory` the call has no entry there. With each fault record
+    /// that came, the fault injector's count rose.
     pub fn call<H: Hook, R: Wait>(
         &self,
         rt: &R,
@@ -70,6 +72,7 @@ impl<F: FileSys, D: Disk> Volume<F, D> {
         ensures later { IsLater self.now.table pass.old pass.new }
         ensures ok { IfOk result (IsAnsweredWith call.now (H.test hook.old) pass.old.caller (part_in pass.old) (part_in pass.new)) }
         ensures err { OnErr result (IsGivenUp (H.test hook.old) pass.old.caller (part_in pass.old) (part_in pass.new)) }
+        ensures rises { RisesWith (H.faults hook.old) (H.faults hook.new) (part_in pass.old).struck (part_in pass.new).struck }
         ensures test { H.test hook.new ≡ H.test hook.old }
     {
         let mut attempt = self.begin(rt, alloc, pass);

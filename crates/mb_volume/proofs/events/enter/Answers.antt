@@ -1,5 +1,6 @@
 use Rattle.mb_volume.proofs.Entered.{comes_done, comes_inside, comes_not_in, comes_shut, moves_begins, moves_done, moves_nothing}
 use Rattle.mb_volume.proofs.Standing.{may_enter}
+use Rattle.mb_volume.proofs.Rising.{done_still, nothing_still}
 use Rattle.mb_volume.proofs.events.enter.Goals as goal
 
 pub enter-requires-clause-may : goal.enter-requires-clause-may
@@ -28,3 +29,15 @@ returns-in-Inside-clause-goes g c = λ test from u. rw c.go_in.ensures (comes_in
 
 pub returns-in-Inside-clause-moves : goal.returns-in-Inside-clause-moves
 returns-in-Inside-clause-moves g c = moves_begins _ _ _ _ c.in-Inside.ensures.enters.begins
+
+pub returns-in-Done-clause-still : goal.returns-in-Done-clause-still
+returns-in-Done-clause-still g c = done_still _ _ _ _ _ c.in-Done.ensures.enters
+
+pub returns-in-Shut-clause-still : goal.returns-in-Shut-clause-still
+returns-in-Shut-clause-still g c = c.in-Shut.ensures.enters.2.stays.records
+
+pub returns-in-NoMemory-clause-still : goal.returns-in-NoMemory-clause-still
+returns-in-NoMemory-clause-still g c = nothing_still _ _ c.in-NoMemory.ensures.enters.0
+
+pub returns-in-Inside-clause-still : goal.returns-in-Inside-clause-still
+returns-in-Inside-clause-still g c = c.in-Inside.ensures.enters.begins.stays.records

@@ -1,4 +1,5 @@
 use Rattle.mb_volume.proofs.Faulted.{comes_faulted, moves_faults, struck_here, ticket_of}
+use Rattle.mb_volume.proofs.Rising.{after_fault}
 use Rattle.mb_volume.proofs.events.fault.Goals as goal
 
 pub fault-requires-clause-ticket : goal.fault-requires-clause-ticket
@@ -12,3 +13,6 @@ returns-clause-goes g c = λ from u. rw c.back.ensures (comes_faulted _ _ _ _ _ 
 
 pub returns-clause-moves : goal.returns-clause-moves
 returns-clause-moves g c = moves_faults _ _ _ _ _ c.requires.on.2 _ c.requires.holds _ _ _ _ c.requires.met _ _ c.fault.ensures.faults
+
+pub returns-clause-rises : goal.returns-clause-rises
+returns-clause-rises g c = after_fault _ _ _ c.args.ticket.now _ _ _ c.fault.ensures.faults

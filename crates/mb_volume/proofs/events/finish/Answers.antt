@@ -1,6 +1,7 @@
 use Rattle.mb_core_state.specs.declared.answers.Finished.TheVariants as finished
 use Rattle.mb_volume.proofs.Entered.{comes_nothing}
 use Rattle.mb_volume.proofs.Inside.{call_at, comes_back, comes_busy, comes_sealed, comes_stale, has_ticket, lacks_inside, moves_finishes, own_ticket, ready_at}
+use Rattle.mb_volume.proofs.Rising.{finishes_still}
 use Rattle.mb_volume.proofs.events.finish.Goals as goal
 
 pub finish-finished-requires-clause-ticket : goal.finish-finished-requires-clause-ticket
@@ -44,3 +45,18 @@ returns-in-Logged-clause-goes g c = λ test from u. comes_sealed _ _ _ _ _ u _ c
 
 pub returns-in-Logged-clause-moves : goal.returns-in-Logged-clause-moves
 returns-in-Logged-clause-moves g c = moves_finishes _ _ c.args.ticket.now _ (own_ticket _ _ _ (g.C.EventCore.sight c.args.core.now) _ c.requires.on.2 _ c.requires.inside) c.args.attempt.now.pages c.args.call.now finished.Logged c.in-Logged.ensures.finishes
+
+pub returns-in-Skip-clause-still : goal.returns-in-Skip-clause-still
+returns-in-Skip-clause-still g c = finishes_still _ _ c.args.ticket.now c.args.attempt.now.pages c.args.call.now (finished.Skip c.in-Skip.mine c.in-Skip.now) c.in-Skip.ensures.finishes
+
+pub returns-in-Busy-clause-still : goal.returns-in-Busy-clause-still
+returns-in-Busy-clause-still g c = finishes_still _ _ c.args.ticket.now c.args.attempt.now.pages c.args.call.now (finished.Busy c.in-Busy.holder) c.in-Busy.ensures.finishes
+
+pub returns-in-Stale-clause-still : goal.returns-in-Stale-clause-still
+returns-in-Stale-clause-still g c = finishes_still _ _ c.args.ticket.now c.args.attempt.now.pages c.args.call.now (finished.Stale c.in-Stale.block) c.in-Stale.ensures.finishes
+
+pub returns-in-NoMemory-clause-still : goal.returns-in-NoMemory-clause-still
+returns-in-NoMemory-clause-still g c = finishes_still _ _ c.args.ticket.now c.args.attempt.now.pages c.args.call.now finished.NoMemory c.in-NoMemory.ensures.finishes
+
+pub returns-in-Logged-clause-still : goal.returns-in-Logged-clause-still
+returns-in-Logged-clause-still g c = finishes_still _ _ c.args.ticket.now c.args.attempt.now.pages c.args.call.now finished.Logged c.in-Logged.ensures.finishes

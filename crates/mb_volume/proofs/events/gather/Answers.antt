@@ -1,6 +1,7 @@
 use Rattle.mb_core_state.specs.declared.answers.Gathered.TheVariants as gathered
 use Rattle.mb_volume.proofs.Inside.{comes_back, comes_device, comes_gain, has_ticket, lacks_inside, moves_gathers, own_ticket}
 use Rattle.mb_volume.proofs.Entered.{comes_nothing}
+use Rattle.mb_volume.proofs.Rising.{gathers_still}
 use Rattle.mb_volume.proofs.events.gather.Goals as goal
 
 pub gather-requires-clause-ticket : goal.gather-requires-clause-ticket
@@ -29,3 +30,15 @@ returns-in-Done-clause-goes g c = λ test from u. comes_gain _ _ _ _ _ u _ c.req
 
 pub returns-in-Done-clause-moves : goal.returns-in-Done-clause-moves
 returns-in-Done-clause-moves g c = let has = has_ticket _ _ _ (g.C.EventCore.sight c.args.core.now) _ c.requires.on.2 _ c.requires.inside in moves_gathers _ _ c.args.ticket.now _ (own_ticket _ _ _ (g.C.EventCore.sight c.args.core.now) _ c.requires.on.2 _ c.requires.inside) c.args.need c.args.attempt.now.pages c.gather.new.pages gathered.Done has c.in-Done.ensures.gathers
+
+pub returns-in-Skip-clause-still : goal.returns-in-Skip-clause-still
+returns-in-Skip-clause-still g c = gathers_still _ _ c.args.ticket.now c.args.need c.args.attempt.now.pages c.gather.new.pages (gathered.Skip c.in-Skip.mine c.in-Skip.now) (has_ticket _ _ _ (g.C.EventCore.sight c.args.core.now) _ c.requires.on.2 _ c.requires.inside) c.in-Skip.ensures.gathers
+
+pub returns-in-Device-clause-still : goal.returns-in-Device-clause-still
+returns-in-Device-clause-still g c = gathers_still _ _ c.args.ticket.now c.args.need c.args.attempt.now.pages c.gather.new.pages gathered.Device (has_ticket _ _ _ (g.C.EventCore.sight c.args.core.now) _ c.requires.on.2 _ c.requires.inside) c.in-Device.ensures.gathers
+
+pub returns-in-NoMemory-clause-still : goal.returns-in-NoMemory-clause-still
+returns-in-NoMemory-clause-still g c = gathers_still _ _ c.args.ticket.now c.args.need c.args.attempt.now.pages c.gather.new.pages gathered.NoMemory (has_ticket _ _ _ (g.C.EventCore.sight c.args.core.now) _ c.requires.on.2 _ c.requires.inside) c.in-NoMemory.ensures.gathers
+
+pub returns-in-Done-clause-still : goal.returns-in-Done-clause-still
+returns-in-Done-clause-still g c = gathers_still _ _ c.args.ticket.now c.args.need c.args.attempt.now.pages c.gather.new.pages gathered.Done (has_ticket _ _ _ (g.C.EventCore.sight c.args.core.now) _ c.requires.on.2 _ c.requires.inside) c.in-Done.ensures.gathers

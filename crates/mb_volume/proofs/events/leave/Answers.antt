@@ -1,5 +1,7 @@
 use Rattle.mb_volume.proofs.Entered.{moves_nothing}
 use Rattle.mb_volume.proofs.Inside.{comes_back, comes_left, has_logged, moves_left, own_logged}
+use Rattle.mb_core_state.specs.declared.answers.Left.TheVariants as left
+use Rattle.mb_volume.proofs.Rising.{leaves_still}
 use Rattle.mb_volume.proofs.events.leave.Goals as goal
 
 pub leave-requires-clause-ticket : goal.leave-requires-clause-ticket
@@ -16,3 +18,9 @@ returns-in-Left-clause-goes g c = λ test from u. comes_left _ _ _ _ _ u _ c.req
 
 pub returns-in-Left-clause-moves : goal.returns-in-Left-clause-moves
 returns-in-Left-clause-moves g c = moves_left _ _ c.args.ticket.now _ (own_logged _ _ _ (g.C.EventCore.sight c.args.core.now) _ c.requires.on.2 _ c.requires.logged) c.in-Left.reply c.in-Left.ensures.leaves
+
+pub returns-in-Skip-clause-still : goal.returns-in-Skip-clause-still
+returns-in-Skip-clause-still g c = leaves_still _ _ c.args.ticket.now (left.Skip c.in-Skip.mine c.in-Skip.now) c.in-Skip.ensures.leaves
+
+pub returns-in-Left-clause-still : goal.returns-in-Left-clause-still
+returns-in-Left-clause-still g c = leaves_still _ _ c.args.ticket.now (left.Left c.in-Left.reply) c.in-Left.ensures.leaves

@@ -1,6 +1,8 @@
-use Rattle.std.proofs.Common.{◌≡◌, true, false, refl, ap, sym, ◌∙◌}
+use Rattle.std.proofs.Common.{◌≡◌, true, false, refl, ap, sym, ◌∙◌, arith}
+use Rattle.mb_run.proofs.Rising.{rises_none, rises_then}
 use Rattle.mb_volume.proofs.Calling.{call_answered, call_begins, call_given_up, call_waits}
 use Rattle.mb_volume.proofs.Holding.{later_then}
+use Rattle.mb_volume.specs.Parts.{Part}
 use Rattle.mb_volume.specs.Passing.{part_in}
 use Rattle.mb_volume.specs.declared.attempt.Attempt.{Attempt}
 use Rattle.mb_volume.proofs.volume.Volume.call.Goals as goal
@@ -13,6 +15,7 @@ loop-init g c = record {
   underway = call_begins c.args.call.now (g.H.Hook.test c.args.hook.now) c.args.pass.now c.begin-attempt.new.pass c.begin-attempt.result c.begin-attempt.ensures.part c.begin-attempt.ensures.declared c.requires.most c.requires.free c.begin-attempt.ensures.attempt;
   caller = ap (λ (a : Attempt). a.crossings.caller) c.begin-attempt.ensures.attempt ∙ sym c.begin-attempt.ensures.later.caller;
   waits = λ wrong. absurd (let both : false ≡ true = wrong in cc);
+  rises = rises_none _ _ _ _ (omega arith) (ap (λ (p : Part). p.struck) c.begin-attempt.ensures.part);
   test = refl;
 }
 
@@ -20,6 +23,9 @@ pub returns-in-Answered-clause-ok : goal.returns-in-Answered-clause-ok
 returns-in-Answered-clause-ok g c =
     call_answered c.args.call.now (g.H.Hook.test c.args.hook.now) c.args.pass.now c.loop.pass c.step.new.pass c.loop.attempt c.step.new.attempt c.loop.invariant.underway (c.loop.invariant.caller ∙ c.loop.invariant.later.caller) c.in-Answered.reply
     (rw c.loop.invariant.test at c.in-Answered.ensures.leads)
+
+pub returns-in-Answered-clause-rises : goal.returns-in-Answered-clause-rises
+returns-in-Answered-clause-rises g c = rises_then _ _ _ _ _ _ c.loop.invariant.rises c.step.ensures.rises
 
 pub give_up-requires-clause-waits : goal.give_up-requires-clause-waits
 give_up-requires-clause-waits g c =
@@ -31,6 +37,10 @@ returns-in-NoMemory-clause-err g c =
     call_given_up c.args.call.now (g.H.Hook.test c.args.hook.now) c.args.pass.now c.loop.pass c.step.new.pass c.loop.attempt c.step.new.attempt c.loop.invariant.underway (c.loop.invariant.caller ∙ c.loop.invariant.later.caller) c.give_up.new.pass
     c.step.ensures.same (rw c.loop.invariant.test at c.in-NoMemory.ensures.leads) c.give_up.ensures.quits
 
+pub returns-in-NoMemory-clause-rises : goal.returns-in-NoMemory-clause-rises
+returns-in-NoMemory-clause-rises g c =
+    rises_then _ _ _ _ _ _ (rises_then _ _ _ _ _ _ c.loop.invariant.rises c.step.ensures.rises) (rises_none _ _ _ _ (omega arith) c.give_up.ensures.quits.struck)
+
 pub loop-preserved-in-Shut : goal.loop-preserved-in-Shut
 loop-preserved-in-Shut g c =
     let is = (rw c.loop.invariant.test at c.in-Shut.ensures.leads) (part_in c.args.pass.now) c.loop.invariant.underway in
@@ -41,6 +51,7 @@ loop-preserved-in-Shut g c =
       underway = is.0;
       caller = c.step.ensures.same ∙ c.loop.invariant.caller ∙ sym c.step.ensures.later.caller;
       waits = λ shut. is.1;
+      rises = rises_then _ _ _ _ _ _ c.loop.invariant.rises c.step.ensures.rises;
       test = c.step.ensures.test ∙ c.loop.invariant.test;
     }
 
@@ -52,6 +63,7 @@ loop-preserved-in-Busy g c = record {
   underway = (rw c.loop.invariant.test at c.in-Busy.ensures.leads) (part_in c.args.pass.now) c.loop.invariant.underway;
   caller = c.step.ensures.same ∙ c.loop.invariant.caller ∙ sym c.step.ensures.later.caller;
   waits = λ wrong. absurd (let both : false ≡ true = wrong in cc);
+  rises = rises_then _ _ _ _ _ _ c.loop.invariant.rises c.step.ensures.rises;
   test = c.step.ensures.test ∙ c.loop.invariant.test;
 }
 
@@ -63,6 +75,7 @@ loop-preserved-in-Inside g c = record {
   underway = ((rw c.loop.invariant.test at c.in-Inside.ensures.leads) (part_in c.args.pass.now) c.loop.invariant.underway).0;
   caller = c.step.ensures.same ∙ c.loop.invariant.caller ∙ sym c.step.ensures.later.caller;
   waits = λ wrong. absurd (let both : false ≡ true = wrong in cc);
+  rises = rises_then _ _ _ _ _ _ c.loop.invariant.rises c.step.ensures.rises;
   test = c.step.ensures.test ∙ c.loop.invariant.test;
 }
 
@@ -74,5 +87,6 @@ loop-preserved g c = record {
   underway = (rw c.loop.invariant.test at c.in-On.ensures.leads) (part_in c.args.pass.now) c.loop.invariant.underway;
   caller = c.step.ensures.same ∙ c.loop.invariant.caller ∙ sym c.step.ensures.later.caller;
   waits = λ wrong. absurd (let both : false ≡ true = wrong in cc);
+  rises = rises_then _ _ _ _ _ _ c.loop.invariant.rises c.step.ensures.rises;
   test = c.step.ensures.test ∙ c.loop.invariant.test;
 }

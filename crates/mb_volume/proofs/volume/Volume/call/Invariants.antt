@@ -1,5 +1,6 @@
 -- The call is under way, as it began.
 use Rattle.std.proofs.Common.{◌≡◌, true}
+use Rattle.mb_run.specs.Rising.{RisesWith}
 use Rattle.mb_run.specs.Sights.{IsWaiting}
 use Rattle.mb_volume.specs.Passing.{IsLater, part_in}
 use Rattle.mb_volume.specs.Underway.{IsUnderway}
@@ -13,5 +14,6 @@ invariant-loop g l = record {
   underway : IsUnderway l.call (g.H.Hook.test l.fn.hook) (part_in l.fn.pass) (part_in l.pass) l.attempt;
   caller : l.attempt.crossings.caller ≡ l.pass.caller;
   waits : l.shut ≡ true → IsWaiting (part_in l.pass).seat;
+  rises : RisesWith (g.H.Hook.faults l.fn.hook) (g.H.Hook.faults l.hook) (part_in l.fn.pass).struck (part_in l.pass).struck;
   test : g.H.Hook.test l.hook ≡ g.H.Hook.test l.fn.hook;
 }

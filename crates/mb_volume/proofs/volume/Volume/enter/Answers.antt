@@ -1,6 +1,8 @@
 use Rattle.mb_kinds.specs.declared.faults.Kind.TheVariants as kind
 use Rattle.mb_volume.specs.declared.events.Came.TheVariants as came
 use Rattle.mb_volume.proofs.Holding.{counted_on, holds_inside, inside_then, making_inside}
+use Rattle.mb_run.proofs.Rising.{rises_then}
+use Rattle.mb_volume.proofs.Rising.{rises_unasked}
 use Rattle.mb_volume.proofs.volume.Volume.enter.Goals as goal
 
 pub hold-came-requires-clause-may : goal.hold-came-requires-clause-may
@@ -21,3 +23,9 @@ pub returns-in-None-clause-leads : goal.returns-in-None-clause-leads
 returns-in-None-clause-leads g c =
     inside_then _ _ c.args.pass.now c.hold-came.new.pass c.ask.new.pass c.args.attempt.now c.hold-came.new.attempt c.ask.new.attempt _ came.On _ c.hold-came.ensures.same c.in-Inside.is c.hold-came.ensures.leads
     (counted_on _ _ c.hold-came.new.pass c.ask.new.pass c.hold-came.new.attempt c.ask.new.attempt kind.Enter c.in-None.ensures.unasked.0 c.in-None.ensures.unasked.1)
+
+pub returns-in-Some-clause-rises : goal.returns-in-Some-clause-rises
+returns-in-Some-clause-rises g c = rises_then _ _ _ _ _ _ (rises_unasked _ _ _ _ c.hold-came.ensures.rises) c.ask.ensures.rises
+
+pub returns-in-None-clause-rises : goal.returns-in-None-clause-rises
+returns-in-None-clause-rises g c = rises_then _ _ _ _ _ _ (rises_unasked _ _ _ _ c.hold-came.ensures.rises) c.ask.ensures.rises

@@ -4,6 +4,7 @@ use Rattle.mb_volume.specs.Parts.{Part}
 use Rattle.mb_volume.specs.Underway.{IsUnderway, MayCome}
 use Rattle.mb_volume.proofs.Holding.{declared_on, held_leads, later_held, others_held, taken_part}
 use Rattle.mb_volume.proofs.Telling.{is_told}
+use Rattle.mb_volume.proofs.Rising.{rises_held}
 use Rattle.mb_volume.proofs.volume.Volume.hold.Goals as goal
 
 pub act-came-requires-clause-on : goal.act-came-requires-clause-on
@@ -37,3 +38,12 @@ returns-clause-leads g c =
     rw (c.give.ensures.pass, c.take-shared.ensures.pass)
     (held_leads saw c.take-shared.result.core.core c.act-came.new.self.core.core c.args.pass.now.caller c.args.attempt.now.crossings.caller making.caller low c.take-shared.ensures.origin c.take-shared.ensures.mine c.take-shared.ensures.stand c.args.call.now _ _ _ _
     (is_told g.D.Disk.told g.D.Disk.faults c.act-came.new.self.core.core c.in_order.ensures c.args.pass.now.caller) c.act-came.ensures.goes)
+
+pub returns-clause-rises : goal.returns-clause-rises
+returns-clause-rises g c =
+    let saw = c.args.pass.now.value.core.core in
+    let making = c.requires.making in
+    let low = declared_on (sight_of saw) c.args.pass.now.caller c.args.call.now _ _ c.args.attempt.now making.caller making.underway in
+    let same = taken_part saw c.take-shared.result.core.core saw c.args.pass.now.caller c.args.attempt.now.crossings.caller making.caller low c.take-shared.ensures.origin c.take-shared.ensures.mine c.take-shared.ensures.stand in
+    rw (c.give.ensures.pass, c.take-shared.ensures.pass)
+    (λ before cause. rises_held before _ (sight_of saw) (sight_of c.take-shared.result.core.core) (sight_of c.act-came.new.self.core.core) c.args.pass.now.caller c.args.attempt.now.crossings.caller making.caller same c.act-came.ensures.moves (c.act-came.ensures.rises before cause))
