@@ -1,13 +1,11 @@
 -- A whole call: how it begins, and how it ends for want of memory.
-use Rattle.std.proofs.Common.{◌≡◌, ◌≢◌, List, [], ℕ, ◌+◌, ◌<◌, ◌≤◌, Bool, true, false, refl, ap, sym, subst, ◌∙◌, arith, Option, None, Some}
+use Rattle.std.proofs.Common.{◌≡◌, ℕ, ◌+◌, ◌<◌, Bool, refl, ap, sym, subst, ◌∙◌, arith, Option, None, Some}
 use Rattle.mb_edge.specs.declared.crossings.Crossing.{Crossing}
-use Rattle.mb_edge.specs.declared.crossings.Crossings.{Crossings}
 use Rattle.mb_kinds.specs.declared.calls.Call.{Call}
 use Rattle.mb_kinds.specs.declared.entries.Flight.{Flight}
-use Rattle.mb_kinds.specs.declared.faults.FaultRecord.{FaultRecord}
 use Rattle.mb_kinds.specs.declared.replies.Reply.{Reply}
 use Rattle.mb_run.proofs.Entered.{no_counts}
-use Rattle.mb_run.specs.Sights.{IsWaiting, Seat}
+use Rattle.mb_run.specs.Sights.{IsWaiting}
 use Rattle.mb_turn.specs.Passes.{Known}
 use Rattle.mb_volume.specs.Attempts.{new_attempt}
 use Rattle.mb_volume.specs.Called.{IsAnsweredWith, IsGivenUp, Suffers}

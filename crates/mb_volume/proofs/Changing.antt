@@ -1,5 +1,5 @@
 -- What one caller's event changes, and what it leaves to the others.
-use Rattle.std.proofs.Common.{◌≡◌, ◌≢◌, List, [], ◌∷◌, ◌++◌, ℕ, ◌<◌, Bool, true, false, cond, nat_eq, refl, ap, sym, ◌∙◌, subst, Option, None, Some}
+use Rattle.std.proofs.Common.{◌≡◌, ◌≢◌, List, [], ◌∷◌, ◌++◌, ℕ, ◌<◌, Bool, true, false, cond, nat_eq, refl, ap, sym, ◌∙◌, subst, Some}
 use Rattle.std.specs.Prelude.{IsSome, nat_lt}
 use Rattle.std.proofs.lemmas.Bool.{eq-eqb, lt-ltb, ltb-true}
 use Rattle.std.proofs.lemmas.List.{append-nil}
@@ -14,7 +14,6 @@ use Rattle.mb_core_spec.specs.State.{records_of}
 use Rattle.mb_run.proofs.Lists.{neq}
 use Rattle.mb_run.specs.Events.{Stays}
 use Rattle.mb_run.specs.Sights.{Limits, Seat, Sight}
-use Rattle.mb_turn.specs.Passes.{Continues}
 use Rattle.mb_volume.specs.Parts.{Moves, Part, part_of, stand_if, stand_in}
 
 -- ---- fault records

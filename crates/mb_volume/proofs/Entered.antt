@@ -1,5 +1,5 @@
 -- A call enters, or is answered as it enters.
-use Rattle.std.proofs.Common.{◌≡◌, List, [], ◌∷◌, ◌++◌, ℕ, ◌+◌, ◌<◌, Bool, true, false, inl, inr, refl, ap, sym, subst, ◌∙◌, Option, None, Some}
+use Rattle.std.proofs.Common.{◌≡◌, List, [], ◌∷◌, ◌++◌, ℕ, ◌+◌, Bool, false, inl, inr, refl, ap, sym, subst, ◌∙◌, Option, None, Some}
 use Rattle.mb_edge.specs.declared.crossings.Crossing.{Crossing}
 use Rattle.std.proofs.lemmas.List.Elements.{Contains-push}
 use Rattle.std.specs.List.{Contains}
@@ -11,19 +11,18 @@ use Rattle.mb_kinds.specs.declared.faults.Ticket.{Ticket}
 use Rattle.mb_kinds.specs.declared.replies.Reply.{Reply}
 use Rattle.mb_core_spec.specs.State.{records_of}
 use Rattle.mb_run.proofs.Lists.{own_mine}
-use Rattle.mb_run.specs.Events.{Answers, Begins, Enters, EntersInside, Leaves, entry_of}
+use Rattle.mb_run.specs.Events.{Answers, Begins, Enters, Leaves, entry_of}
 use Rattle.mb_run.specs.Pages.{HasTablesFor}
-use Rattle.mb_run.specs.Sights.{IsWaiting, Limits, Seat, Sight, flight_of}
+use Rattle.mb_run.specs.Sights.{Limits, Seat, Sight, flight_of}
 use Rattle.mb_run.specs.declared.answers.Enter.TheVariants as enter
-use Rattle.mb_run.specs.declared.runner.At.{At}
 use Rattle.mb_run.specs.declared.runner.At.TheVariants as at
 use Rattle.mb_volume.specs.Attempts.{going_in}
 use Rattle.mb_volume.specs.Called.{Suffers}
 use Rattle.mb_volume.specs.Parts.{Moves, Part, part_of}
-use Rattle.mb_volume.specs.Underway.{AddsEntry, AddsEntryIf, Comes, GoesUnasked, IsAnswered, IsBegunIf, IsFlying, IsReplyIn, IsStruck, IsUnderway, LacksEntry, StandsAt}
+use Rattle.mb_volume.specs.Underway.{AddsEntry, AddsEntryIf, Comes, IsAnswered, IsBegunIf, IsFlying, IsReplyIn, IsStruck, IsUnderway, LacksEntry, StandsAt}
 use Rattle.mb_volume.specs.declared.attempt.Attempt.{Attempt}
 use Rattle.mb_volume.specs.declared.events.Came.TheVariants as came
-use Rattle.mb_volume.proofs.Changing.{moves_entry, moves_same, moves_stays, part_is}
+use Rattle.mb_volume.proofs.Changing.{moves_entry, moves_same, moves_stays}
 use Rattle.mb_volume.proofs.Replies.{own_reply}
 use Rattle.mb_volume.proofs.Standing.{IsFlight, flight_now, flying, lacks_if}
 use Rattle.mb_volume.proofs.Struck.{suffers_of}

@@ -1,5 +1,5 @@
 -- The fault injector is asked, and the call is struck where it says so.
-use Rattle.std.proofs.Common.{◌≡◌, ◌≢◌, List, [], ◌∷◌, ◌++◌, ℕ, ◌+◌, Bool, true, false, refl, ap, sym, subst, ◌∙◌, Option, Some, IfSome}
+use Rattle.std.proofs.Common.{◌≡◌, [], ◌∷◌, ◌++◌, ℕ, ◌+◌, Bool, true, false, ap, sym, subst, ◌∙◌, Option, Some, IfSome}
 use Rattle.mb_core_state.specs.declared.answers.Fault.{Fault}
 use Rattle.mb_core_state.specs.declared.answers.Fault.TheVariants as fault
 use Rattle.mb_core_spec.specs.State.{records_of}
@@ -13,7 +13,7 @@ use Rattle.mb_kinds.specs.declared.faults.FaultRecord.{FaultRecord}
 use Rattle.mb_kinds.specs.declared.faults.Kind.{Kind}
 use Rattle.mb_kinds.specs.declared.faults.Ticket.{Ticket}
 use Rattle.mb_run.proofs.Counting.{counted_goes, counted_taken}
-use Rattle.mb_run.specs.Events.{FaultsWith, Strikes}
+use Rattle.mb_run.specs.Events.{FaultsWith}
 use Rattle.mb_run.specs.Recovering.{GoesOn, IsTaken}
 use Rattle.mb_run.specs.Served.{counted}
 use Rattle.mb_run.specs.Sights.{HasTicket, IsTicketOf, Seat, Sight}

@@ -1,5 +1,5 @@
 -- One hold of the turn: what the pass's caller knows before it, under it and after it.
-use Rattle.std.proofs.Common.{◌≡◌, ◌≢◌, List, [], ℕ, ◌<◌, ◌++◌, Bool, true, false, refl, ap, sym, subst, ◌∙◌, Option}
+use Rattle.std.proofs.Common.{◌≡◌, ◌≢◌, List, [], ℕ, ◌<◌, Bool, true, false, refl, ap, sym, subst, ◌∙◌, Option}
 use Rattle.std.proofs.lemmas.List.{append-nil}
 use mathlib.Core.List.{IsPrefix}
 use Rattle.atomic_table.specs.Seated.{TableId}
@@ -12,7 +12,6 @@ use Rattle.mb_run.specs.CoreSight.{sight_of}
 use Rattle.mb_kinds.specs.declared.faults.Kind.{Kind}
 use Rattle.mb_kinds.specs.declared.faults.Ticket.{Ticket}
 use Rattle.mb_run.specs.declared.runner.At.{At}
-use Rattle.mb_run.specs.declared.runner.At.TheVariants as at
 use Rattle.mb_run.specs.Served.{counted}
 use Rattle.mb_run.specs.Sights.{Limits, Sight, limits_of}
 use Rattle.mb_turn.proofs.Lists.{prefix_trans}

@@ -1,9 +1,8 @@
 -- A call inside gathers and finishes; one that has its entry leaves.
-use Rattle.std.proofs.Common.{◌≡◌, ◌≢◌, List, [], ◌∷◌, ◌++◌, ℕ, ◌+◌, ◌<◌, Bool, true, false, inl, inr, refl, ap, sym, subst, ◌∙◌, Option, None, Some}
+use Rattle.std.proofs.Common.{◌≡◌, [], ◌∷◌, ◌++◌, ℕ, ◌+◌, Bool, true, false, refl, ap, sym, subst, ◌∙◌, Option, None, Some}
 use Rattle.mb_calls.specs.declared.performing.Performed.TheVariants as performed
 use Rattle.mb_calls.specs.declared.performing.Ready.{Ready}
 use Rattle.mb_core_spec.specs.Copies.{PagesState}
-use Rattle.mb_core_spec.specs.declared.stages.Stage.TheVariants as stage
 use Rattle.mb_core_state.specs.declared.answers.Finished.{Finished}
 use Rattle.mb_core_state.specs.declared.answers.Finished.TheVariants as finished
 use Rattle.mb_core_state.specs.declared.answers.Gathered.{Gathered}
@@ -14,24 +13,22 @@ use Rattle.mb_iface.specs.declared.replies.Need.{Need}
 use Rattle.mb_kinds.specs.Own.{own}
 use Rattle.mb_kinds.specs.declared.calls.Call.{Call}
 use Rattle.mb_kinds.specs.declared.entries.Flight.{Flight}
-use Rattle.mb_kinds.specs.declared.faults.FaultRecord.{FaultRecord}
 use Rattle.mb_kinds.specs.declared.faults.Ticket.{Ticket}
 use Rattle.mb_kinds.specs.declared.replies.Reply.{Reply}
 use Rattle.mb_kinds.specs.declared.replies.Reply.TheVariants as reply
 use Rattle.mb_run.proofs.Lists.{own_mine}
-use Rattle.mb_run.specs.Events.{Answers, Finishes, Gains, Gathers, IsCallOf, IsReadyAt, IsStale, Leaves, LeavesWith, Logs, SealsIf, entry_of, sealed}
+use Rattle.mb_run.specs.Events.{Answers, Finishes, Gains, Gathers, IsCallOf, IsReadyAt, IsStale, Leaves, LeavesWith, Logs, SealsIf, entry_of}
 use Rattle.mb_run.specs.Pages.{HasTablesFor, Performs}
 use Rattle.mb_run.specs.Seals.{is_due}
-use Rattle.mb_run.specs.Sights.{HasTicket, IsTicketOf, Limits, Seat, Sight}
-use Rattle.mb_run.specs.declared.runner.At.{At}
+use Rattle.mb_run.specs.Sights.{HasTicket, Limits, Seat, Sight}
 use Rattle.mb_run.specs.declared.runner.At.TheVariants as at
 use Rattle.mb_volume.specs.Attempts.{back_out, going_in}
 use Rattle.mb_volume.specs.Parts.{Moves, Part, part_of}
 use Rattle.mb_volume.specs.Underway.{AddsEntry, AddsEntryIf, Comes, IsBegunIf, IsFlying, IsReplyIn, IsStruck, IsUnderway, LacksEntry, StandsAt}
 use Rattle.mb_volume.specs.declared.attempt.Attempt.{Attempt}
 use Rattle.mb_volume.specs.declared.events.Came.TheVariants as came
-use Rattle.mb_volume.proofs.Changing.{moves_entry, moves_same, moves_stays, part_is}
-use Rattle.mb_volume.proofs.Entered.{answered_by, answered_leaves, comes_nothing, moves_nothing, struck_still}
+use Rattle.mb_volume.proofs.Changing.{moves_entry, moves_stays, part_is}
+use Rattle.mb_volume.proofs.Entered.{answered_by, answered_leaves, moves_nothing, struck_still}
 use Rattle.mb_volume.proofs.Replies.{own_reply}
 use Rattle.mb_volume.proofs.Standing.{IsFlight, flying}
 

@@ -1,7 +1,6 @@
 -- A call that met want of memory is given up, in one hold of the turn.
-use Rattle.std.proofs.Common.{◌≡◌, ◌≢◌, List, ℕ, ◌<◌, refl, ap, sym, subst, ◌∙◌, Option, None, Some, slice_get}
+use Rattle.std.proofs.Common.{◌≡◌, List, ℕ, ◌<◌, refl, ap, sym, subst, ◌∙◌, Option, None, Some, slice_get}
 use Rattle.std.specs.Prelude.{IsSome}
-use Rattle.mb_cache.specs.Stamps.{Stamps}
 use Rattle.mb_core_events.specs.Callings.{HasOpenCall}
 use Rattle.mb_core_spec.specs.Events.{ended, with_room}
 use Rattle.mb_core_spec.specs.State.{CallerState, CoreState}
@@ -15,9 +14,9 @@ use Rattle.mb_turn.specs.Passes.{Begins}
 use Rattle.mb_volume_core.proofs.Leaving.{gone, has_open_call, quit_origin, quits_by}
 use Rattle.mb_volume_core.proofs.Origins.{origin_of}
 use Rattle.mb_volume_core.proofs.Staying.{seat_now}
-use Rattle.mb_volume.specs.Parts.{Moves, Part, part_of, stand_if, stand_in}
+use Rattle.mb_volume.specs.Parts.{Moves, Part, part_of, stand_in}
 use Rattle.mb_volume.specs.Underway.{IsLeftOff}
-use Rattle.mb_volume.proofs.Changing.{is_declared, moves_stays, stand_made, stands_declared}
+use Rattle.mb_volume.proofs.Changing.{is_declared, moves_stays, stands_declared}
 use Rattle.mb_volume.proofs.Entered.{struck_still}
 use Rattle.mb_volume.proofs.Holding.{taken_part}
 

@@ -1,5 +1,5 @@
 -- Which entry of a caller has a call's ordinal.
-use Rattle.std.proofs.Common.{◌≡◌, ◌⊎◌, List, [], ◌∷◌, ◌++◌, ℕ, zero, suc, ◌+◌, ◌<◌, Bool, true, false, cond, nat_eq, inl, inr, refl, ap, sym, subst, ◌∙◌, arith, length}
+use Rattle.std.proofs.Common.{◌≡◌, List, [], ◌∷◌, ◌++◌, ℕ, zero, suc, ◌<◌, Bool, true, false, cond, nat_eq, inl, inr, refl, ap, sym, subst, ◌∙◌, arith, length}
 use Rattle.std.proofs.lemmas.Bool.{eq-eqb, eqb-true}
 use Rattle.std.proofs.lemmas.List.Elements.{Contains-append_right, Contains-push_cases}
 use Rattle.std.specs.List.{AllByRecursion, Contains, filter}
@@ -9,7 +9,7 @@ use Rattle.mb_kinds.specs.declared.calls.Call.{Call}
 use Rattle.mb_kinds.specs.declared.entries.Entry.{Entry}
 use Rattle.mb_kinds.specs.declared.replies.Reply.{Reply}
 use Rattle.mb_core_spec.specs.Numbers.{AreInOrder, CanFollow}
-use Rattle.mb_run.proofs.Lists.{all_both, all_map}
+use Rattle.mb_run.proofs.Lists.{all_map}
 use Rattle.mb_run.specs.Events.{IsReplyOf}
 use Rattle.mb_volume.specs.Underway.{AddsEntry, AreRising, IsReplyIn}
 

@@ -1,11 +1,11 @@
 -- The hook's count of faults rises with a call's fault records.
-use Rattle.std.proofs.Common.{◌≡◌, ◌≤◌, ◌+◌, List, [], ◌∷◌, ◌++◌, ℕ, Bool, true, false, cond, inl, inr, length, refl, ap, sym, subst, ◌∙◌, arith, Option, length-append}
+use Rattle.std.proofs.Common.{◌≡◌, ◌+◌, List, [], ◌∷◌, ◌++◌, ℕ, Bool, true, false, cond, inl, inr, length, refl, ap, subst, ◌∙◌, arith, length-append}
 use Rattle.std.proofs.lemmas.Bool.{eq-eqb}
 use Rattle.std.proofs.lemmas.List.Elements.{filter-append}
 use Rattle.std.specs.Prelude.{nat_eq}
 use Rattle.std.specs.List.{AllByRecursion}
 use Rattle.mb_core_spec.specs.Copies.{PagesState}
-use Rattle.mb_core_spec.specs.State.{CoreState, records_of}
+use Rattle.mb_core_spec.specs.State.{records_of}
 use Rattle.mb_core_state.specs.declared.answers.Fault.{Fault}
 use Rattle.mb_core_state.specs.declared.answers.Fault.TheVariants as fault
 use Rattle.mb_core_state.specs.declared.answers.Finished.{Finished}
@@ -14,12 +14,10 @@ use Rattle.mb_core_state.specs.declared.answers.Gathered.{Gathered}
 use Rattle.mb_core_state.specs.declared.answers.Gathered.TheVariants as gathered
 use Rattle.mb_core_state.specs.declared.answers.Left.{Left}
 use Rattle.mb_core_state.specs.declared.answers.Left.TheVariants as left
-use Rattle.mb_edge.specs.Hooks.{HasFaultCause}
 use Rattle.mb_edge.specs.declared.hooks.Word.{Word}
 use Rattle.mb_edge.specs.declared.hooks.Word.TheVariants as word
 use Rattle.mb_iface.specs.declared.replies.Need.{Need}
 use Rattle.mb_kinds.specs.declared.calls.Call.{Call}
-use Rattle.mb_kinds.specs.declared.entries.Flight.{Flight}
 use Rattle.mb_kinds.specs.declared.faults.FaultRecord.{FaultRecord}
 use Rattle.mb_kinds.specs.declared.faults.Kind.{Kind}
 use Rattle.mb_kinds.specs.declared.faults.Ticket.{Ticket}

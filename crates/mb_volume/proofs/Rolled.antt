@@ -1,15 +1,14 @@
 -- A step of a recovery, run by a call that waits for it.
-use Rattle.std.proofs.Common.{◌≡◌, ◌⊎◌, List, [], ◌∷◌, ◌++◌, ℕ, ◌+◌, Bool, true, false, inl, inr, refl, ap, sym, subst, ◌∙◌, Option, None, Some}
+use Rattle.std.proofs.Common.{◌≡◌, [], ◌∷◌, ◌+◌, Bool, inl, inr, refl, ap, sym, subst, ◌∙◌, Option, None, Some}
 use Rattle.std.proofs.lemmas.List.{append-nil}
 use Rattle.mb_edge.specs.declared.crossings.Crossing.{Crossing}
 use Rattle.mb_edge.specs.declared.crossings.Crossings.{Crossings}
 use Rattle.mb_kinds.specs.Own.{own}
 use Rattle.mb_kinds.specs.declared.calls.Call.{Call}
-use Rattle.mb_kinds.specs.declared.entries.Flight.{Flight}
 use Rattle.mb_kinds.specs.declared.replies.Reply.TheVariants as reply
 use Rattle.mb_run.specs.Events.{Answers, entry_of}
-use Rattle.mb_run.specs.Recovering.{GoOn, GoesOn, Rolls, RunsFor, Steps, StrikesBy, Strikes, Waits}
-use Rattle.mb_run.specs.Sights.{IsWaiting, Seat, Sight}
+use Rattle.mb_run.specs.Recovering.{GoOn, GoesOn, RunsFor, Steps, Strikes, Waits}
+use Rattle.mb_run.specs.Sights.{IsWaiting, Sight}
 use Rattle.mb_run.specs.declared.answers.Stepped.{Stepped}
 use Rattle.mb_run.specs.declared.answers.Stepped.TheVariants as stepped
 use Rattle.mb_volume.specs.Attempts.{KeepsCrossings}

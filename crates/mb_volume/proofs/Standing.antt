@@ -1,11 +1,10 @@
 -- A call under way: what its caller's part says of its flight.
-use Rattle.std.proofs.Common.{◌≡◌, List, ℕ, ◌+◌, ◌<◌, Bool, true, false, refl, ap, sym, subst, ◌∙◌, arith, Option, None, Some}
+use Rattle.std.proofs.Common.{◌≡◌, ℕ, ◌+◌, ◌<◌, Bool, false, refl, ap, sym, subst, arith, Option, None, Some}
 use Rattle.mb_edge.specs.declared.crossings.Crossing.{Crossing}
 use Rattle.mb_kinds.specs.declared.calls.Call.{Call}
 use Rattle.mb_kinds.specs.declared.entries.Flight.{Flight}
-use Rattle.mb_kinds.specs.declared.faults.Ticket.{Ticket}
 use Rattle.mb_run.specs.Served.{MayBegin, MayEnter}
-use Rattle.mb_run.specs.Sights.{HasTicket, Limits, Seat, Sight, flight_of}
+use Rattle.mb_run.specs.Sights.{Limits, Sight, flight_of}
 use Rattle.mb_volume.specs.Parts.{Part, part_of}
 use Rattle.mb_volume.specs.Underway.{AddsEntryIf, IsBegunIf, IsFlying, IsUnderway, LacksEntry}
 use Rattle.mb_volume.specs.declared.attempt.Attempt.{Attempt}

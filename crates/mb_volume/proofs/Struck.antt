@@ -1,5 +1,5 @@
 -- The fault records of a call under way.
-use Rattle.std.proofs.Common.{◌≡◌, List, [], ◌∷◌, ◌++◌, ℕ, ◌+◌, Bool, refl, ap, sym, subst, ◌∙◌, append_assoc, Option}
+use Rattle.std.proofs.Common.{◌≡◌, List, [], ◌∷◌, ◌++◌, ◌+◌, Bool, ap, sym, ◌∙◌, append_assoc, Option}
 use Rattle.std.proofs.lemmas.List.{append-nil}
 use Rattle.std.specs.List.{AllByRecursion}
 use Rattle.mb_edge.specs.declared.crossings.Crossing.{Crossing}
@@ -8,7 +8,6 @@ use Rattle.mb_kinds.specs.declared.faults.FaultRecord.{FaultRecord}
 use Rattle.mb_run.proofs.Counting.{counted_on, counted_push, sound_push}
 use Rattle.mb_run.proofs.Lists.{all_both, all_map}
 use Rattle.mb_run.specs.Recovering.{GoesOn, IsTaken}
-use Rattle.mb_run.specs.Served.{AreSound, IsCounted}
 use Rattle.mb_volume.specs.Called.{Suffers}
 use Rattle.mb_volume.specs.Parts.{Part}
 use Rattle.mb_volume.specs.Underway.{IsStruck}

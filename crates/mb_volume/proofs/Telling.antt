@@ -1,29 +1,26 @@
 -- What a core in order says of a caller, and what the caller of a call is told.
-use Rattle.std.proofs.Common.{◌≡◌, List, [], ◌∷◌, ◌++◌, ℕ, ◌+◌, ◌<◌, ◌≤◌, Bool, true, false, cond, nat_eq, length, refl, ap, sym, subst, ◌∙◌, arith, Option, None, Some, slice_get}
+use Rattle.std.proofs.Common.{◌≡◌, List, [], ◌∷◌, ◌++◌, ℕ, ◌+◌, ◌≤◌, Bool, true, false, cond, nat_eq, length, refl, ap, subst, ◌∙◌, arith, Option}
 use Rattle.std.proofs.lemmas.Bool.{eq-eqb, eqb-true}
 use Rattle.std.proofs.lemmas.List.Elements.{filter-append}
 use Rattle.std.specs.List.{AllByRecursion, filter}
-use Rattle.mb_core_spec.specs.Faults.{IsOwn, IsTwice, Says}
-use Rattle.mb_core_spec.specs.Flights.{IsFlying, IsInFlight, IsTicket, HasTicket as HasTicketIn, runs}
+use Rattle.mb_core_spec.specs.Faults.{IsOwn, Says}
+use Rattle.mb_core_spec.specs.Flights.{runs}
 use Rattle.mb_core_spec.specs.Right.{Right}
-use Rattle.mb_core_spec.specs.State.{CallerState, CoreState, records_of}
+use Rattle.mb_core_spec.specs.State.{CoreState, records_of}
 use Rattle.mb_core_spec.specs.declared.stages.Stage.{Stage}
 use Rattle.mb_core_spec.specs.declared.stages.Stage.TheVariants as stage
 use Rattle.mb_edge.specs.declared.crossings.Crossing.{Crossing}
 use Rattle.mb_kinds.specs.Image.{Image}
 use Rattle.mb_kinds.specs.declared.calls.Call.{Call}
 use Rattle.mb_kinds.specs.declared.entries.Entry.{Entry}
-use Rattle.mb_kinds.specs.declared.entries.Flight.{Flight}
 use Rattle.mb_kinds.specs.declared.faults.FaultRecord.{FaultRecord}
 use Rattle.mb_kinds.specs.declared.faults.Kind.{Kind}
 use Rattle.mb_kinds.specs.declared.faults.Kind.TheVariants as kind
-use Rattle.mb_kinds.specs.declared.faults.Ticket.{Ticket}
 use Rattle.mb_kinds.specs.declared.replies.Reply.{Reply}
 use Rattle.mb_kinds.specs.declared.replies.Reply.TheVariants as reply
 use Rattle.mb_run.proofs.Lists.{all_map, neq}
 use Rattle.mb_run.specs.CoreSight.{sight_of}
-use Rattle.mb_run.specs.Sights.{IsTicketOf, Limits}
-use Rattle.mb_volume_core.proofs.Staying.{seated}
+use Rattle.mb_run.specs.Sights.{Limits}
 use Rattle.mb_volume.specs.Called.{AreOfFirst, IsAnsweredWith, SaysOfFaults, SaysOfLimit, is_own, own_faults}
 use Rattle.mb_volume.specs.Parts.{Part, part_of}
 use Rattle.mb_volume.specs.Underway.{Brings, Comes, IsAnswered, IsTold, SaysOfTwice}

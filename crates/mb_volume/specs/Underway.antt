@@ -12,11 +12,9 @@ use Rattle.mb_kinds.specs.declared.faults.Ticket.{Ticket}
 use Rattle.mb_kinds.specs.declared.replies.Reply.{Reply}
 use Rattle.mb_kinds.specs.declared.replies.Reply.TheVariants as reply
 use Rattle.mb_calls.specs.declared.performing.Performed.TheVariants as performed
-use Rattle.mb_core_spec.specs.Copies.{no_pages}
-use Rattle.mb_core_spec.specs.declared.stages.Stage.TheVariants as stage
 use Rattle.mb_run.specs.Pages.{HasTablesFor, Performs, has}
 use Rattle.mb_run.specs.Served.{AreCounts, AreSound, IsCounted, counted}
-use Rattle.mb_run.specs.Sights.{HasTicket, IsWaiting, Seat, Sight}
+use Rattle.mb_run.specs.Sights.{HasTicket, IsWaiting, Seat}
 use Rattle.mb_run.specs.declared.answers.Stepped.{Stepped}
 use Rattle.mb_run.specs.declared.answers.Stepped.TheVariants as stepped
 use Rattle.mb_run.specs.declared.runner.At.{At}

@@ -1,4 +1,4 @@
-use Rattle.std.proofs.Common.{◌<◌, subst, sym}
+use Rattle.std.proofs.Common.{subst, sym}
 use Rattle.mb_run.specs.CoreSight.{sight_of}
 use Rattle.mb_volume.specs.Parts.{Part}
 use Rattle.mb_volume.specs.Underway.{IsUnderway, MayCome}
