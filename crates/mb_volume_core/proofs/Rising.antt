@@ -68,8 +68,8 @@ module _ {F D : Type 0} (told : D → Option Image) (faults : D → ℕ) (core n
         | inr rest ↦ elim rest [
           | inl replays ↦ absurd replays
           | inr met ↦
-          let rose = cause.struck (struck_point (phase_now core) met.at.kind count met.point) in
-          rises_one before now core.journal.records new.journal.records _ cause.later rose (ap (λ (c : CoreState F D). c.journal.records) met.struck.2)
+              let rose = cause.struck (struck_point (phase_now core) met.at.kind count met.point) in
+              rises_one before now core.journal.records new.journal.records _ cause.later rose (ap (λ (c : CoreState F D). c.journal.records) met.struck.2)
         ]
       ]
     ]
