@@ -1,4 +1,5 @@
-ghost use Rattle.std.specs.Prelude.{◌≡◌, ◌≤◌, length, take};
+ghost use Rattle.std.specs.Prelude.{◌≡◌, ◌<◌, ◌≤◌, length, replicate, take};
+ghost use Rattle.mb_iface.specs.Pairs.{PutsAndEdits};
 ghost use Rattle.mb_alloc.specs.Taking.{Takes, TakesZeroed, TellsNext};
 
 use crate::writes::word;
@@ -103,7 +104,7 @@ pub fn take_zeroed<V: View>(view: &V, changes: &mut Changes, wanted: u32) -> Tak
         return Taken::Need(Need::run(view, block, wanted));
     };
     if left > 0 {
-        return match put_and_edit(view, changes, block, &[0; 512], 1, 6, &word(left)) {
+        return match zero_and_edit(view, changes, block, &word(left)) {
             Edited::Done => Taken::Block(block),
             Edited::Lacking => Taken::Need(Need::one(1)),
             Edited::NoMemory => Taken::NoMemory,
@@ -113,10 +114,29 @@ pub fn take_zeroed<V: View>(view: &V, changes: &mut Changes, wanted: u32) -> Tak
         return Taken::Need(Need::one(block));
     };
     let list = list_bytes(held);
-    match put_and_edit(view, changes, block, &[0; 512], 1, 6, &list) {
+    match zero_and_edit(view, changes, block, &list) {
         Edited::Done => Taken::Block(block),
         Edited::Lacking => Taken::Need(Need::one(1)),
         Edited::NoMemory => Taken::NoMemory,
+    }
+}
+
+/// Fills a block with zeros and changes bytes of the super-block's list, its count first, in place where
+/// that is changed already; or does neither.
+fn zero_and_edit<V: View>(view: &V, changes: &mut Changes, block: u32, list: &[u8]) -> Edited
+    requires below { block < 262144 }
+    requires fits { length list.now ≤ 202 }
+    ensures { PutsAndEdits (V.shown view.now) changes.old changes.new block (replicate 512 0) 1 6 list.now result }
+{
+    if changes.get(1).is_none() {
+        return put_and_edit(view, changes, block, &[0; 512], 1, 6, list);
+    }
+    match changes.put_zeros(block) {
+        Ok(()) => {
+            let _ = changes.patch(1, 6, list);
+            Edited::Done
+        }
+        Err(_) => Edited::NoMemory,
     }
 }
 
