@@ -10,7 +10,7 @@
 //! The pages stand in two rings (`mb_layers`), so that neither a checkpoint nor a drop of the current pages grows with the
 //! number of pages: the links that they write are counted.
 //!
-//! `reserve` and `reserve_pins` take the memory of what follows; no other call but `pin` may want any.
+//! `reserve` and `reserve_pins` take the memory of what follows; no other call but `new` and `pin` may want any.
 #![tactic(auto)]
 
 mod answers;
