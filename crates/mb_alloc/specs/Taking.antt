@@ -1,9 +1,10 @@
 -- A block taken from the free chain.
-use Rattle.std.specs.Prelude.{List, ℕ, ◌≡◌, ◌<◌, ◌+◌, ◌⊎◌, Option}
+use Rattle.std.specs.Prelude.{List, ℕ, ◌≡◌, ◌<◌, ◌+◌, ◌⊎◌, Option, None, MatchOption}
 use Rattle.mb_tree.specs.Blocks.{first_list}
 use Rattle.mb_tree.specs.Chain.{IsNext}
 use Rattle.mb_tree.specs.Views.{over, IsPart}
 use Rattle.mb_iface.specs.Changed.{ChangeList, changed, IsWithinView}
+use Rattle.mb_iface.specs.Places.{StandsAt}
 use Rattle.mb_iface.specs.Needs.{IsNeed}
 use Rattle.mb_blocks.specs.FreeLists.{IsTaken}
 use Rattle.mb_blocks.specs.Growing.{IsZeroed}
@@ -18,8 +19,17 @@ pub record IsNextBehind (blocks : ℕ → List ℕ) (block left : ℕ) : Type 0 
   pub next : IsNext (first_list blocks) block
   pub behind : (first_list blocks).count ≡ left + 1
 
+-- where the super-block stands in the changes, if it does
+abbrev pub IsSuperPlace : ChangeList → Option ℕ → Type 0
+IsSuperPlace changes place = MatchOption place (changed changes 1 ≡ None) (λ p. StandsAt changes p 1)
+
+-- the bytes of the super-block, with its place in the changes
+pub record IsSuper (shown : ℕ → Option (List ℕ)) (changes : ChangeList) (bytes : List ℕ) (place : Option ℕ) : Type 0 where
+  pub found : (blocks : ℕ → List ℕ) → IsPart shown blocks → over blocks (changed changes) 1 ≡ bytes
+  pub placed : IsSuperPlace changes place
+
 abbrev pub TellsNext : (ℕ → Option (List ℕ)) → ChangeList → Next → Type 0
-TellsNext shown changes (next.Block b left) = (0 < b) × (b < 262144) × ((blocks : ℕ → List ℕ) → IsPart shown blocks → IsNextBehind (over blocks (changed changes)) b left)
+TellsNext shown changes (next.Block b left place) = (0 < b) × (b < 262144) × IsSuperPlace changes place × ((blocks : ℕ → List ℕ) → IsPart shown blocks → IsNextBehind (over blocks (changed changes)) b left)
 TellsNext shown changes next.NoneLeft = (blocks : ℕ → List ℕ) → IsPart shown blocks → KeepsRules (over blocks (changed changes)) → IsOut (first_list (over blocks (changed changes)))
 TellsNext shown changes (next.Need need) = IsNeed shown need × (need.first ≡ 1)
 

@@ -1,6 +1,7 @@
-ghost use Rattle.std.specs.Prelude.{◌≡◌, ◌<◌, ◌≤◌, length, replicate, take};
+ghost use Rattle.std.specs.Prelude.{◌≡◌, ◌<◌, ◌≤◌, length, replicate, take, None, MatchOption};
+ghost use Rattle.mb_iface.specs.Changed.{shown_over};
 ghost use Rattle.mb_iface.specs.Pairs.{PutsAndEdits};
-ghost use Rattle.mb_alloc.specs.Taking.{Takes, TakesZeroed, TellsNext};
+ghost use Rattle.mb_alloc.specs.Taking.{Takes, TakesZeroed, TellsNext, IsSuper, IsSuperPlace};
 
 use crate::writes::word;
 use mb_iface::{Changes, Edited, Need, View, edit, put_and_edit, seen};
@@ -25,19 +26,40 @@ pub enum Taken {
 #[derive(Clone, Copy, Drop)]
 enum Next {
     /// This block, from 1 on and below 262,144, behind so many addresses of the super-block's list;
-    /// behind none it holds the next list.
-    Block { block: u32, left: u16 },
+    /// behind none it holds the next list. And where the super-block stands in the changes, if it does.
+    Block {
+        block: u32,
+        left: u16,
+        place: Option<usize>,
+    },
     /// The chain has no block.
     NoneLeft,
     /// The view lacks block 1.
     Need(Need),
 }
 
+/// The bytes of the super-block, and where it stands in the changes, if it does; `None` exactly where
+/// it is neither changed nor in the view.
+fn super_block<'a, V: View>(
+    view: &'a V,
+    changes: &'a Changes,
+) -> Option<(&'a [u8; 512], Option<usize>)>
+    ensures { MatchOption result (shown_over (V.shown view.now) changes.now 1 ≡ None) (λ found. IsSuper (V.shown view.now) changes.now found.0.now found.1) }
+{
+    match changes.place(1) {
+        Some(place) => Some((changes.at(place).1, Some(place))),
+        None => {
+            let bytes = view.get(1)?;
+            Some((bytes, None))
+        }
+    }
+}
+
 /// Tells the next block of the free chain, which stays as it is.
 fn next_block<V: View>(view: &V, changes: &Changes) -> Next
     ensures { TellsNext (V.shown view.now) changes.now result }
 {
-    let Some(bytes) = seen(view, changes, 1) else {
+    let Some((bytes, place)) = super_block(view, changes) else {
         return Next::Need(Need::one(1));
     };
     let count = word_at(bytes, 6);
@@ -56,7 +78,7 @@ fn next_block<V: View>(view: &V, changes: &Changes) -> Next
         return Next::NoneLeft;
     }
     let left = count - 1;
-    Next::Block { block, left }
+    Next::Block { block, left, place }
 }
 
 /// Takes the next block from the free chain (V7 alloc(9), filsys(5)): the super-block's list falls by
@@ -67,7 +89,7 @@ pub fn take_block<V: View>(view: &V, changes: &mut Changes) -> Taken
     ensures { Takes (V.shown view.now) changes.old changes.new result }
 {
     let (block, left) = match next_block(view, changes) {
-        Next::Block { block, left } => (block, left),
+        Next::Block { block, left, .. } => (block, left),
         Next::NoneLeft => return Taken::NoneLeft,
         Next::Need(need) => return Taken::Need(need),
     };
@@ -95,8 +117,8 @@ pub fn take_zeroed<V: View>(view: &V, changes: &mut Changes, wanted: u32) -> Tak
     requires { 1 ≤ wanted }
     ensures { TakesZeroed (V.shown view.now) changes.old changes.new result }
 {
-    let (block, left) = match next_block(view, changes) {
-        Next::Block { block, left } => (block, left),
+    let (block, left, place) = match next_block(view, changes) {
+        Next::Block { block, left, place } => (block, left, place),
         Next::NoneLeft => return Taken::NoneLeft,
         Next::Need(need) => return Taken::Need(need),
     };
@@ -104,7 +126,7 @@ pub fn take_zeroed<V: View>(view: &V, changes: &mut Changes, wanted: u32) -> Tak
         return Taken::Need(Need::run(view, block, wanted));
     };
     if left > 0 {
-        return match zero_and_edit(view, changes, block, &word(left)) {
+        return match zero_and_edit(view, changes, place, block, &word(left)) {
             Edited::Done => Taken::Block(block),
             Edited::Lacking => Taken::Need(Need::one(1)),
             Edited::NoMemory => Taken::NoMemory,
@@ -114,7 +136,7 @@ pub fn take_zeroed<V: View>(view: &V, changes: &mut Changes, wanted: u32) -> Tak
         return Taken::Need(Need::one(block));
     };
     let list = list_bytes(held);
-    match zero_and_edit(view, changes, block, &list) {
+    match zero_and_edit(view, changes, place, block, &list) {
         Edited::Done => Taken::Block(block),
         Edited::Lacking => Taken::Need(Need::one(1)),
         Edited::NoMemory => Taken::NoMemory,
@@ -122,18 +144,31 @@ pub fn take_zeroed<V: View>(view: &V, changes: &mut Changes, wanted: u32) -> Tak
 }
 
 /// Fills a block with zeros and changes bytes of the super-block's list, its count first, in place where
-/// that is changed already; or does neither.
-fn zero_and_edit<V: View>(view: &V, changes: &mut Changes, block: u32, list: &[u8]) -> Edited
+/// that is changed already; or does neither. It stands in each of its callers, so that a count is stored
+/// there and not copied by a call.
+#[inline(always)]
+fn zero_and_edit<V: View>(
+    view: &V,
+    changes: &mut Changes,
+    place: Option<usize>,
+    block: u32,
+    list: &[u8],
+) -> Edited
+    requires place { IsSuperPlace changes.old place }
     requires below { block < 262144 }
     requires fits { length list.now ≤ 202 }
     ensures { PutsAndEdits (V.shown view.now) changes.old changes.new block (replicate 512 0) 1 6 list.now result }
 {
-    if changes.get(1).is_none() {
+    let Some(place) = place else {
+        return put_and_edit(view, changes, block, &[0; 512], 1, 6, list);
+    };
+    // no list of a volume names the super-block
+    if block == 1 {
         return put_and_edit(view, changes, block, &[0; 512], 1, 6, list);
     }
     match changes.put_zeros(block) {
         Ok(()) => {
-            let _ = changes.patch(1, 6, list);
+            changes.patch_at(place, 6, list);
             Edited::Done
         }
         Err(_) => Edited::NoMemory,

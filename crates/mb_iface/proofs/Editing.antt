@@ -90,6 +90,18 @@ by_put shown old mid new block at bytes found whole told kept there made each =
           }
     ] refl told kept
 
+-- a change in place of a block that is not changed does nothing
+pub unpatched : (old new : ChangeList) (block at : ℕ) (bytes : List ℕ) → is_some (changed old block) ≡ false → Patches (changed old block) old new block at bytes → new ≡ old
+unpatched old new block at bytes told each =
+    elim (changed old block) as (λ (o : Option (List ℕ)). is_some o ≡ false → Patches o old new block at bytes → new ≡ old) [
+      | None ↦ λ t p. p
+      | Some was ↦ λ t p. cc
+    ] told each
+
+pub none_told : (o : Option (List ℕ)) → is_some o ≡ false → o ≡ None
+none_told None told = refl
+none_told (Some bytes) told = cc
+
 -- the second of two edits is in place
 pub by_both : (shown : ℕ → Option (List ℕ)) (old mid new : ChangeList) (block at beside : ℕ) (bytes more : List ℕ) → HasEdited shown old mid block at bytes → Patches (changed mid block) mid new block beside more
     → HasEditedBoth shown old new block at bytes beside more

@@ -4,5 +4,6 @@ pub mod ChangedBlocks
 pub mod CountMaps
 pub mod Editing
 pub mod Marks
+pub mod Standing
 pub mod TwoBlocks
 pub mod WithinViews

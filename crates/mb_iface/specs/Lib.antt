@@ -8,3 +8,4 @@ pub mod Needs
 pub mod OpenCounts
 pub mod OverlayLaws
 pub mod Pairs
+pub mod Places

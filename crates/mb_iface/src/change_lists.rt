@@ -4,6 +4,7 @@ ghost use Rattle.std.specs.Option.{option_or};
 ghost use Rattle.mb_tree.specs.Views.{over};
 ghost use Rattle.indexmap.specs.IndexMap.{insert_entry, insert_all, spare, Updates, IsUnique};
 ghost use Rattle.mb_iface.specs.Changed.{AreChanges, changed, put_block};
+ghost use Rattle.mb_iface.specs.Places.{StandsAt};
 
 use indexmap::IndexMap;
 use indexmap::map::Entry;
@@ -208,7 +209,9 @@ impl Changes {
     }
 
     /// Changes bytes of a block that is changed already, from an offset on, and keeps its other bytes;
-    /// needs no memory. Where the block is not changed yet nothing is, and the answer is false.
+    /// needs no memory. Where the block is not changed yet nothing is, and the answer is false. It stands
+    /// in each of its callers, so that a few bytes are stored there and not copied by a call.
+    #[inline(always)]
     pub fn patch(&mut self, block: u32, at: usize, bytes: &[u8]) -> bool
         requires { at + length bytes.now ≤ 512 }
         ensures told { result ≡ is_some (changed self.old block) }
@@ -224,6 +227,26 @@ impl Changes {
             }
             None => false,
         }
+    }
+
+    /// Where a block stands in the list, counted from 0; `None` exactly where it is not changed. A
+    /// change of another block leaves it there.
+    pub fn place(&self, block: u32) -> Option<usize>
+        ensures found { IfSome result (λ place. StandsAt self.now place block) }
+        ensures none { IfNone result (changed self.now block ≡ None) }
+    {
+        place_of(&self.map, self.guesses[guess_of(block)], block)
+    }
+
+    /// Changes bytes of the block at a place of the list, counted from 0, from an offset on, and keeps
+    /// its other bytes; needs no memory, and no look-up.
+    pub fn patch_at(&mut self, place: usize, at: usize, bytes: &[u8])
+        requires place { place < length self.old }
+        requires fits { at + length bytes.now ≤ 512 }
+        ensures { (block : ℕ) (was : List ℕ) → slice_get self.old place ≡ Some (block, was) → (other : ℕ) → changed self.new other ≡ cond (nat_eq block other) (Some (put_at was at bytes.now)) (changed self.old other) }
+    {
+        let (_, page) = self.map.pair_mut(place);
+        write_at(page, at, bytes);
     }
 
     /// Changes two blocks, one after the other, or none. The only error is want of memory; the

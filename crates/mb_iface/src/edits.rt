@@ -1,4 +1,5 @@
-ghost use Rattle.std.specs.Prelude.{◌≤◌, ◌<◌, ◌+◌, length};
+ghost use Rattle.std.specs.Prelude.{◌≡◌, ◌≤◌, ◌<◌, ◌+◌, None, length};
+ghost use Rattle.mb_iface.specs.Changed.{changed};
 ghost use Rattle.mb_iface.specs.Edits.{Edits, EditsBoth};
 
 use crate::change_lists::Changes;
@@ -17,7 +18,9 @@ pub enum Edited {
 }
 
 /// Changes bytes of a block from an offset on, and keeps its other bytes: in place where the block is
-/// changed already, else in a copy of the view's block. Bytes that end past 512 are not taken.
+/// changed already, else in a copy of the view's block. Bytes that end past 512 are not taken. It
+/// stands in each of its callers, so that a few bytes are stored there and not copied by a call.
+#[inline(always)]
 pub fn edit<V: View>(view: &V, changes: &mut Changes, block: u32, at: usize, bytes: &[u8]) -> Edited
     requires below { block < 262144 }
     requires fits { at + length bytes.now ≤ 512 }
@@ -26,6 +29,24 @@ pub fn edit<V: View>(view: &V, changes: &mut Changes, block: u32, at: usize, byt
     if changes.patch(block, at, bytes) {
         return Edited::Done;
     }
+    edit_copy(view, changes, block, at, bytes)
+}
+
+/// Changes bytes of a block that is not changed yet, in a copy of the view's block. It stays out of its
+/// callers, whose way in place is short.
+#[inline(never)]
+fn edit_copy<V: View>(
+    view: &V,
+    changes: &mut Changes,
+    block: u32,
+    at: usize,
+    bytes: &[u8],
+) -> Edited
+    requires unchanged { changed changes.old block ≡ None }
+    requires below { block < 262144 }
+    requires fits { at + length bytes.now ≤ 512 }
+    ensures { Edits (V.shown view.now) changes.old changes.new block at bytes.now result }
+{
     let Some(found) = view.get(block) else {
         return Edited::Lacking;
     };

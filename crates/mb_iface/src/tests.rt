@@ -219,3 +219,18 @@ fn file_system_is_asked_and_acts_through_its_trait(rt: HostRuntime) {
     assert!(rt; matches!(ask_about(Starved, rt.alloc(), &view, 2), Asked::NoMemory));
     assert!(rt; matches!(act_on(Starved, rt.alloc(), &view, 2), Acted::NoMemory));
 }
+
+#[test]
+fn bytes_change_at_a_place_found_before(rt: HostRuntime) -> Result<(), Fail> {
+    let mut changes = Changes::new(rt.alloc());
+    changes.put(5, &[1; 512])?;
+    assert_eq!(rt; changes.place(6), None);
+    let place = changes.place(5).ok_or("no place")?;
+    changes.put(6, &[2; 512])?;
+    if place < changes.len() {
+        changes.patch_at(place, 3, &[9]);
+    }
+    assert_eq!(rt; changes.get(5).map(|bytes| bytes[3]), Some(9));
+    assert_eq!(rt; changes.get(6).map(|bytes| bytes[3]), Some(2));
+    Ok(())
+}

@@ -20,6 +20,7 @@ pub returns : goal.returns
 returns g c = (
   omega (arith, c.if-block-eq0.false),
   omega (arith, c.if-block-ge262144.false),
+  c.in-Some.ensures.placed,
   λ blocks part.
       (let bytes = c.in-Some.ensures.found blocks part in
       let counted = c.word_at-count.ensures ∙ ap (λ b. word_at b 6) (sym bytes) in

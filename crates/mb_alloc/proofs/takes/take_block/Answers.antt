@@ -10,7 +10,7 @@ returns-in-Done g c = (
   c.in-Block.ensures.1,
   c.in-Done.ensures.within,
   λ blocks part keeps.
-      taken_more (over blocks (changed c.args.changes.now)) (over blocks (changed c.edit.new.changes)) c.in-Block.block c.in-Block.left c.word.result keeps (c.in-Block.ensures.2 blocks part) c.if-left-gt0.true c.word.ensures
+      taken_more (over blocks (changed c.args.changes.now)) (over blocks (changed c.edit.new.changes)) c.in-Block.block c.in-Block.left c.word.result keeps (c.in-Block.ensures.3 blocks part) c.if-left-gt0.true c.word.ensures
       (c.in-Done.ensures.wrote blocks part),
 )
 
@@ -21,6 +21,6 @@ returns-in-Done-edit g c = (
   c.in-Done-edit.ensures.within,
   λ blocks part keeps.
       (let held = c.in-Some.ensures.found blocks part in
-      taken_last (over blocks (changed c.args.changes.now)) (over blocks (changed c.edit-2.new.changes)) c.in-Block.block c.in-Block.left c.list_bytes-list.result keeps (c.in-Block.ensures.2 blocks part) (omega (arith, c.if-left-gt0.false))
+      taken_last (over blocks (changed c.args.changes.now)) (over blocks (changed c.edit-2.new.changes)) c.in-Block.block c.in-Block.left c.list_bytes-list.result keeps (c.in-Block.ensures.3 blocks part) (omega (arith, c.if-left-gt0.false))
       (c.list_bytes-list.ensures.bytes ∙ ap (take 202) (sym held)) c.list_bytes-list.ensures.sized (c.in-Done-edit.ensures.wrote blocks part)),
 )

@@ -1,12 +1,21 @@
-use Rattle.std.proofs.Common.{refl, sym, ◌∙◌}
-use Rattle.mb_word.specs.Numbers.{put_at}
-use Rattle.mb_iface.proofs.Editing.{by_patch, by_put, put_patched}
+use Rattle.std.proofs.Common.{sym, ap, subst, ◌∙◌}
+use Rattle.mb_iface.specs.Changed.{changed}
+use Rattle.mb_iface.specs.Edits.{Edits}
+use Rattle.mb_iface.proofs.Editing.{by_patch, unpatched, none_told}
 use Rattle.mb_iface.proofs.edits.edit.Goals as goal
 
 pub returns-then-patch : goal.returns-then-patch
 returns-then-patch g c = by_patch (g.V.View.shown c.args.view.now) c.args.changes.now c.patch.new.self c.args.block c.args.at c.args.bytes.now (sym c.patch.ensures.told ∙ c.if-patch.true) c.patch.ensures.each
 
-pub returns-in-Ok : goal.returns-in-Ok
-returns-in-Ok g c =
-    by_put (g.V.View.shown c.args.view.now) c.args.changes.now c.patch.new.self c.patch-in-Ok.new.self c.args.block c.args.at c.args.bytes.now c.in-Some.found.now (put_at c.in-Some.found.now c.args.at c.args.bytes.now) (sym c.patch.ensures.told ∙ c.if-patch.false) c.patch.ensures.each (sym c.in-Some.ensures) refl
-    (put_patched c.patch.new.self c.put.new.self c.patch-in-Ok.new.self c.args.block c.args.at c.args.bytes.now c.in-Some.found.now c.in-Ok.ensures.each c.patch-in-Ok.ensures.each)
+pub edit_copy-requires-clause-unchanged : goal.edit_copy-requires-clause-unchanged
+edit_copy-requires-clause-unchanged g c =
+    let told = sym c.patch.ensures.told ∙ c.if-patch.false in
+    ap (λ es. changed es c.args.block) (unpatched c.args.changes.now c.patch.new.self c.args.block c.args.at c.args.bytes.now told c.patch.ensures.each)
+    ∙ none_told (changed c.args.changes.now c.args.block) told
+
+pub returns : goal.returns
+returns g c =
+    let told = sym c.patch.ensures.told ∙ c.if-patch.false in
+    subst (λ es. Edits (g.V.View.shown c.args.view.now) es c.edit_copy.new.changes c.args.block c.args.at c.args.bytes.now c.edit_copy.result)
+    (unpatched c.args.changes.now c.patch.new.self c.args.block c.args.at c.args.bytes.now told c.patch.ensures.each)
+    c.edit_copy.ensures
