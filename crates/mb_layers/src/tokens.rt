@@ -1,7 +1,7 @@
 //! The tokens of the pages, by block.
 ghost use Rattle.std.specs.Prelude.{◌≡◌, ◌≤◌, ◌<◌, ◌+◌, ◌-◌, ◌^◌, ℕ, Some, None, OnOk, IsOk, true, cond, nat_eq, is_some, option_copied, vec_len, vec_capacity};
 ghost use Rattle.std.specs.Option.{option_or};
-ghost use Rattle.indexmap.specs.IndexMap.{spare};
+ghost use Rattle.indexmap.specs.IndexMap.{get, spare};
 ghost use Rattle.mb_layers.specs.Tokens.{is_dropped, current_in, sealed_in, IsAged, SameAges};
 
 use indexmap::IndexMap;
@@ -24,6 +24,29 @@ pub(crate) struct Tokens {
     pub(crate) map: IndexMap<u32, Entry>,
     pub(crate) present: u64,
     pub(crate) dropped: Vec<u64>,
+    /// By a block's number modulo 1,024, where in the map such a block last came to stand, so that most
+    /// look-ups need no search. It is looked at before it is believed, and any number may stand here.
+    guesses: [u16; 1024],
+}
+
+/// Where the guess for a block stands.
+fn guess_of(block: u32) -> usize
+    ensures { result < 1024 }
+{
+    (block % 1024) as usize
+}
+
+/// The guess for a place. Places from 65,535 on have one guess, which is of use for the first alone.
+fn guess_at(place: usize) -> u16 {
+    place.min(65535) as u16
+}
+
+/// A block's entry, by a search. It stays out of its caller, whose way by a guess is short.
+#[inline(never)]
+fn searched(map: &IndexMap<u32, Entry>, block: u32) -> Option<&Entry>
+    ensures { option_copied result ≡ get nat_eq map.now block }
+{
+    map.get(&block)
 }
 
 impl Tokens {
@@ -37,6 +60,29 @@ impl Tokens {
             map: IndexMap::new(alloc),
             present: 0,
             dropped: Vec::new(alloc),
+            guesses: [0; 1024],
+        }
+    }
+
+    /// A block's entry, where it has one: at the guessed place, else by a search.
+    fn entry_of(&self, block: u32) -> Option<&Entry>
+        ensures { option_copied result ≡ get nat_eq self.now.map block }
+    {
+        let guess = self.guesses[guess_of(block)];
+        if let Some((key, entry)) = self.map.get_index(usize::from(guess)) {
+            if *key == block {
+                return Some(entry);
+            }
+        }
+        searched(&self.map, block)
+    }
+
+    /// Notes the place of the block that stands there, where one does.
+    fn note(&mut self, place: usize)
+        ensures { (self.new.map ≡ self.old.map) × (self.new.present ≡ self.old.present) × (self.new.dropped ≡ self.old.dropped) }
+    {
+        if let Some((block, _)) = self.map.get_index(place) {
+            self.guesses[guess_of(*block)] = guess_at(place);
         }
     }
 
@@ -80,7 +126,7 @@ impl Tokens {
     pub(crate) fn current(&self, block: u32) -> Option<&Token>
         ensures { option_copied result ≡ current_in self.now block }
     {
-        let entry = self.map.get(&block)?;
+        let entry = self.entry_of(block)?;
         if entry.generation != self.present {
             return None;
         }
@@ -92,7 +138,7 @@ impl Tokens {
         requires { IsAged self.now }
         ensures { option_copied result ≡ option_or (current_in self.now block) (sealed_in self.now block) }
     {
-        let entry = self.map.get(&block)?;
+        let entry = self.entry_of(block)?;
         if self.is_dropped(entry.generation) {
             return entry.older.as_ref();
         }
@@ -110,11 +156,13 @@ impl Tokens {
         ensures ages { SameAges self.old self.new }
         ensures spare { spare self.old.map ≤ spare self.new.map }
     {
+        let (place, _, entry) = self.map.swap_remove_full(&block)?;
+        self.note(place);
         let Entry {
             generation,
             newest,
             older,
-        } = self.map.swap_remove(&block)?;
+        } = entry;
         if self.is_dropped(generation) {
             older
         } else {
@@ -158,9 +206,11 @@ impl Tokens {
             newest: token,
             older,
         };
+        let place = self.map.len();
         let Ok(_) = self.map.insert(block, entry) else {
             unreachable!()
         };
+        self.note(place);
         is_both
     }
 
