@@ -16,6 +16,7 @@
 mod answers;
 mod caches;
 mod laws;
+mod numbers;
 mod pins;
 mod stamps;
 #[cfg(test)]

@@ -1,7 +1,7 @@
 ghost use Rattle.std.specs.Prelude.{◌≡◌, ◌≤◌, ◌<◌, ◌+◌, ◌-◌, [], ℕ, cond, nat_eq, OnOk, OnErr, IsOk};
 ghost use Rattle.mb_cache.specs.Stamps.{stamp_of};
 
-use indexmap::IndexMap;
+use crate::numbers::Numbers;
 use mb_edge::NoMemory;
 use std::alloc::Global;
 use std::marker::Model;
@@ -9,22 +9,21 @@ use std::marker::Model;
 /// How many calls in flight pin each block. A contract sees the list and the room.
 #[derive(Drop)]
 pub(crate) struct PinMap {
-    map: IndexMap<u32, u64>,
+    counts: Numbers,
     // how often a block was pinned, since the beginning
     total: u64,
 }
 
 impl Model for PinMap {
     ghost use Rattle.std.specs.Prelude.{ℕ, List, ◌^◌, ◌-◌, ◌≤◌, min};
-    ghost use Rattle.indexmap.specs.IndexMap.{spare};
     ghost use Rattle.mb_room.specs.Room.{Roomy};
     ghost use Rattle.mb_cache.specs.Stamps.{stamp_of};
 
     ghost Value = { Roomy (ℕ × ℕ) };
 
-    ghost view = { λ s. record { items = s.map.entries; spare = min (spare s.map) (2 ^ 64 - 1 - s.total) } };
+    ghost view = { λ s. record { items = s.counts.items; spare = min s.counts.spare (2 ^ 64 - 1 - s.total) } };
 
-    ghost invariant = { λ s. (block : ℕ) → stamp_of s.map.entries block ≤ s.total };
+    ghost invariant = { λ s. (block : ℕ) → stamp_of s.counts.items block ≤ s.total };
 }
 
 impl PinMap {
@@ -33,7 +32,7 @@ impl PinMap {
         ensures { result.items ≡ [] }
     {
         PinMap {
-            map: IndexMap::new(alloc),
+            counts: Numbers::new(alloc),
             total: 0,
         }
     }
@@ -42,10 +41,7 @@ impl PinMap {
     pub fn of(&self, block: u32) -> u64
         ensures { result ≡ stamp_of self.now.items block }
     {
-        match self.map.get(&block) {
-            Some(count) => *count,
-            None => 0,
-        }
+        self.counts.of(block)
     }
 
     /// Makes room for pins on so many more blocks. Nothing else changes.
@@ -58,8 +54,7 @@ impl PinMap {
         if (u64::MAX - self.total) < more as u64 {
             return Err(NoMemory);
         }
-        self.map.reserve(more)?;
-        Ok(())
+        self.counts.reserve(more)
     }
 
     /// One pin more on a block.
@@ -72,8 +67,7 @@ impl PinMap {
         if self.total == u64::MAX {
             return Err(NoMemory);
         }
-        let count = self.of(block) + 1;
-        self.map.insert(block, count)?;
+        self.counts.raise(block)?;
         self.total += 1;
         Ok(())
     }
@@ -84,8 +78,6 @@ impl PinMap {
         ensures pins { (other : ℕ) → stamp_of self.new.items other ≡ cond (nat_eq block other) (stamp_of self.old.items other - 1) (stamp_of self.old.items other) }
         ensures spare { self.old.spare ≤ self.new.spare }
     {
-        if let Some(count) = self.map.get_mut(&block) {
-            *count = count.saturating_sub(1);
-        }
+        self.counts.lower(block);
     }
 }

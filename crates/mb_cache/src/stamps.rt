@@ -1,7 +1,7 @@
 ghost use Rattle.std.specs.Prelude.{◌≡◌, ◌≤◌, ◌<◌, ◌+◌, [], ℕ, length, OnOk, IsOk};
 ghost use Rattle.mb_cache.specs.Stamps.{stamp_of, raised, raised_by};
 
-use indexmap::IndexMap;
+use crate::numbers::Numbers;
 use mb_edge::NoMemory;
 use mb_iface::Changes;
 use std::alloc::Global;
@@ -10,17 +10,16 @@ use std::marker::Model;
 /// How often each block was installed. A contract sees the list and the room.
 #[derive(Drop)]
 pub(crate) struct StampMap {
-    map: IndexMap<u32, u64>,
+    numbers: Numbers,
 }
 
 impl Model for StampMap {
     ghost use Rattle.std.specs.Prelude.{ℕ, List};
-    ghost use Rattle.indexmap.specs.IndexMap.{spare};
     ghost use Rattle.mb_room.specs.Room.{Roomy};
 
     ghost Value = { Roomy (ℕ × ℕ) };
 
-    ghost view = { λ s. record { items = s.map.entries; spare = spare s.map } };
+    ghost view = { λ s. record { items = s.numbers.items; spare = s.numbers.spare } };
 }
 
 impl StampMap {
@@ -29,7 +28,7 @@ impl StampMap {
         ensures { result.items ≡ [] }
     {
         StampMap {
-            map: IndexMap::new(alloc),
+            numbers: Numbers::new(alloc),
         }
     }
 
@@ -37,10 +36,7 @@ impl StampMap {
     pub fn of(&self, block: u32) -> u64
         ensures { result ≡ stamp_of self.now.items block }
     {
-        match self.map.get(&block) {
-            Some(stamp) => *stamp,
-            None => 0,
-        }
+        self.numbers.of(block)
     }
 
     /// Makes room for the stamps of so many more blocks. Nothing else changes.
@@ -50,8 +46,7 @@ impl StampMap {
         ensures kept { self.old.spare ≤ self.new.spare }
         ensures sure { more ≤ self.old.spare → IsOk result }
     {
-        self.map.reserve(more)?;
-        Ok(())
+        self.numbers.reserve(more)
     }
 
     /// One install more of a block; needs no memory.
@@ -60,8 +55,7 @@ impl StampMap {
         ensures items { self.new.items ≡ raised self.old.items block }
         ensures spare { self.old.spare ≤ self.new.spare + 1 }
     {
-        let stamp = self.of(block).saturating_add(1);
-        let Ok(_) = self.map.insert(block, stamp) else {
+        let Ok(()) = self.numbers.raise(block) else {
             unreachable!()
         };
     }
