@@ -79,13 +79,15 @@ spoiled_put old new block bytes spoils =
 
 -- the last page is on the disk in place of over it
 pub written_alike : (before after : Option Image) (front : PageList) (page : ℕ × List ℕ) → WritesBlock {E = Failed} before after (Ok tt) page.0 page.1 → ReadsAlike before (front ++ page ∷ []) after front
-written_alike None after front page written = tt
+written_alike None None front page written = tt
+written_alike None (Some new) front page written = absurd written
 written_alike (Some old) None front page written = absurd written
 written_alike (Some old) (Some new) front page written = ap (λ (view : Image). under view front) written ∙ sym (under_append old front (page ∷ []))
 
 -- a page covers what a write of it that failed has spoiled
 pub spoiled_alike : (before after : Option Image) (front : PageList) (page : ℕ × List ℕ) (failed : Failed) → WritesBlock before after (Err failed) page.0 page.1 → ReadsAlike before (front ++ page ∷ []) after (front ++ page ∷ [])
-spoiled_alike None after front page failed written = tt
+spoiled_alike None None front page failed written = tt
+spoiled_alike None (Some new) front page failed written = absurd written
 spoiled_alike (Some old) None front page failed written = absurd written
 spoiled_alike (Some old) (Some new) front page failed written =
     under_append new front (page ∷ []) ∙ ap (λ (view : Image). under view front) (spoiled_put old new page.0 page.1 written) ∙ sym (under_append old front (page ∷ []))

@@ -1,3 +1,4 @@
+pub mod Cleaning
 pub mod Flushing
 pub mod Layers
 pub mod Looks

@@ -1,5 +1,5 @@
 -- Pages over an image: what is read under them.
-use Rattle.std.proofs.Common.{◌≡◌, ℕ, List, Option, Some, None, unwrap_or, refl, sym, ap, ◌∙◌, option_map, IfSome}
+use Rattle.std.proofs.Common.{◌≡◌, ℕ, List, Option, Some, None, unwrap_or, refl, sym, ap, ◌∙◌, option_map, IfSome, IfOk, Result, Ok, Err}
 use Rattle.std.specs.Option.{option_or}
 use Rattle.mb_kinds.specs.Image.{Image}
 use Rattle.mb_edge.specs.Blocks.{GivesBlock}
@@ -34,3 +34,9 @@ pub seen_unpaged : (told : Option Image) (sealed current : PageList) (block : �
     → IfSome (option_map (λ image. under (under image sealed) current) told) (λ view. bytes ≡ view.at block)
 seen_unpaged None sealed current block bytes missed gives = tt
 seen_unpaged (Some image) sealed current block bytes missed gives = gives ∙ ap (λ o. unwrap_or o (image.at block)) missed ∙ seen_at image sealed current block
+
+-- what a read of the disk gave, where it gave something
+pub read_unpaged : {E : Type 0} (result : Result (List ℕ) E) (told : Option Image) (sealed current : PageList) (block : ℕ) → None ≡ option_or (page_at current block) (page_at sealed block) → IfOk result (λ bytes. GivesBlock told block bytes)
+    → IfOk result (λ bytes. IfSome (option_map (λ image. under (under image sealed) current) told) (λ view. bytes ≡ view.at block))
+read_unpaged (Ok bytes) told sealed current block missed gives = seen_unpaged told sealed current block bytes missed gives
+read_unpaged (Err e) told sealed current block missed gives = gives

@@ -1,4 +1,5 @@
 pub mod CacheLaws
+pub mod Clean
 pub mod Pages
 pub mod Stamps
 pub mod State

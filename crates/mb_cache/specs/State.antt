@@ -4,6 +4,7 @@ use Rattle.mb_kinds.specs.Image.{Image}
 use Rattle.mb_edge.specs.Blocks.{WritesBlock}
 use Rattle.mb_edge.specs.Causes.{HasCause, Rose}
 use Rattle.mb_edge.specs.declared.faults.Failed.{Failed}
+use Rattle.mb_cache.specs.Clean.{Rewrites}
 use Rattle.mb_cache.specs.Pages.{PageList, under}
 use Rattle.mb_cache.specs.Stamps.{Stamps}
 use Rattle.mb_cache.specs.declared.answers.Flushed.{Flushed}
@@ -11,11 +12,13 @@ use Rattle.mb_cache.specs.declared.answers.Flushed.TheVariants as flushed
 use Rattle.mb_cache.specs.declared.answers.ReadFault.{ReadFault}
 use Rattle.mb_cache.specs.declared.answers.ReadFault.TheVariants as fault
 
--- what is taken without memory: so many changed blocks, and so many pins; and how often a link of a page was written
+-- what is taken without memory: so many changed blocks, and so many pins; how often a link of a page was written; and the
+-- clean pages, the most recently used first. None of it shows in what is seen.
 pub record CacheRoom : Type 0 where
   pub pages : ℕ
   pub pins : ℕ
   pub writes : ℕ
+  pub clean : PageList
 
 -- the disk, the checkpointed pages that wait to be written back, the pages of the current epoch, how often each block
 -- was installed, and how many calls in flight pin it
@@ -47,7 +50,8 @@ ReadsAlike None pages after left = ⊤
 ReadsAlike (Some was) pages None left = ⊥
 ReadsAlike (Some was) pages (Some image) left = under image left ≡ under was pages
 
--- a write of one checkpointed page: which page it is, which stand before and behind it, and what the disk then holds
+-- a write of one checkpointed page: which page it is, which stand before and behind it, what the disk then holds, and which
+-- clean pages are kept
 pub record WritesPage {D : Type 0} (told : D → Option Image) (faults : D → ℕ) (old new : CacheState D) (result : Result (Unit {0}) Failed) : Type 0 where
   pub before : PageList
   pub page : ℕ × List ℕ
@@ -55,6 +59,7 @@ pub record WritesPage {D : Type 0} (told : D → Option Image) (faults : D → �
   pub waits : old.sealed ≡ before ++ (page ∷ behind)
   pub written : WritesBlock (told old.disk) (told new.disk) result page.0 page.1
   pub cause : HasCause (faults old.disk) (faults new.disk) result
+  pub clean : Rewrites old.room.clean new.room.clean result page.0 page.1
   pub alike : ReadsAlike (told old.disk) old.sealed (told new.disk) new.sealed
 
 -- no checkpointed page waits; one was written and no longer waits; or the write failed, and the page waits on
@@ -62,4 +67,4 @@ abbrev pub Flushes : {D : Type 0} → (D → Option Image) → (D → ℕ) → C
 Flushes told faults old new flushed.Clean = (old.sealed ≡ []) × (new ≡ old)
 Flushes told faults old new flushed.One =
     (back : WritesPage told faults old new (Ok tt)) × (new ≡ record old { disk = new.disk; sealed = back.before ++ back.behind; room = new.room })
-Flushes told faults old new flushed.Device = WritesPage told faults old new (Err record {}) × (new ≡ record old { disk = new.disk }) × Rose (faults old.disk) (faults new.disk)
+Flushes told faults old new flushed.Device = WritesPage told faults old new (Err record {}) × (new ≡ record old { disk = new.disk; room = record old.room { clean = new.room.clean } }) × Rose (faults old.disk) (faults new.disk)

@@ -1,33 +1,39 @@
-ghost use Rattle.std.specs.Prelude.{◌≡◌, ◌≤◌, ◌<◌, ◌+◌, ◌-◌, ◌*◌, [], ℕ, cond, nat_eq, length, OnOk, OnErr, IfOk, IfErr, IfSome, IsOk};
-ghost use Rattle.mb_edge.specs.Causes.{HasCause};
+ghost use Rattle.std.specs.Prelude.{◌≡◌, ◌≤◌, ◌<◌, ◌+◌, ◌-◌, ◌*◌, [], ℕ, None, cond, nat_eq, length, OnOk, OnErr, IfOk, IfErr, IfSome, IsOk};
+ghost use Rattle.std.specs.Option.{option_or};
+ghost use Rattle.mb_edge.specs.Blocks.{GivesBlock};
 ghost use Rattle.mb_kinds.specs.Image.{Image};
-ghost use Rattle.mb_cache.specs.Pages.{under, count_covered, installed, page_stroke, pages_damaged};
+ghost use Rattle.mb_cache.specs.Clean.{AreClean, Rereads, Rewrites};
+ghost use Rattle.mb_cache.specs.Pages.{page_at, under, count_covered, installed, page_stroke, pages_damaged};
 ghost use Rattle.mb_cache.specs.Stamps.{stamp_of, raised_by};
 ghost use Rattle.mb_cache.specs.State.{seen, Flushes, ReadHasCause};
 
 use crate::answers::{Flushed, ReadFault};
+use crate::clean::CleanPages;
 use crate::pins::PinMap;
 use crate::stamps::StampMap;
-use mb_edge::{Damage, Disk, Failed, NoMemory, Stroke};
+use mb_edge::{Damage, Disk, NoMemory, Stroke};
 use mb_iface::Changes;
 use mb_layers::Layers;
 use std::alloc::Global;
 use std::marker::Model;
 
 /// A disk under its checkpointed pages, which wait to be written back, and its current pages, those of the present
-/// epoch, with how often each block was installed and how many calls in flight pin it. A contract sees those parts,
-/// the room, which is how many changed blocks and how many pins are taken without memory, and the count of link writes.
-/// The room for a changed block serves for its install and for the checkpoint after it.
+/// epoch, with how often each block was installed and how many calls in flight pin it; and at most 1,024 clean pages, which
+/// are as the disk holds them, so that a block is not read anew for each call. A contract sees those parts, the room, which
+/// is how many changed blocks and how many pins are taken without memory, and the count of link writes. The room for a
+/// changed block serves for its install and for the checkpoint after it.
 pub struct Cache<D: Disk> {
     disk: D,
     layers: Layers,
     stamps: StampMap,
     pins: PinMap,
+    clean: CleanPages,
 }
 
 impl<D: Disk> Model for Cache<D> {
     ghost use Rattle.std.specs.Coded.{codes, coded_ℕ};
     ghost use Rattle.std.specs.Prelude.{min};
+    ghost use Rattle.mb_cache.specs.Clean.{AreClean};
     ghost use Rattle.mb_cache.specs.State.{CacheState};
 
     ghost Value = { CacheState D };
@@ -38,17 +44,23 @@ impl<D: Disk> Model for Cache<D> {
       current = c.layers.current;
       stamps = c.stamps.items;
       pins = c.pins.items;
-      room = record { pages = min c.layers.spare c.stamps.spare; pins = c.pins.spare; writes = c.layers.writes };
+      room = record { pages = min c.layers.spare c.stamps.spare; pins = c.pins.spare; writes = c.layers.writes; clean = c.clean };
     } };
+
+    ghost invariant = { λ c. AreClean (D.told c.disk) c.clean };
 }
 
 impl<D: Disk> Cache<D> {
-    /// No page and no pin, and every stamp 0. The only error is want of memory, with the disk back.
+    /// No page and no pin, no clean page, and every stamp 0. The only error is want of memory, with the disk back.
     pub fn new(alloc: Global, disk: D) -> Result<Cache<D>, D>
         ensures begun { IfOk result (λ cache. cache ≡ record { disk = disk; sealed = []; current = []; stamps = []; pins = []; room = cache.room }) }
+        ensures clean { IfOk result (λ cache. cache.room.clean ≡ []) }
         ensures back { IfErr result (λ same. same ≡ disk) }
     {
         let Ok(layers) = Layers::new(alloc) else {
+            return Err(disk);
+        };
+        let Ok(clean) = CleanPages::new(alloc) else {
             return Err(disk);
         };
         Ok(Cache {
@@ -56,6 +68,7 @@ impl<D: Disk> Cache<D> {
             layers,
             stamps: StampMap::new(alloc),
             pins: PinMap::new(alloc),
+            clean,
         })
     }
 
@@ -68,44 +81,68 @@ impl<D: Disk> Cache<D> {
             layers: _,
             stamps: _,
             pins: _,
+            clean: _,
         } = self;
         disk
     }
 
-    /// A block as it is seen: its current page, else its checkpointed one, else the disk's block. `Device` comes only
-    /// where the disk's count of faults rose.
+    /// A block as it is seen: its current page, else its checkpointed one, else the disk's block. A block that has a clean
+    /// page is not read from the disk; one that is read gets a clean page, where memory suffices. `Device` comes only where
+    /// the disk's count of faults rose.
     pub fn read(&mut self, block: u32) -> Result<[u8; 512], ReadFault>
         ensures bytes { IfOk result (λ bytes. IfSome (seen D.told self.old) (λ view. bytes ≡ view.at block)) }
         ensures size { IfOk result (λ bytes. length bytes ≡ 512) }
-        ensures rest { self.new ≡ record self.old { disk = self.new.disk } }
+        ensures rest { self.new ≡ record self.old { disk = self.new.disk; room = record self.old.room { clean = self.new.room.clean } } }
         ensures told { D.told self.new.disk ≡ D.told self.old.disk }
         ensures cause { ReadHasCause (D.faults self.old.disk) (D.faults self.new.disk) result }
-    {
-        match self.look(block) {
-            Ok(bytes) => Ok(bytes),
-            Err(_) => Err(ReadFault::Device),
-        }
-    }
-
-    fn look(&mut self, block: u32) -> Result<[u8; 512], Failed>
-        ensures bytes { IfOk result (λ bytes. IfSome (seen D.told self.old) (λ view. bytes ≡ view.at block)) }
-        ensures size { IfOk result (λ bytes. length bytes ≡ 512) }
-        ensures rest { self.new ≡ record self.old { disk = self.new.disk } }
-        ensures told { D.told self.new.disk ≡ D.told self.old.disk }
-        ensures cause { HasCause (D.faults self.old.disk) (D.faults self.new.disk) result }
+        ensures clean { Rereads (option_or (page_at self.old.current block) (page_at self.old.sealed block)) (page_at self.old.room.clean block) block self.old.disk self.old.room.clean self.new.disk self.new.room.clean result }
+        ensures held { AreClean (D.told self.new.disk) self.new.room.clean }
     {
         if let Some(bytes) = self.layers.get(block).copied() {
             return Ok(bytes);
         }
+        self.read_below(block)
+    }
+
+    /// The disk's block, by its clean page where it has one.
+    fn read_below(&mut self, block: u32) -> Result<[u8; 512], ReadFault>
+        ensures bytes { IfOk result (λ bytes. GivesBlock (D.told self.old.disk) block bytes) }
+        ensures size { IfOk result (λ bytes. length bytes ≡ 512) }
+        ensures rest { self.new ≡ record self.old { disk = self.new.disk; room = record self.old.room { clean = self.new.room.clean } } }
+        ensures told { D.told self.new.disk ≡ D.told self.old.disk }
+        ensures cause { ReadHasCause (D.faults self.old.disk) (D.faults self.new.disk) result }
+        ensures clean { Rereads None (page_at self.old.room.clean block) block self.old.disk self.old.room.clean self.new.disk self.new.room.clean result }
+        ensures held { AreClean (D.told self.new.disk) self.new.room.clean }
+    {
+        if let Some(bytes) = self.clean.read(block) {
+            return Ok(bytes);
+        }
+        self.read_disk(block)
+    }
+
+    /// The disk's block, of a block that has no clean page; it gets one, where memory suffices.
+    fn read_disk(&mut self, block: u32) -> Result<[u8; 512], ReadFault>
+        requires { page_at self.old.room.clean block ≡ None }
+        ensures bytes { IfOk result (λ bytes. GivesBlock (D.told self.old.disk) block bytes) }
+        ensures size { IfOk result (λ bytes. length bytes ≡ 512) }
+        ensures rest { self.new ≡ record self.old { disk = self.new.disk; room = record self.old.room { clean = self.new.room.clean } } }
+        ensures told { D.told self.new.disk ≡ D.told self.old.disk }
+        ensures cause { ReadHasCause (D.faults self.old.disk) (D.faults self.new.disk) result }
+        ensures clean { Rereads None None block self.old.disk self.old.room.clean self.new.disk self.new.room.clean result }
+        ensures held { AreClean (D.told self.new.disk) self.new.room.clean }
+    {
         let mut bytes = [0; 512];
-        self.disk.read(block, &mut bytes)?;
+        let Ok(()) = self.disk.read(block, &mut bytes) else {
+            return Err(ReadFault::Device);
+        };
+        self.clean.put(block, &bytes);
         Ok(bytes)
     }
 
     /// Makes room for an install of so many blocks and for the checkpoint after it. The only error is want of memory,
     /// and it does not come where there is room already.
     pub fn reserve(&mut self, blocks: usize) -> Result<(), NoMemory>
-        ensures same { self.new ≡ record self.old { room = record self.new.room { pins = self.old.room.pins } } }
+        ensures same { self.new ≡ record self.old { room = record self.new.room { pins = self.old.room.pins; clean = self.old.room.clean } } }
         ensures ok { OnOk result (blocks ≤ self.new.room.pages) }
         ensures kept { self.old.room.pages ≤ self.new.room.pages }
         ensures sure { blocks ≤ self.old.room.pages → IsOk result }
@@ -122,6 +159,7 @@ impl<D: Disk> Cache<D> {
         ensures installed { self.new ≡ record self.old { current = installed self.old.current changes.now; stamps = raised_by self.old.stamps changes.now; room = self.new.room } }
         ensures pages { self.old.room.pages ≤ self.new.room.pages + length changes.now }
         ensures pins { self.new.room.pins ≡ self.old.room.pins }
+        ensures clean { self.new.room.clean ≡ self.old.room.clean }
     {
         install_pages(&mut self.layers, changes);
         self.stamps.raise_all(changes);
@@ -170,7 +208,7 @@ impl<D: Disk> Cache<D> {
     /// Makes all current pages checkpointed ones, in the place of a block's older page where it has one, in at most eight
     /// link writes, and eight more for each block that has an older page; needs no memory.
     pub fn seal(&mut self)
-        ensures rest { self.new ≡ record self.old { sealed = self.new.sealed; current = []; room = record self.new.room { pins = self.old.room.pins } } }
+        ensures rest { self.new ≡ record self.old { sealed = self.new.sealed; current = []; room = record self.new.room { pins = self.old.room.pins; clean = self.old.room.clean } } }
         ensures view { (image : Image) → under image self.new.sealed ≡ under (under image self.old.sealed) self.old.current }
         ensures kept { self.old.room.pages ≤ self.new.room.pages }
         ensures writes { (self.old.room.writes ≤ self.new.room.writes) × (self.new.room.writes ≤ self.old.room.writes + 8 * (1 + count_covered self.old.sealed self.old.current)) }
@@ -180,20 +218,23 @@ impl<D: Disk> Cache<D> {
 
     /// Drops all current pages, in at most eight link writes; needs no memory.
     pub fn drop_current(&mut self)
-        ensures dropped { self.new ≡ record self.old { current = []; room = record self.new.room { pins = self.old.room.pins } } }
+        ensures dropped { self.new ≡ record self.old { current = []; room = record self.new.room { pins = self.old.room.pins; clean = self.old.room.clean } } }
         ensures kept { self.old.room.pages ≤ self.new.room.pages }
         ensures writes { (self.old.room.writes ≤ self.new.room.writes) × (self.new.room.writes ≤ self.old.room.writes + 8) }
     {
         self.layers.drop_current();
     }
 
-    /// Empties the clean cache. There is none: each block that has no page is read from the disk.
+    /// Forgets the clean pages: each block that has no page is read from the disk again. Needs no memory.
     pub fn forget_clean(&mut self)
-        ensures { self.new ≡ self.old }
-    {}
+        ensures { self.new ≡ record self.old { room = record self.old.room { clean = [] } } }
+    {
+        self.clean.clear();
+    }
 
     /// Writes one checkpointed page back: `Clean` exactly where none waits, and `Device` only where the disk's count of
-    /// faults rose, with the page still waiting. Needs no memory.
+    /// faults rose, with the page still waiting. A page that was written is a clean one from then on, where memory suffices;
+    /// a write that failed leaves its block without one.
     pub fn flush_one(&mut self) -> Flushed
         ensures flushes { Flushes D.told D.faults self.old self.new result }
         ensures kept { self.old.room.pages ≤ self.new.room.pages }
@@ -202,8 +243,10 @@ impl<D: Disk> Cache<D> {
         let Some((block, bytes)) = self.layers.last_sealed() else {
             return Flushed::Clean;
         };
+        self.clean.remove(block);
         match self.disk.write(block, bytes) {
             Ok(()) => {
+                self.clean.put(block, bytes);
                 self.layers.drop_last();
                 Flushed::One
             }

@@ -15,6 +15,7 @@
 
 mod answers;
 mod caches;
+mod clean;
 mod laws;
 mod numbers;
 mod pins;

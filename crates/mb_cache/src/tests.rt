@@ -5,26 +5,29 @@ use std::alloc::Global;
 use std::process::Abort;
 use std::test::Fail;
 
-// A disk of four blocks of ones, with room for twelve; of its writes the one with that number fails, none where it is 0.
-fn disk(alloc: Global, failing: u64) -> Result<MemDisk, Fail> {
+// A disk of four blocks of ones, with room for twelve; its calls with these numbers fail.
+fn disk(alloc: Global, reads: &[u64], writes: &[u64]) -> Result<MemDisk, Fail> {
     let image = Bytes::from_vec(vec![in alloc; 1; 2048]?);
-    let writes = Fails::from_vec([failing].to_vec(alloc)?);
     Ok(MemDisk::new(
         alloc,
         image,
         12,
         Fails::new(alloc),
-        Fails::new(alloc),
-        writes,
+        Fails::from_vec(reads.to_vec(alloc)?),
+        Fails::from_vec(writes.to_vec(alloc)?),
     )?)
 }
 
-// A cache over that disk.
-fn over_disk(alloc: Global, failing: u64) -> Result<Cache<MemDisk>, Fail> {
-    match Cache::new(alloc, disk(alloc, failing)?) {
+fn over(alloc: Global, disk: MemDisk) -> Result<Cache<MemDisk>, Fail> {
+    match Cache::new(alloc, disk) {
         Ok(cache) => Ok(cache),
         Err(_disk) => Err(NoMemory.into()),
     }
+}
+
+// A cache over that disk; of its writes the one with that number fails, none where it is 0.
+fn over_disk(alloc: Global, failing: u64) -> Result<Cache<MemDisk>, Fail> {
+    over(alloc, disk(alloc, &[], &[failing])?)
 }
 
 // Installs two blocks, each filled with one byte.
@@ -149,4 +152,69 @@ fn a_block_is_pinned_more_than_once(rt: HostRuntime) -> Result<(), Fail> {
     let done = pinned(&mut cache);
     let _disk = cache.into_disk();
     Ok(done?)
+}
+
+// A block is read once, also where the second read fails; it is read again once the clean pages are forgotten.
+fn read_once(rt: &impl Abort, cache: &mut Cache<MemDisk>) {
+    assert!(rt; cache.read(2) == Ok([1; 512]));
+    assert!(rt; cache.read(2) == Ok([1; 512]));
+    assert!(rt; cache.read(3) == Err(ReadFault::Device));
+    assert!(rt; cache.read(3) == Ok([1; 512]));
+    assert!(rt; cache.read(2) == Ok([1; 512]));
+    cache.forget_clean();
+    assert!(rt; cache.read(2) == Err(ReadFault::Device));
+}
+
+#[test]
+fn a_block_is_read_once(rt: HostRuntime) -> Result<(), Fail> {
+    let mut cache = over(rt.alloc(), disk(rt.alloc(), &[2, 4], &[])?)?;
+    read_once(&rt, &mut cache);
+    let _disk = cache.into_disk();
+    Ok(())
+}
+
+// Of 1,025 blocks that are read, each once, the first one loses its clean page, and the others keep theirs; the disk fails from
+// then on.
+fn read_many(rt: &impl Abort, cache: &mut Cache<MemDisk>) {
+    for block in 0..1025 {
+        assert!(rt; cache.read(block).is_ok());
+    }
+    for block in 1..1025 {
+        assert!(rt; cache.read(block).is_ok());
+    }
+    assert!(rt; cache.read(0) == Err(ReadFault::Device));
+}
+
+#[test]
+fn clean_pages_are_1024(rt: HostRuntime) -> Result<(), Fail> {
+    let mut cache = over(rt.alloc(), disk(rt.alloc(), &[1026], &[])?)?;
+    read_many(&rt, &mut cache);
+    let _disk = cache.into_disk();
+    Ok(())
+}
+
+// Of two blocks that are read and changed, the first one's write fails. Block 2, whose write was done, is a clean page then, and
+// block 1 is one again as soon as its page was written: the disk is read no third time.
+fn written_back(rt: &impl Abort, alloc: Global, cache: &mut Cache<MemDisk>) -> Result<(), Fail> {
+    assert!(rt; cache.read(1) == Ok([1; 512]));
+    assert!(rt; cache.read(2) == Ok([1; 512]));
+    install(alloc, cache, (2, 22), (1, 11))?;
+    cache.seal();
+    assert!(rt; cache.flush_one() == Flushed::Device);
+    assert!(rt; cache.read(1) == Ok([11; 512]));
+    assert!(rt; cache.flush_one() == Flushed::One);
+    assert!(rt; cache.flush_one() == Flushed::One);
+    assert!(rt; cache.flush_one() == Flushed::Clean);
+    assert!(rt; cache.read(1) == Ok([11; 512]));
+    assert!(rt; cache.read(2) == Ok([22; 512]));
+    assert!(rt; cache.read(3) == Err(ReadFault::Device));
+    Ok(())
+}
+
+#[test]
+fn a_page_that_was_written_is_clean(rt: HostRuntime) -> Result<(), Fail> {
+    let mut cache = over(rt.alloc(), disk(rt.alloc(), &[3], &[1])?)?;
+    let seen = written_back(&rt, rt.alloc(), &mut cache);
+    let _disk = cache.into_disk();
+    seen
 }

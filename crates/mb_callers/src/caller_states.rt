@@ -210,7 +210,7 @@ impl CallerState {
         ensures tables { need.first ≡ 0 → OnOk result (GathersTables cache.old cache.new (as_copy tables.now) self.old self.new pages.old pages.new) }
         ensures blocks { 1 ≤ need.first → OnOk result (GathersBlocks D.told cache.old cache.new need.first need.count self.old self.new pages.old pages.new) }
         ensures err { OnErr result ((self.new ≡ self.old) × (pages.new ≡ pages.old) × (cache.new.pins ≡ cache.old.pins)) }
-        ensures rest { cache.new ≡ record cache.old { disk = cache.new.disk; pins = cache.new.pins; room = record cache.old.room { pins = cache.new.room.pins } } }
+        ensures rest { cache.new ≡ record cache.old { disk = cache.new.disk; pins = cache.new.pins; room = record cache.old.room { pins = cache.new.room.pins; clean = cache.new.room.clean } } }
         ensures told { D.told cache.new.disk ≡ D.told cache.old.disk }
         ensures cause { ReadHasCause (D.faults cache.old.disk) (D.faults cache.new.disk) result }
     {
@@ -253,7 +253,7 @@ impl CallerState {
         requires count { need.count ≤ 32 }
         ensures ok { OnOk result (GathersBlocks D.told cache.old cache.new need.first need.count self.old self.new pages.old pages.new) }
         ensures err { OnErr result ((self.new ≡ self.old) × (pages.new ≡ pages.old) × (cache.new.pins ≡ cache.old.pins)) }
-        ensures rest { cache.new ≡ record cache.old { disk = cache.new.disk; pins = cache.new.pins; room = record cache.old.room { pins = cache.new.room.pins } } }
+        ensures rest { cache.new ≡ record cache.old { disk = cache.new.disk; pins = cache.new.pins; room = record cache.old.room { pins = cache.new.room.pins; clean = cache.new.room.clean } } }
         ensures told { D.told cache.new.disk ≡ D.told cache.old.disk }
         ensures cause { ReadHasCause (D.faults cache.old.disk) (D.faults cache.new.disk) result }
     {

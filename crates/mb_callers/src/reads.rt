@@ -65,7 +65,7 @@ impl Reads {
 }
 
 fn read_one<D: Disk>(cache: &mut Cache<D>, reads: &mut Reads, block: u32) -> Result<(), ReadFault>
-    ensures rest { cache.new ≡ record cache.old { disk = cache.new.disk } }
+    ensures rest { cache.new ≡ record cache.old { disk = cache.new.disk; room = record cache.old.room { clean = cache.new.room.clean } } }
     ensures told { D.told cache.new.disk ≡ D.told cache.old.disk }
     ensures cause { ReadHasCause (D.faults cache.old.disk) (D.faults cache.new.disk) result }
     ensures ok { OnOk result ((first : ℕ) → first + length reads.old ≡ block → AreRead (seen D.told cache.old) cache.old.stamps first reads.old → AreRead (seen D.told cache.old) cache.old.stamps first reads.new) }
@@ -85,7 +85,7 @@ pub(crate) fn fetch<D: Disk>(
     count: u32,
 ) -> Result<(), ReadFault>
     requires { first + count ≤ 4294967295 }
-    ensures rest { cache.new ≡ record cache.old { disk = cache.new.disk } }
+    ensures rest { cache.new ≡ record cache.old { disk = cache.new.disk; room = record cache.old.room { clean = cache.new.room.clean } } }
     ensures told { D.told cache.new.disk ≡ D.told cache.old.disk }
     ensures cause { ReadHasCause (D.faults cache.old.disk) (D.faults cache.new.disk) result }
     ensures ok { OnOk result (AreRead (seen D.told cache.old) cache.old.stamps first reads.new) }

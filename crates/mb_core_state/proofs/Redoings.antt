@@ -13,18 +13,18 @@ use Rattle.mb_journal.specs.Room.{KeepsRoom}
 use Rattle.mb_core_spec.specs.Events.{GivesBack, Leaves, answered_by, with_room}
 use Rattle.mb_core_spec.specs.Numbers.{open_flight}
 use Rattle.mb_core_spec.specs.State.{CallerState, CoreState}
-use Rattle.mb_core_state.specs.Answers.{with_disk}
+use Rattle.mb_core_state.specs.Answers.{with_disk, with_read}
 use Rattle.mb_core_state.specs.Opening.{ActsOnNameless}
 use Rattle.mb_core_state.specs.Redoing.{ActsSeen, EndsIf, HasOpenRoom, IsReplayed, redoing}
 
 -- what the file system answered, and what it made of the core
-pub replayed : {F D : Type 0} (told : D → Option Image) (old mid new : CoreState F D) (done : ℕ) (logged : Logged) (changes : ChangeList) → mid ≡ with_disk old mid.cache.disk → new.cache.disk ≡ mid.cache.disk → AreChanges changes
+pub replayed : {F D : Type 0} (told : D → Option Image) (old mid new : CoreState F D) (done : ℕ) (logged : Logged) (changes : ChangeList) → mid ≡ with_read old mid.cache → new.cache.disk ≡ mid.cache.disk → AreChanges changes
     → ActsSeen told old.cache old.tables.opens logged.op logged.pick changes → new ≡ with_room (redoing mid logged changes done) new → IsReplayed told old new done logged
 replayed {F} {D} told old mid new done logged changes rest disk are acts event = record {
   changes = changes;
   are = are;
   acts = acts;
-  event = event ∙ ap (λ (core : CoreState F D). with_room (redoing core logged changes done) new) (rest ∙ ap (with_disk old) (sym disk));
+  event = event ∙ ap (λ (core : CoreState F D). with_room (redoing core logged changes done) new) rest ∙ ap (λ (d : D). with_room (redoing (with_disk old d) logged changes done) new) (sym disk);
 }
 
 -- ---- the call for which a step was made

@@ -8,6 +8,7 @@ use Rattle.mb_kinds.specs.declared.replies.Reply.TheVariants as reply
 use Rattle.mb_edge.specs.Causes.{Rose}
 use Rattle.mb_edge.specs.declared.strokes.Stroke.{Stroke}
 use Rattle.mb_iface.specs.declared.replies.Need.{Need}
+use Rattle.mb_cache.specs.State.{CacheState}
 use Rattle.mb_callers.specs.Gathering.{GathersBlocks, GathersTables}
 use Rattle.mb_core_spec.specs.Copies.{LiveTables, PagesState, TableCopy}
 use Rattle.mb_core_spec.specs.Events.{GivesBack, answered_by, gathering, leaving, with_room}
@@ -38,6 +39,10 @@ IsPresent core ticket = ticket.incarnation ≡ core.incarnation
 -- the core with another disk
 abbrev pub with_disk : {F D : Type 0} → CoreState F D → D → CoreState F D
 with_disk core disk = record core { cache = record core.cache { disk = disk } }
+
+-- the core after reads of blocks: the disk was read, and other pages are clean ones
+abbrev pub with_read : {F D : Type 0} → CoreState F D → CacheState D → CoreState F D
+with_read core cache = record core { cache = record core.cache { disk = cache.disk; room = cache.room } }
 
 -- a copy of the tables as they are
 abbrev pub live_copy : LiveTables → TableCopy

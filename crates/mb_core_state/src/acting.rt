@@ -11,7 +11,8 @@ use mb_tree::FsOp;
 use std::alloc::Global;
 
 /// What a file system makes of an operation, over blocks as they are seen; those that it lacks are gathered. An operation
-/// that it refuses is answered as want of memory. On an error nothing has changed but the disk and the blocks.
+/// that it refuses is answered as want of memory. On an error nothing has changed but the disk, the clean pages and the
+/// blocks.
 pub(crate) fn act_seen<F: FileSys, D: Disk>(
     alloc: Global,
     fs: &F,
@@ -23,7 +24,7 @@ pub(crate) fn act_seen<F: FileSys, D: Disk>(
 ) -> Result<Changes, ReadFault>
     requires { AreSeen D.told cache.old blocks.old }
     ensures ok { IfOk result (λ changes. ActsSeen D.told cache.old opens.now op.now pick changes) }
-    ensures rest { cache.new ≡ record cache.old { disk = cache.new.disk } }
+    ensures rest { cache.new ≡ record cache.old { disk = cache.new.disk; room = record cache.old.room { clean = cache.new.room.clean } } }
     ensures told { D.told cache.new.disk ≡ D.told cache.old.disk }
     ensures cause { ReadHasCause (D.faults cache.old.disk) (D.faults cache.new.disk) result }
     ensures seen { AreSeen D.told cache.new blocks.new }

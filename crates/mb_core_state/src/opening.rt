@@ -1,7 +1,7 @@
 ghost use Rattle.std.specs.Prelude.{◌≡◌, ◌<◌, ◌≤◌, length, OnOk, OnErr, IfOk};
 ghost use Rattle.mb_cache.specs.State.{ReadHasCause};
 ghost use Rattle.mb_core_spec.specs.Events.{with_room};
-ghost use Rattle.mb_core_state.specs.Answers.{with_disk};
+ghost use Rattle.mb_core_state.specs.Answers.{with_disk, with_read};
 ghost use Rattle.mb_core_state.specs.Opening.{ActsOnNameless, IsCheckpointedBy, IsSwept};
 
 use crate::acting::act_seen;
@@ -34,7 +34,7 @@ impl<F: FileSys, D: Disk> Fields<F, D> {
     fn release_all(&mut self, alloc: Global, nameless: Inos) -> Result<Changes, ReadFault>
         requires { length nameless < 4294967296 }
         ensures ok { IfOk result (λ changes. ActsOnNameless D.told self.old.cache nameless changes) }
-        ensures rest { self.new ≡ with_disk self.old self.new.cache.disk }
+        ensures rest { self.new ≡ with_read self.old self.new.cache }
         ensures told { D.told self.new.cache.disk ≡ D.told self.old.cache.disk }
         ensures cause { ReadHasCause (D.faults self.old.cache.disk) (D.faults self.new.cache.disk) result }
     {

@@ -6,7 +6,7 @@ ghost use Rattle.mb_journal.specs.Room.{KeepsRoom};
 ghost use Rattle.mb_core_spec.specs.Events.{Leaves, with_room};
 ghost use Rattle.mb_core_spec.specs.Numbers.{open_flight};
 ghost use Rattle.mb_core_spec.specs.State.{CallerState};
-ghost use Rattle.mb_core_state.specs.Answers.{with_disk};
+ghost use Rattle.mb_core_state.specs.Answers.{with_disk, with_read};
 ghost use Rattle.mb_core_state.specs.Redoing.{ActsSeen, EndsByDevice, FailsStep, HasOpenRoom, IsRemounted, IsReplayed, redoing};
 ghost use Rattle.mb_core_state.specs.Rooms.{HasPins};
 
@@ -108,7 +108,7 @@ impl<F: FileSys, D: Disk> Fields<F, D> {
     fn act_again(&mut self, alloc: Global, done: u32) -> Result<Changes, ReadFault>
         requires { done < length self.old.journal.oplog }
         ensures ok { IfOk result (λ changes. (logged : Logged) → slice_get self.old.journal.oplog done ≡ Some logged → ActsSeen D.told self.old.cache self.old.tables.opens logged.op logged.pick changes) }
-        ensures rest { self.new ≡ with_disk self.old self.new.cache.disk }
+        ensures rest { self.new ≡ with_read self.old self.new.cache }
         ensures told { D.told self.new.cache.disk ≡ D.told self.old.cache.disk }
         ensures cause { ReadHasCause (D.faults self.old.cache.disk) (D.faults self.new.cache.disk) result }
     {

@@ -26,9 +26,10 @@ pub record Spoils (old new : Image) (block : ℕ) : Type 0 where
   pub not_fewer : old.count ≤ new.count
   pub not_more : new.count ≤ max old.count (block + 1)
 
--- a write puts the block, or spoils it where it fails
+-- a write puts the block, or spoils it where it fails; a device that told nothing goes on telling nothing
 abbrev pub WritesBlock : {E : Type 0} → Option Image → Option Image → Result Unit E → ℕ → List ℕ → Type 0
-WritesBlock None new result block bytes = ⊤
+WritesBlock None None result block bytes = ⊤
+WritesBlock None (Some new) result block bytes = ⊥
 WritesBlock (Some old) None result block bytes = ⊥
 WritesBlock (Some old) (Some new) result block bytes = MatchResult result (λ _. new ≡ put old block bytes) (λ _. Spoils old new block)
 

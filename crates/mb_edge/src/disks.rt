@@ -5,7 +5,8 @@ ghost use Rattle.mb_edge.specs.Causes.{HasCause};
 
 use crate::faults::Failed;
 
-/// A device of blocks of 512 bytes. `told` is its image, where it tells it; `faults` counts its faults.
+/// A device of blocks of 512 bytes. `told` is its image, where it tells it, which it does always or never; `faults` counts
+/// its faults.
 pub trait Disk {
     ghost told: { Self → Option Image };
 
