@@ -1,5 +1,5 @@
-//! The page cache over a disk: the checkpointed and the current pages, how often each block was installed, and how
-//! many calls in flight pin it.
+//! The page cache over a disk: the checkpointed and the current pages, clean pages, how often each block was installed, and
+//! how many calls in flight pin it.
 //!
 //! A contract sees a `Cache` as a `CacheState` (`specs/State.antt`): lists of pages over a disk. What is seen of a block
 //! is its current page, else its checkpointed page, else the disk's block: `seen`, and the law `seen_in_layers`. The
@@ -9,6 +9,9 @@
 //!
 //! The pages stand in two rings (`mb_layers`), so that neither a checkpoint nor a drop of the current pages grows with the
 //! number of pages: the links that they write are counted.
+//!
+//! A block that has no page is read from the disk once: what was read, and what was written back, is kept as a clean page
+//! (`specs/Clean.antt`), of which there are at most 1,024. Each is as the disk holds it, so nothing that is seen depends on them.
 //!
 //! `reserve` and `reserve_pins` take the memory of what follows; no other call but `new` and `pin` may want any.
 #![tactic(auto)]
