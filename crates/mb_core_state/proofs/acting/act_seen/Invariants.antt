@@ -8,7 +8,7 @@ use Rattle.mb_core_state.proofs.acting.act_seen.Given as goal
 
 abbrev pub invariant-asks : goal.invariant-asks
 invariant-asks g l = record {
-  rest : l.cache ≡ record l.fn.cache { disk = l.cache.disk };
+  rest : l.cache ≡ record l.fn.cache { disk = l.cache.disk; room = record l.fn.cache.room { clean = l.cache.room.clean } };
   told : g.D.Disk.told l.cache.disk ≡ g.D.Disk.told l.fn.cache.disk;
   later : g.D.Disk.faults l.fn.cache.disk ≤ g.D.Disk.faults l.cache.disk;
   part : (view : Image) → seen g.D.Disk.told l.fn.cache ≡ Some view → IsPart (shown l.blocks) view.at;
