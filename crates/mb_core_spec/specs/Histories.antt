@@ -1,5 +1,5 @@
 -- The history, the checkpoint, and the operations since it that lead to now.
-use Rattle.std.specs.Prelude.{List, [], ◌∷◌, ◌++◌, ℕ, ◌*◌, ◌≤◌, ◌≡◌, drop, length, map}
+use Rattle.std.specs.Prelude.{List, [], ◌∷◌, ◌++◌, ℕ, ◌*◌, ◌≤◌, ◌≡◌, drop, length}
 use Rattle.mb_kinds.specs.Image.{Image}
 use Rattle.mb_kinds.specs.declared.entries.Entry.{Entry}
 use Rattle.mb_folds.specs.Folded.{folded}
@@ -12,6 +12,7 @@ use Rattle.mb_tree.specs.declared.machines.Machine.{Machine}
 use Rattle.mb_tree.specs.declared.seats.Seat.{Seat}
 use Rattle.mb_tree.specs.declared.trees.Tree.{Tree}
 use Rattle.mb_oplog.specs.declared.oplogs.Logged.{Logged}
+pub use Rattle.mb_oplog.specs.Picked.{as_picked, picked_ops}
 
 -- the history is legal, and the sessions are those of the machine after it, which is valid
 pub record IsLegalSoFar (machine : Machine) (begins : ℕ) (history : List Entry) (sessions : List Seat) : Type 0 where
@@ -26,13 +27,6 @@ pub record IsCheckpointed (machine : Machine) (before : Tree) (first base : Imag
   pub volume : IsVolume base (after_first machine history sealed_at).tree
   pub kept : Kept before first (after_first machine history sealed_at).tree base
   pub seats : (after_first machine history sealed_at).seats ≡ saved
-
--- a logged operation as the model has it
-abbrev pub as_picked : Logged → PickedOp
-as_picked logged = record { op = logged.op; pick = logged.pick }
-
-abbrev pub picked_ops : List Logged → List PickedOp
-picked_ops oplog = map as_picked oplog
 
 -- operations in parts, the latest part first: what is left of them where all before a part were folded when it began
 abbrev pub relogged : List (List PickedOp) → List PickedOp

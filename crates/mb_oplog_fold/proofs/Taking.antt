@@ -7,7 +7,7 @@ use Rattle.mb_tree.specs.CarriedOut.{PickedOp}
 use Rattle.mb_oplog.specs.declared.oplogs.Logged.{Logged}
 use Rattle.mb_folds.specs.Folded.{folded, folded_from, is_merged, merged}
 use Rattle.mb_folds.proofs.Folding.{folded_is_short}
-use Rattle.mb_oplog_fold.specs.Oplogs.{as_picked, picked_ops}
+use Rattle.mb_oplog.specs.Picked.{as_picked, picked_ops}
 
 -- the rest of a list from a place on begins with the element there
 next_first : {X : Type 0} (xs : List X) (at : ℕ) (x : X) → slice_get xs at ≡ Some x → drop at xs ≡ x ∷ drop (at + 1) xs

@@ -1,7 +1,7 @@
 ghost use Rattle.std.specs.Prelude.{◌≡◌, ◌∷◌, ◌++◌, ◌+◌, ◌<◌, ◌≤◌, List, IfOk, OnOk, OnErr, length};
 ghost use Rattle.mb_tree.specs.CarriedOut.{PickedOp};
 ghost use Rattle.mb_folds.specs.Folded.{folded, folded_from};
-ghost use Rattle.mb_oplog_fold.specs.Oplogs.{as_picked, picked_ops};
+ghost use Rattle.mb_oplog.specs.Picked.{as_picked, picked_ops};
 
 use crate::copies::copied;
 use crate::joins::{is_merged, merged};

@@ -1,6 +1,6 @@
 ghost use Rattle.std.specs.Prelude.{◌≡◌, ◌≤◌, ◌+◌, ◌++◌, IfOk, length, true};
 ghost use Rattle.mb_folds.specs.Folded as fold;
-ghost use Rattle.mb_oplog_fold.specs.Oplogs.{as_picked};
+ghost use Rattle.mb_oplog.specs.Picked.{as_picked};
 
 use crate::copies::copied_op;
 use mb_edge::NoMemory;

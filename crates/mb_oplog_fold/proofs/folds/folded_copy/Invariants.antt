@@ -1,6 +1,6 @@
 use Rattle.std.proofs.Common.{◌≡◌, ◌++◌, drop, length}
 use Rattle.mb_folds.specs.Folded.{folded, folded_from}
-use Rattle.mb_oplog_fold.specs.Oplogs.{as_picked, picked_ops}
+use Rattle.mb_oplog.specs.Picked.{as_picked, picked_ops}
 use Rattle.mb_oplog_fold.proofs.folds.folded_copy.Given as goal
 
 abbrev pub invariant-loop-at : goal.invariant-loop-at
