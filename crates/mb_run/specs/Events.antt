@@ -8,6 +8,7 @@ use Rattle.mb_kinds.specs.declared.faults.Kind.{Kind}
 use Rattle.mb_kinds.specs.declared.faults.Ticket.{Ticket}
 use Rattle.mb_kinds.specs.declared.replies.Reply.{Reply}
 use Rattle.mb_kinds.specs.declared.replies.Reply.TheVariants as reply
+use Rattle.mb_edge.specs.Causes.{Rose}
 use Rattle.mb_core_spec.specs.Copies.{PagesState, no_pages, shown}
 use Rattle.mb_run.specs.Pages.{HasTablesFor, Performs, has}
 use Rattle.mb_run.specs.Seals.{is_due}
@@ -202,6 +203,13 @@ Finishes old new ticket pages made finished.Logged = (ticket.incarnation ≡ old
 abbrev pub LeavesWith : Sight → Sight → Ticket → Left → Type 0
 LeavesWith old new ticket (left.Skip mine was) = (ticket.incarnation ≢ old.incarnation) × (new ≡ old)
 LeavesWith old new ticket (left.Left answer) = (ticket.incarnation ≡ old.incarnation) × ((flight : Flight) × Leaves ticket.caller flight old new × IsReplyOf old.history ticket.caller flight.ordinal answer)
+
+-- with a call that left one checkpointed page was written back: one fewer waits, or none waited; or as many wait on, and the
+-- disk's count of faults rose
+abbrev pub WritesBehind : ℕ → ℕ → Sight → Sight → Left → Type 0
+WritesBehind before now old new (left.Skip mine was) = Unit {0}
+WritesBehind before now old new (left.Left answer) =
+    (old.sealed ≡ new.sealed + 1) ⊎ (((old.sealed ≡ 0) × (new.sealed ≡ 0)) ⊎ ((new.sealed ≡ old.sealed) × Rose before now))
 
 -- what a call is performed over that finishes, and what it came to
 abbrev pub IsReadyAt : Sight → Ticket → PagesState → Ready → Type 0

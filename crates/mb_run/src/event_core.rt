@@ -3,7 +3,7 @@ ghost use Rattle.mb_core_spec.specs.declared.stages.Stage.TheVariants as stage;
 ghost use Rattle.mb_cache.specs.declared.answers.Flushed.TheVariants as flushed;
 ghost use Rattle.mb_edge.specs.Causes.{Rose};
 ghost use Rattle.mb_run.specs.declared.answers.Stepped.TheVariants as stepped;
-ghost use Rattle.mb_run.specs.Events.{Enters, FaultsWith, Finishes, FlushesWith, Gathers, IsAsked, IsCallOf, IsReadyAt, LeavesWith, Quits, sealed};
+ghost use Rattle.mb_run.specs.Events.{Enters, FaultsWith, Finishes, FlushesWith, Gathers, IsAsked, IsCallOf, IsReadyAt, LeavesWith, Quits, WritesBehind, sealed};
 ghost use Rattle.mb_run.specs.Lengths.{Stands};
 ghost use Rattle.mb_run.specs.Pages.{HasTablesFor, Performs, has};
 ghost use Rattle.mb_run.specs.Recovering.{GoOn, RunsFor, Steps};
@@ -101,11 +101,14 @@ pub trait EventCore {
         ensures origin { origin self.new ≡ origin self.old }
         ensures right { IsOrderly (sight self.new) };
 
-    /// A call that has its entry leaves.
+    /// A call that has its entry leaves, and then one checkpointed page is written back: where the disk fails in that, the
+    /// page waits on and the answer stands.
     fn leave(&mut self, ticket: &Ticket) -> Left
         requires ticket { HasTicket true ((sight self.old).seats ticket.now.caller) ticket.now }
         requires right { IsOrderly (sight self.old) }
         ensures leaves { LeavesWith (sight self.old) (sight self.new) ticket.now result }
+        ensures behind { WritesBehind (faults self.old) (faults self.new) (sight self.old) (sight self.new) result }
+        ensures later { faults self.old ≤ faults self.new }
         ensures origin { origin self.new ≡ origin self.old }
         ensures right { IsOrderly (sight self.new) };
 

@@ -11,3 +11,4 @@ pub mod Finishing
 pub mod Recovering
 pub mod Rising
 pub mod Sealing
+pub mod Behind

@@ -4,6 +4,7 @@ ghost use Rattle.mb_core_spec.specs.declared.config.Config.{Config};
 ghost use Rattle.mb_run.specs.CoreSight.{sight_of};
 ghost use Rattle.mb_run.specs.Seals.{is_due};
 ghost use Rattle.mb_run.specs.Served.{AreCounts};
+ghost use Rattle.mb_volume_core.specs.Flushes.{FlushesAfter};
 ghost use Rattle.mb_volume_core.specs.Seals.{SealsAfter};
 
 use crate::answers::{as_ready, entered_as, stepped_as};
@@ -73,6 +74,18 @@ fn seal_if_due<F: FileSys, D: Disk>(core: &mut Core<F, D>, finished: &Finished, 
             Err(_) => unreachable!(),
         }
     }
+}
+
+/// Writes one checkpointed page back where a call left. Where the disk fails, the page waits on.
+fn write_behind<F: FileSys, D: Disk>(core: &mut Core<F, D>, left: &Left)
+    requires right { Right D.told D.faults core.old }
+    ensures flushes { FlushesAfter D.told D.faults left.now core.old core.new }
+    ensures right { Right D.told D.faults core.new }
+{
+    let Left::Left(_) = left else {
+        return;
+    };
+    let _ = core.flush_one();
 }
 
 impl<F: FileSys, D: Disk> EventCore for VolumeCore<F, D> {
@@ -154,7 +167,9 @@ impl<F: FileSys, D: Disk> EventCore for VolumeCore<F, D> {
 
     fn leave(&mut self, ticket: &Ticket) -> Left {
         in_order(&self.core);
-        self.core.leave(ticket)
+        let left = self.core.leave(ticket);
+        write_behind(&mut self.core, &left);
+        left
     }
 
     fn fault<H: Hook>(&mut self, ticket: &Ticket, kind: Kind, nth: u32, hook: &H) -> Fault {
