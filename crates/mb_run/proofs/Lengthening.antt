@@ -1,7 +1,7 @@
 -- The steps of a recovery, counted.
 use Rattle.std.proofs.Common.{◌≡◌, ℕ, zero, suc, ◌+◌, ◌≤◌, ◌⊎◌, inl, inr, refl, subst, sym, ap, arith}
 use Rattle.mb_core_spec.specs.declared.stages.Stage.TheVariants as stage
-use Rattle.mb_run.specs.Lengths.{Forward, GoesForward, GoesSince, RecoversSoon, Stands, WentForward}
+use Rattle.mb_run.specs.Lengths.{Forward, GoesForward, GoesSince, RecoversSoon, Stands, StandsOn, WentForward}
 use Rattle.mb_run.specs.Recovering.{Rolls}
 use Rattle.mb_run.specs.Sights.{IsOrderly, Sight}
 use Rattle.mb_run.specs.declared.progress.Went.TheVariants as went
@@ -26,7 +26,7 @@ recovers_soon steps fault now right forward = (
 pub stands_still : (old new : Sight) → new ≡ old → Stands old new
 stands_still old new same = record { nearer = subst (λ (s : Sight). s.left + old.ops ≤ old.left + s.ops) (sym same) (omega arith) }
 
-stands_on : (old mid new : Sight) → Stands old mid → Stands mid new → Stands old new
+pub stands_on : StandsOn
 stands_on old mid new one other = record { nearer = (let first = one.nearer in let second = other.nearer in omega (arith, first, second)) }
 
 pub no_step : (old new : Sight) → Stands old new → GoesForward old new

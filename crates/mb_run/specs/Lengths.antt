@@ -11,6 +11,10 @@ use Rattle.mb_run.specs.declared.settles.SettleEnd.{SettleEnd}
 pub record Stands (old new : Sight) : Type 0 where
   pub nearer : new.left + old.ops ≤ old.left + new.ops
 
+-- so much for one event after another
+abbrev pub StandsOn : Type 0
+StandsOn = (old mid new : Sight) → Stands old mid → Stands mid new → Stands old new
+
 -- so many steps forward were made, and no fault came
 abbrev pub Forward : ℕ → Sight → Sight → Type 0
 Forward zero old new = Stands old new

@@ -9,7 +9,7 @@ ghost use Rattle.mb_run.specs.Pages.{HasTablesFor, Performs, has};
 ghost use Rattle.mb_run.specs.Recovering.{GoOn, RunsFor, Steps};
 ghost use Rattle.mb_run.specs.Rising.{RisesWith};
 ghost use Rattle.mb_run.specs.Served.{MayEnter};
-ghost use Rattle.mb_run.specs.Sights.{HasTicket, IsOrderly, IsTicketOf, IsWaiting, Sight, limits_of};
+ghost use Rattle.mb_run.specs.Sights.{HasTicket, IsOrderly, IsTicketOf, IsWaiting, Sight, limits_of, recovers};
 
 use crate::answers::{Enter, Stepped};
 use mb_cache::Flushed;
@@ -24,7 +24,8 @@ use std::alloc::Global;
 
 /// A core as its driver calls it: each call is one event. `sight` is what a driver sees of it, `faults` the disk's count of
 /// faults, and `origin` what the core was begun on, which no event changes. Every event keeps a sight in order
-/// (`IsOrderly`); so checkpoints are taken in time (`AreInTime`), whatever drives it.
+/// (`IsOrderly`); so checkpoints are taken in time (`AreInTime`), whatever drives it. In a recovery no event but a step of it
+/// brings its end further off (`stands`), so that it ends as soon as `recovers_soon` says, whoever's calls come between.
 pub trait EventCore {
     /// What a core was begun on: plain data that contracts alone speak of.
     type Origin;
@@ -66,6 +67,7 @@ pub trait EventCore {
         requires may { MayEnter (sight self.old) caller call.now }
         requires right { IsOrderly (sight self.old) }
         ensures enters { Enters (sight self.old) (sight self.new) caller call.now result }
+        ensures stands { Stands (sight self.old) (sight self.new) }
         ensures origin { origin self.new ≡ origin self.old }
         ensures right { IsOrderly (sight self.new) };
 
@@ -77,6 +79,7 @@ pub trait EventCore {
         requires count { need.count ≤ 32 }
         requires right { IsOrderly (sight self.old) }
         ensures gathers { Gathers (sight self.old) (sight self.new) ticket.now need pages.old pages.new result }
+        ensures stands { Stands (sight self.old) (sight self.new) }
         ensures origin { origin self.new ≡ origin self.old }
         ensures right { IsOrderly (sight self.new) };
 
@@ -98,6 +101,7 @@ pub trait EventCore {
         requires ready { IsReadyAt (sight self.old) ticket.now pages.now ready }
         requires right { IsOrderly (sight self.old) }
         ensures finishes { Finishes (sight self.old) (sight self.new) ticket.now pages.now call.now result }
+        ensures stands { recovers (sight self.old).stage ≡ true → Stands (sight self.old) (sight self.new) }
         ensures origin { origin self.new ≡ origin self.old }
         ensures right { IsOrderly (sight self.new) };
 
@@ -109,6 +113,7 @@ pub trait EventCore {
         ensures leaves { LeavesWith (sight self.old) (sight self.new) ticket.now result }
         ensures behind { WritesBehind (faults self.old) (faults self.new) (sight self.old) (sight self.new) result }
         ensures later { faults self.old ≤ faults self.new }
+        ensures stands { Stands (sight self.old) (sight self.new) }
         ensures origin { origin self.new ≡ origin self.old }
         ensures right { IsOrderly (sight self.new) };
 
@@ -118,6 +123,7 @@ pub trait EventCore {
         requires struck { H.struck hook.now ≡ Some (record { caller = ticket.now.caller; ordinal = ticket.now.ordinal; kind = kind; nth = nth }) }
         requires right { IsOrderly (sight self.old) }
         ensures faults { FaultsWith (sight self.old) (sight self.new) ticket.now kind nth result }
+        ensures stands { recovers (sight self.old).stage ≡ true → Stands (sight self.old) (sight self.new) }
         ensures origin { origin self.new ≡ origin self.old }
         ensures right { IsOrderly (sight self.new) };
 
@@ -146,6 +152,7 @@ pub trait EventCore {
         requires waits { IsWaiting ((sight self.old).seats caller) }
         requires right { IsOrderly (sight self.old) }
         ensures quits { Quits caller (sight self.old) (sight self.new) }
+        ensures stands { Stands (sight self.old) (sight self.new) }
         ensures origin { origin self.new ≡ origin self.old }
         ensures right { IsOrderly (sight self.new) };
 
@@ -165,6 +172,7 @@ pub trait EventCore {
         ensures flushes { FlushesWith (sight self.old) (sight self.new) result }
         ensures device { result ≡ flushed.Device → Rose (faults self.old) (faults self.new) }
         ensures later { faults self.old ≤ faults self.new }
+        ensures stands { Stands (sight self.old) (sight self.new) }
         ensures origin { origin self.new ≡ origin self.old }
         ensures right { IsOrderly (sight self.new) };
 }

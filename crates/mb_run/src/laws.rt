@@ -1,4 +1,4 @@
-ghost use Rattle.mb_run.specs.Lengths.{RecoversSoon};
+ghost use Rattle.mb_run.specs.Lengths.{RecoversSoon, StandsOn};
 ghost use Rattle.mb_run.specs.Runs.{PlannedAreTaken};
 
 /// What a driver says over the test of a fault plan, over the plan's rules.
@@ -10,4 +10,10 @@ pub fn planned_faults()
 /// each operation of the log, and four.
 pub fn recovers_soon()
     ensures { RecoversSoon }
+{}
+
+/// What comes between two steps of a recovery may be any number of events, one after another: what stands after each stands
+/// after all of them.
+pub fn stands_on()
+    ensures { StandsOn }
 {}

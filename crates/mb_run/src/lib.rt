@@ -37,7 +37,7 @@ pub use event_core::EventCore;
 pub use examples::{
     worked_checkpoints, worked_entering, worked_faults, worked_moments, worked_orders,
 };
-pub use laws::{planned_faults, recovers_soon};
+pub use laws::{planned_faults, recovers_soon, stands_on};
 pub use orders::run_order;
 pub use progress::{Next, Turn, Went};
 pub use runner::{At, Runner};

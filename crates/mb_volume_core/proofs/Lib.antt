@@ -12,3 +12,4 @@ pub mod Recovering
 pub mod Rising
 pub mod Sealing
 pub mod Behind
+pub mod Standing

@@ -52,6 +52,7 @@ use Rattle.mb_volume_core.specs.Answers.{stepped_as}
 use Rattle.mb_volume_core.proofs.Answering.{answered, open_is}
 use Rattle.mb_volume_core.proofs.Gathering.{last_begun}
 use Rattle.mb_volume_core.proofs.Origins.{origin_of}
+use Rattle.mb_volume_core.proofs.Standing.{ended_stands}
 use Rattle.mb_volume_core.proofs.Staying.{begun_now, floor_without, keeps_log, open_now, own_now, seated, some_at, stays_at}
 
 -- ---- the crossings of the call that runs the step
@@ -461,22 +462,10 @@ rose_at told faults core new by test strokes answer is told_so = device_only tol
 
 -- ---- where the disk failed, the recovery stands where it stood
 
-fewer_inside : (few many ops : ℕ) (now : Stage) → few ≤ many → steps_left few ops now ≤ steps_left many ops now
-fewer_inside few many ops stage.Struck low = omega (arith, low)
-fewer_inside few many ops stage.Running low = omega arith
-fewer_inside few many ops stage.Again low = omega arith
-fewer_inside few many ops stage.Dropped low = omega arith
-fewer_inside few many ops stage.Remounted low = omega arith
-fewer_inside few many ops (stage.Restored done) low = omega arith
-fewer_inside few many ops stage.Failed low = omega arith
-
 module _ {F D : Type 0} (faults : D → ℕ) (core new : CoreState F D) where
   ends_stands : (caller : ℕ) (mine : CallerState) (flight : Flight) → slice_get core.callers caller ≡ Some mine → EndsIf (with_disk core new.cache.disk) new caller mine (Some flight) → Stands (sight_of core) (sight_of new)
   ends_stands caller mine flight here ends =
-      let ended : CallerState = taken_back (record mine { flight = None; inside = false; answer = None }) in
-      let less : insiders (slice_set core.callers caller ended) + one_if mine.inside ≡ insiders core.callers + 0 = insiders_set core.callers caller mine ended here in
-      let low = fewer_inside (insiders (slice_set core.callers caller ended)) (insiders core.callers) (length core.journal.oplog) core.stage (omega (arith, less)) in
-      record { nearer = subst (λ (c : CoreState F D). (sight_of c).left + (sight_of core).ops ≤ (sight_of core).left + (sight_of c).ops) (sym ends.0) (omega (arith, low)) }
+      ended_stands core caller mine here new (ap (λ (c : CoreState F D). c.journal.oplog) ends.0) (ap (λ (c : CoreState F D). c.stage) ends.0) (ap (λ (c : CoreState F D). c.callers) ends.0)
 
   fails_stands : (by : Option Crossings) → IfSome by (HasFor core) → FailsStep faults core new (caller_of by) read.Device → Stands (sight_of core) (sight_of new)
   fails_stands None runs fails = stands_still (sight_of core) (sight_of new) (ap sight_of fails.1.0)

@@ -173,6 +173,7 @@ impl<F: FileSys, D: Disk> EventCore for VolumeCore<F, D> {
     }
 
     fn fault<H: Hook>(&mut self, ticket: &Ticket, kind: Kind, nth: u32, hook: &H) -> Fault {
+        in_order(&self.core);
         self.core.fault(ticket, kind, nth, hook)
     }
 

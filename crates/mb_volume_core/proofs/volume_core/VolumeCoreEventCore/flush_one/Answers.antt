@@ -3,6 +3,7 @@ use Rattle.mb_run.proofs.InTime.{flushes_time}
 use Rattle.mb_volume_core.proofs.Orderly.{orderly}
 use Rattle.mb_volume_core.proofs.Origins.{origin_of}
 use Rattle.mb_volume_core.proofs.Sealing.{flush_later, flush_rose, flushes}
+use Rattle.mb_volume_core.proofs.Standing.{flush_stands}
 use Rattle.mb_volume_core.proofs.volume_core.VolumeCoreEventCore.flush_one.Goals as goal
 
 pub returns-clause-flushes : goal.returns-clause-flushes
@@ -13,6 +14,9 @@ returns-clause-device g c = flush_rose c.args.self.now.core c.flush_one.new.self
 
 pub returns-clause-later : goal.returns-clause-later
 returns-clause-later g c = flush_later c.args.self.now.core c.flush_one.new.self g.D.Disk.told g.D.Disk.faults c.flush_one.result c.flush_one.ensures.flushes
+
+pub returns-clause-stands : goal.returns-clause-stands
+returns-clause-stands g c = flush_stands c.args.self.now.core c.flush_one.new.self c.flush_one.ensures.rest
 
 pub returns-clause-origin : goal.returns-clause-origin
 returns-clause-origin g c = ap origin_of c.flush_one.ensures.rest

@@ -3,6 +3,7 @@ use Rattle.mb_run.proofs.InTime.{leaves_time}
 use Rattle.mb_volume_core.proofs.Behind.{behind_origin, faults_later, leaves_behind, writes_behind}
 use Rattle.mb_volume_core.proofs.Leaving.{has_entry, leaves_by, left_origin}
 use Rattle.mb_volume_core.proofs.Orderly.{orderly}
+use Rattle.mb_volume_core.proofs.Standing.{leave_stands}
 use Rattle.mb_volume_core.proofs.volume_core.VolumeCoreEventCore.leave.Goals as goal
 
 pub leave-left-requires : goal.leave-left-requires
@@ -27,6 +28,12 @@ returns-clause-later g c =
     let core = c.args.self.now.core in
     let has = has_entry core c.args.ticket.now c.requires.ticket in
     faults_later g.D.Disk.told g.D.Disk.faults core c.leave-left.new.self c.write_behind.new.core c.args.ticket.now has.0.mine c.leave-left.result (c.leave-left.ensures.leaves has.0.mine has.0.here) c.write_behind.ensures.flushes
+
+pub returns-clause-stands : goal.returns-clause-stands
+returns-clause-stands g c =
+    let core = c.args.self.now.core in
+    let has = has_entry core c.args.ticket.now c.requires.ticket in
+    leave_stands g.D.Disk.told g.D.Disk.faults core c.leave-left.new.self c.write_behind.new.core c.args.ticket.now has.0.mine has.0.here c.leave-left.result (c.leave-left.ensures.leaves has.0.mine has.0.here) c.write_behind.ensures.flushes
 
 pub returns-clause-origin : goal.returns-clause-origin
 returns-clause-origin g c =
