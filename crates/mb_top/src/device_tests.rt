@@ -135,7 +135,13 @@ fn job_of_200_calls(alloc: Global) -> Result<String, AllocError> {
 fn the_disk_fails_at_one_write_of_200_calls(rt: HostRuntime) -> Result<(), Fail> {
     let job = job_of_200_calls(rt.alloc())?;
     let image = fresh(rt.alloc())?;
-    let calm = run(rt.alloc(), &["run", "v"], image, job.as_str(), NOTHING_FAILS)?;
+    let calm = run(
+        rt.alloc(),
+        &["run", "v"],
+        image,
+        job.as_str(),
+        NOTHING_FAILS,
+    )?;
     assert_eq!(rt; calm.status, 0);
     let (mut hidden, mut told) = (0, 0);
     for write in 1..1000 {
@@ -151,7 +157,10 @@ fn the_disk_fails_at_one_write_of_200_calls(rt: HostRuntime) -> Result<(), Fail>
             continue;
         }
         assert_eq!(rt; end.status, 0, "write {write}");
-        assert!(rt; end.printed == calm.printed && end.image == calm.image, "write {write}");
+        assert!(rt;
+            end.printed == calm.printed && end.image == calm.image,
+            "write {write}"
+        );
         if told > 0 {
             assert!(rt; hidden > 100, "{hidden} writes between calls");
             return Ok(());
