@@ -10,7 +10,7 @@ use Rattle.lru.specs.LruCache.{LruCache, lru_cache, promoted, put_entries}
 use Rattle.lru.proofs.CallerLemmas.{Contains-lookup, Contains-promoted, Contains-remove_entry, Contains-take}
 use Rattle.lru.proofs.Matching.{none_found}
 use Rattle.lru.proofs.Pairs.{lookup-lookup_entry}
-use Rattle.lru.proofs.Splits.{Contains-cons, Contains-nil}
+use Rattle.lru.proofs.Splits.{Contains-cons}
 use Rattle.mb_kinds.specs.Image.{Image, put}
 use Rattle.mb_edge.specs.Blocks.{GivesBlock, Spoils, WritesBlock}
 use Rattle.mb_cache.specs.Clean.{AreClean, Rereads, fronted, most_clean}
@@ -52,10 +52,6 @@ rereads_missing clean mid block disk left kept result none first it =
     (subst (λ pages. Rereads None None block disk pages left kept result) (first ∙ promoted_missing clean block none) it)
 
 -- ---- what clean pages hold
-
-pub none_clean : (told : Option Image) → AreClean told []
-none_clean None = tt
-none_clean (Some image) = λ page has. absurd (Contains-nil page has)
 
 fewer : (told : Option Image) (clean kept : PageList) → ((page : ℕ × List ℕ) → Contains kept page → Contains clean page) → AreClean told clean → AreClean told kept
 fewer None clean kept from are = tt

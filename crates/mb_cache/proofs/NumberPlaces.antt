@@ -28,10 +28,6 @@ raised_at stamps place block was once here =
     sym (insert_entry-first nat_eq block (min (stamp_of stamps block + 1) (2 ^ 64 - 1)) stamps place (own_first nat_eq nat_eq_equiv stamps place block was once here)
     ∙ ap (λ n. set_value_at stamps place (min (n + 1) (2 ^ 64 - 1))) (number_at stamps place block was once here))
 
--- the first one of a block
-pub raised_new : (stamps : Stamps) (block : ℕ) → lookup (nat_eq block) stamps ≡ None → insert_entry nat_eq stamps block 1 ≡ raised stamps block
-raised_new stamps block none = ap (λ (found : Option ℕ). insert_entry nat_eq stamps block (min (unwrap_or found 0 + 1) (2 ^ 64 - 1))) (sym none)
-
 -- one less at its place
 pub lowered_at : (stamps : Stamps) (place block was : ℕ) → IsDistinct nat_eq (keys_of stamps) → slice_get stamps place ≡ Some (block, was)
     → (other : ℕ) → stamp_of (set_value_at stamps place (was - 1)) other ≡ cond (nat_eq block other) (stamp_of stamps other - 1) (stamp_of stamps other)
@@ -42,18 +38,6 @@ lowered_at stamps place block was once here other =
     at_test true same =
         let at : block ≡ other = grind (arith, nat_tests, same) in
         ap (λ n. n - 1) (sym (number_at stamps place block was once here) ∙ ap (stamp_of stamps) at)
-    at_test false apart = refl
-
--- a block that has no number keeps none
-pub lowered_none : (stamps : Stamps) (block : ℕ) → lookup (nat_eq block) stamps ≡ None
-    → (other : ℕ) → stamp_of stamps other ≡ cond (nat_eq block other) (stamp_of stamps other - 1) (stamp_of stamps other)
-lowered_none stamps block none other = at_test (nat_eq block other) refl
-  where
-    at_test : (test : Bool) → nat_eq block other ≡ test → stamp_of stamps other ≡ cond test (stamp_of stamps other - 1) (stamp_of stamps other)
-    at_test true same =
-        let at : block ≡ other = grind (arith, nat_tests, same) in
-        let lacks : stamp_of stamps other ≡ 0 = ap (stamp_of stamps) (sym at) ∙ ap (λ (found : Option ℕ). unwrap_or found 0) none in
-        lacks ∙ sym (ap (λ n. n - 1) lacks)
     at_test false apart = refl
 
 -- one more where the number is not the greatest

@@ -1,11 +1,12 @@
 -- What contracts see of a cache, and what is read through it.
 use Rattle.std.specs.Prelude.{List, [], ◌∷◌, ◌++◌, ℕ, ◌≡◌, ◌≤◌, ⊤, Option, None, Some, option_map, Result, Ok, Err, IfErr}
+use Rattle.std.specs.Option.{option_or}
 use Rattle.mb_kinds.specs.Image.{Image}
 use Rattle.mb_edge.specs.Blocks.{WritesBlock}
 use Rattle.mb_edge.specs.Causes.{HasCause, Rose}
 use Rattle.mb_edge.specs.declared.faults.Failed.{Failed}
-use Rattle.mb_cache.specs.Clean.{Rewrites}
-use Rattle.mb_cache.specs.Pages.{PageList, under}
+use Rattle.mb_cache.specs.Clean.{Rereads, Rewrites}
+use Rattle.mb_cache.specs.Pages.{PageList, page_at, under}
 use Rattle.mb_cache.specs.Stamps.{Stamps}
 use Rattle.mb_cache.specs.declared.answers.Flushed.{Flushed}
 use Rattle.mb_cache.specs.declared.answers.Flushed.TheVariants as flushed
@@ -33,6 +34,11 @@ pub record CacheState (D : Type 0) : Type 0 where
 -- what is seen: the disk under the checkpointed and the current pages
 abbrev pub seen : {D : Type 0} → (D → Option Image) → CacheState D → Option Image
 seen told cache = option_map (λ image. under (under image cache.sealed) cache.current) (told cache.disk)
+
+-- what a read of a block leaves of a cache, by the pages that the block had
+abbrev pub ReadsThrough : {D : Type 0} → CacheState D → CacheState D → ℕ → Result (List ℕ) ReadFault → Type 0
+ReadsThrough old new block result =
+    Rereads (option_or (page_at old.current block) (page_at old.sealed block)) (page_at old.room.clean block) block old.disk old.room.clean new.disk new.room.clean result
 
 -- a read blames the device only where its count of faults rose
 abbrev pub IsBlamed : ℕ → ℕ → ReadFault → Type 0

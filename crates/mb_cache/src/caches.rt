@@ -1,11 +1,10 @@
 ghost use Rattle.std.specs.Prelude.{◌≡◌, ◌≤◌, ◌<◌, ◌+◌, ◌-◌, ◌*◌, [], ℕ, None, cond, nat_eq, length, OnOk, OnErr, IfOk, IfErr, IfSome, IsOk};
-ghost use Rattle.std.specs.Option.{option_or};
 ghost use Rattle.mb_edge.specs.Blocks.{GivesBlock};
 ghost use Rattle.mb_kinds.specs.Image.{Image};
-ghost use Rattle.mb_cache.specs.Clean.{AreClean, Rereads, Rewrites};
+ghost use Rattle.mb_cache.specs.Clean.{AreClean, Rereads};
 ghost use Rattle.mb_cache.specs.Pages.{page_at, under, count_covered, installed, page_stroke, pages_damaged};
 ghost use Rattle.mb_cache.specs.Stamps.{stamp_of, raised_by};
-ghost use Rattle.mb_cache.specs.State.{seen, Flushes, ReadHasCause};
+ghost use Rattle.mb_cache.specs.State.{seen, Flushes, ReadHasCause, ReadsThrough};
 
 use crate::answers::{Flushed, ReadFault};
 use crate::clean::CleanPages;
@@ -95,7 +94,7 @@ impl<D: Disk> Cache<D> {
         ensures rest { self.new ≡ record self.old { disk = self.new.disk; room = record self.old.room { clean = self.new.room.clean } } }
         ensures told { D.told self.new.disk ≡ D.told self.old.disk }
         ensures cause { ReadHasCause (D.faults self.old.disk) (D.faults self.new.disk) result }
-        ensures clean { Rereads (option_or (page_at self.old.current block) (page_at self.old.sealed block)) (page_at self.old.room.clean block) block self.old.disk self.old.room.clean self.new.disk self.new.room.clean result }
+        ensures clean { ReadsThrough self.old self.new block result }
         ensures held { AreClean (D.told self.new.disk) self.new.room.clean }
     {
         if let Some(bytes) = self.layers.get(block).copied() {
