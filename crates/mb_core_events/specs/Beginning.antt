@@ -15,8 +15,9 @@ use Rattle.mb_core_spec.specs.State.{CoreState}
 use Rattle.mb_core_spec.specs.declared.config.Config.{Config}
 use Rattle.mb_core_state.specs.Opening.{IsSwept}
 
--- no entry, record, step or logged operation, every caller idle, no page current and none pinned. The disk that it keeps as
--- the first one tells what the given disk told, and so does the one under its pages; counts of faults do not fall
+-- no entry, record, step or logged operation, every caller idle, no page current, none pinned and none a clean one. The disk
+-- that it keeps as the first one tells what the given disk told, and so does the one under its pages; counts of faults do
+-- not fall
 pub record IsBegunOver {F D : Type 0} (told : D → Option Image) (faults : D → ℕ) (fs : F) (disk : D) (config : Config) (core : CoreState F D) : Type 0 where
   pub begun : core ≡ begun_core fs core.first config core.cache fin.empty core.journal.room
   pub first : told core.first ≡ told disk
@@ -25,6 +26,7 @@ pub record IsBegunOver {F D : Type 0} (told : D → Option Image) (faults : D �
   pub later : faults core.first ≤ faults core.cache.disk
   pub bare : core.cache.current ≡ []
   pub free : core.cache.pins ≡ []
+  pub unread : core.cache.room.clean ≡ []
 
 -- what the disk tells is a volume of the tree that its bytes show
 abbrev pub TellsVolume : Option Image → Type 0

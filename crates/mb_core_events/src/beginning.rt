@@ -1,4 +1,4 @@
-ghost use Rattle.std.specs.Prelude.{◌≡◌, IfErr, IfOk, OnOk};
+ghost use Rattle.std.specs.Prelude.{◌≡◌, [], IfErr, IfOk, OnOk};
 ghost use Rattle.std.specs.FinMap as fin;
 ghost use Rattle.mb_cache.specs.State.{ReadHasCause};
 ghost use Rattle.mb_core_events.specs.Beginning.{IsBegunOver, IsRefused, IsSweptIf, TellsVolume, refused_by};
@@ -86,6 +86,7 @@ fn sweep_some<F: FileSys, D: Disk>(
     nameless: Inos,
 ) -> Result<(), ReadFault>
     ensures ok { OnOk result (IsSweptIf D.told fields.old fields.new nameless) }
+    ensures unread { fields.old.cache.room.clean ≡ [] → OnOk result (fields.new.cache.room.clean ≡ []) }
     ensures told { D.told fields.new.cache.disk ≡ D.told fields.old.cache.disk }
     ensures cause { ReadHasCause (D.faults fields.old.cache.disk) (D.faults fields.new.cache.disk) result }
 {

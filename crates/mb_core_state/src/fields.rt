@@ -1,4 +1,4 @@
-ghost use Rattle.std.specs.Prelude.{◌≡◌, IfErr, IfOk, length, map, replicate};
+ghost use Rattle.std.specs.Prelude.{◌≡◌, [], IfErr, IfOk, length, map, replicate};
 ghost use Rattle.std.specs.FinMap as fin;
 ghost use Rattle.mb_tree.specs.Opening.{first_seat};
 ghost use Rattle.mb_core_spec.specs.Begun.{begun_core, idle};
@@ -64,9 +64,10 @@ impl<F: FileSys, D: Disk> Model for Fields<F, D> {
 
 impl<F: FileSys, D: Disk> Fields<F, D> {
     /// A core begins over a disk: no page and no pin, no call, the sessions of the declared callers as they begin, and no
-    /// open file. The only error is want of memory, with the disk back.
+    /// open file; no page is a clean one. The only error is want of memory, with the disk back.
     pub fn new(alloc: Global, fs: F, disk: D, config: Config) -> Result<Fields<F, D>, D>
         ensures begun { IfOk result (λ core. core ≡ begun_core fs disk config (fresh_cache disk core.cache.room) fin.empty core.journal.room) }
+        ensures unread { IfOk result (λ core. core.cache.room.clean ≡ []) }
         ensures back { IfErr result (λ same. same ≡ disk) }
     {
         let (tables, callers) = match begun_parts(alloc, &config.callers) {

@@ -1,4 +1,4 @@
-ghost use Rattle.std.specs.Prelude.{◌≡◌, ◌<◌, ◌≤◌, length, OnOk, OnErr, IfOk};
+ghost use Rattle.std.specs.Prelude.{◌≡◌, ◌<◌, ◌≤◌, [], length, OnOk, OnErr, IfOk};
 ghost use Rattle.mb_cache.specs.State.{ReadHasCause};
 ghost use Rattle.mb_core_spec.specs.Events.{with_room};
 ghost use Rattle.mb_core_state.specs.Answers.{with_disk, with_read};
@@ -16,11 +16,12 @@ use std::alloc::Global;
 
 impl<F: FileSys, D: Disk> Fields<F, D> {
     /// The nameless files of a volume that is opened are reclaimed, in one release over a table that counts each of them as
-    /// often as it stands in the list; what that changes becomes checkpointed pages. `Device` comes only where the disk's
-    /// count of faults rose; on an error nothing has changed but the disk.
+    /// often as it stands in the list; what that changes becomes checkpointed pages, and no page is a clean one. `Device` comes only
+    /// where the disk's count of faults rose; on an error nothing has changed but the disk.
     pub fn sweep(&mut self, alloc: Global, nameless: Inos) -> Result<(), ReadFault>
         requires { length nameless < 4294967296 }
         ensures ok { OnOk result (IsSwept D.told self.old self.new nameless) }
+        ensures unread { OnOk result (self.new.cache.room.clean ≡ []) }
         ensures err { OnErr result (self.new ≡ with_room (with_disk self.old self.new.cache.disk) self.new) }
         ensures told { D.told self.new.cache.disk ≡ D.told self.old.cache.disk }
         ensures cause { ReadHasCause (D.faults self.old.cache.disk) (D.faults self.new.cache.disk) result }
@@ -55,6 +56,7 @@ impl<F: FileSys, D: Disk> Fields<F, D> {
     #[tactic(auto, using(crate::proofs::Kept::none_seen))]
     fn put_checkpointed(&mut self, changes: &Changes) -> Result<(), NoMemory>
         ensures ok { OnOk result (IsCheckpointedBy self.old self.new changes.now) }
+        ensures unread { OnOk result (self.new.cache.room.clean ≡ []) }
         ensures err { OnErr result (self.new ≡ with_room self.old self.new) }
         ensures disk { self.new.cache.disk ≡ self.old.cache.disk }
     {
@@ -63,6 +65,7 @@ impl<F: FileSys, D: Disk> Fields<F, D> {
         self.kept.clear();
         self.cache.install(changes);
         self.cache.seal();
+        self.cache.forget_clean();
         Ok(())
     }
 }
