@@ -143,7 +143,7 @@ fn the_disk_fails_at_one_write_of_200_calls(rt: HostRuntime) -> Result<(), Fail>
         NOTHING_FAILS,
     )?;
     assert_eq!(rt; calm.status, 0);
-    let (mut hidden, mut told) = (0, 0);
+    let (mut hidden, mut told) = (0, false);
     for write in 1..1000 {
         let writes = [write];
         let failing = Failing {
@@ -153,7 +153,7 @@ fn the_disk_fails_at_one_write_of_200_calls(rt: HostRuntime) -> Result<(), Fail>
         let image = fresh(rt.alloc())?;
         let end = run(rt.alloc(), &["run", "v"], image, job.as_str(), failing)?;
         if end.status == 5 {
-            told += 1;
+            told = true;
             continue;
         }
         assert_eq!(rt; end.status, 0, "write {write}");
@@ -161,11 +161,11 @@ fn the_disk_fails_at_one_write_of_200_calls(rt: HostRuntime) -> Result<(), Fail>
             end.printed == calm.printed && end.image == calm.image,
             "write {write}"
         );
-        if told > 0 {
-            assert!(rt; hidden > 100, "{hidden} writes between calls");
+        if told {
+            assert!(rt; hidden > 100, "only {hidden} writes between calls");
             return Ok(());
         }
-        hidden += 1;
+        hidden = write;
     }
     Err("the run does not end its writes".into())
 }
