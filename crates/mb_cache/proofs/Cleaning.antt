@@ -1,5 +1,5 @@
 -- Clean pages have the bytes that the disk holds, and go on having them.
-use Rattle.std.proofs.Common.{◌≡◌, ◌≢◌, ℕ, ◌-◌, true, false, cond, List, [], ◌∷◌, Contains, ◌⊎◌, take, Option, None, Some, IfSome, Result, Ok, Err, OnOk, OnErr, nat_eq, inl, inr, refl, sym, ap, subst, ◌∙◌, arith, option_map}
+use Rattle.std.proofs.Common.{◌≡◌, ◌≢◌, ℕ, ◌-◌, true, false, cond, List, ◌∷◌, Contains, ◌⊎◌, take, Option, None, Some, Result, Ok, Err, OnOk, OnErr, nat_eq, inl, inr, refl, sym, ap, subst, ◌∙◌, arith, option_map}
 use Rattle.std.proofs.lemmas.Bool.Decides.{nat_tests}
 use Rattle.std.specs.Cmp.{nat_eq_equiv}
 use Rattle.std.specs.List.{IsDistinct}
@@ -11,8 +11,8 @@ use Rattle.lru.proofs.CallerLemmas.{Contains-lookup, Contains-promoted, Contains
 use Rattle.lru.proofs.Matching.{none_found}
 use Rattle.lru.proofs.Pairs.{lookup-lookup_entry}
 use Rattle.lru.proofs.Splits.{Contains-cons}
-use Rattle.mb_kinds.specs.Image.{Image, put}
-use Rattle.mb_edge.specs.Blocks.{GivesBlock, Spoils, WritesBlock}
+use Rattle.mb_kinds.specs.Image.{Image}
+use Rattle.mb_edge.specs.Blocks.{GivesBlock, WritesBlock}
 use Rattle.mb_cache.specs.Clean.{AreClean, Rereads, fronted, most_clean}
 use Rattle.mb_cache.specs.Pages.{PageList, page_at}
 use Rattle.mb_cache.specs.declared.answers.ReadFault.{ReadFault}

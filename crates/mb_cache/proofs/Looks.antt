@@ -1,5 +1,5 @@
 -- Pages over an image: what is read under them.
-use Rattle.std.proofs.Common.{◌≡◌, ℕ, List, Option, Some, None, unwrap_or, refl, sym, ap, ◌∙◌, option_map, IfSome, IfOk, Result, Ok, Err}
+use Rattle.std.proofs.Common.{◌≡◌, ℕ, List, Option, Some, None, unwrap_or, refl, sym, ap, ◌∙◌, option_map, IfSome, OnOk, Result, Ok, Err}
 use Rattle.std.specs.Option.{option_or}
 use Rattle.mb_kinds.specs.Image.{Image}
 use Rattle.mb_edge.specs.Blocks.{GivesBlock}
@@ -7,9 +7,9 @@ use Rattle.mb_cache.specs.Pages.{PageList, page_at, under}
 use Rattle.mb_layers.proofs.Covers.{under_at}
 
 -- what is found where a look-up gave nothing
-pub none_found : {X : Type 0} (found other : Option X) → ((x : X) → found ≡ Some x → ⊥) → found ≡ other → None ≡ other
-none_found None other not_some same = same
-none_found (Some x) other not_some same = absurd (not_some x refl)
+pub none_found : {X Y : Type 0} (f : X → Y) (found : Option X) (other : Option Y) → ((x : X) → found ≡ Some x → ⊥) → option_map f found ≡ other → None ≡ other
+none_found f None other not_some same = same
+none_found f (Some x) other not_some same = absurd (not_some x refl)
 
 -- through two lists of pages
 pub under_both : (image : Image) (sealed current : PageList) (block : ℕ)
@@ -35,8 +35,8 @@ pub seen_unpaged : (told : Option Image) (sealed current : PageList) (block : �
 seen_unpaged None sealed current block bytes missed gives = tt
 seen_unpaged (Some image) sealed current block bytes missed gives = gives ∙ ap (λ o. unwrap_or o (image.at block)) missed ∙ seen_at image sealed current block
 
--- what a read of the disk gave, where it gave something
-pub read_unpaged : {E : Type 0} (result : Result (List ℕ) E) (told : Option Image) (sealed current : PageList) (block : ℕ) → None ≡ option_or (page_at current block) (page_at sealed block) → IfOk result (λ bytes. GivesBlock told block bytes)
-    → IfOk result (λ bytes. IfSome (option_map (λ image. under (under image sealed) current) told) (λ view. bytes ≡ view.at block))
-read_unpaged (Ok bytes) told sealed current block missed gives = seen_unpaged told sealed current block bytes missed gives
-read_unpaged (Err e) told sealed current block missed gives = gives
+-- what a read into a buffer gave, where it gave something
+pub read_unpaged : {E : Type 0} (result : Result (Unit {0}) E) (told : Option Image) (sealed current : PageList) (block : ℕ) (bytes : List ℕ) → None ≡ option_or (page_at current block) (page_at sealed block) → OnOk result (GivesBlock told block bytes)
+    → OnOk result (IfSome (option_map (λ image. under (under image sealed) current) told) (λ view. bytes ≡ view.at block))
+read_unpaged (Ok done) told sealed current block bytes missed gives = seen_unpaged told sealed current block bytes missed gives
+read_unpaged (Err e) told sealed current block bytes missed gives = gives

@@ -1,10 +1,10 @@
 -- Clean pages: blocks as the disk holds them, kept so that they are read once, the most recently used first.
-use Rattle.std.specs.Prelude.{ℕ, ◌-◌, ◌≡◌, ◌⊎◌, List, [], ◌∷◌, nat_eq, take, Option, None, Some, IfSome, Result, Ok, Err}
+use Rattle.std.specs.Prelude.{ℕ, ◌-◌, ◌≡◌, ◌⊎◌, List, ◌∷◌, nat_eq, take, Option, None, Some, IfSome, Result, Ok, Err}
 use Rattle.std.specs.List.{Contains}
 use Rattle.std.specs.Map.{remove_entry}
 use Rattle.lru.specs.LruCache.{promoted}
 use Rattle.mb_kinds.specs.Image.{Image}
-use Rattle.mb_cache.specs.Pages.{PageList, page_at}
+use Rattle.mb_cache.specs.Pages.{PageList}
 use Rattle.mb_cache.specs.declared.answers.ReadFault.{ReadFault}
 
 -- the most that are kept
@@ -18,6 +18,11 @@ AreClean told clean = IfSome told (λ image. (page : ℕ × List ℕ) → Contai
 -- a page of a block that has none comes first, and of as many as are kept the last one goes
 abbrev pub fronted : PageList → ℕ → List ℕ → PageList
 fronted clean block bytes = (block, bytes) ∷ take (most_clean - 1) clean
+
+-- what a read into a buffer gave: the bytes that it holds then, or the fault
+abbrev pub read_as : {E : Type 0} → Result (Unit {0}) E → List ℕ → Result (List ℕ) E
+read_as (Ok done) bytes = Ok bytes
+read_as (Err fault) bytes = Err fault
 
 -- What a read of a block leaves of the disk and the clean pages, by its dirty or checkpointed page and its clean one: all
 -- stays where it has the first; a clean page comes first, and the disk is not called; else the disk is read, and what it

@@ -1,7 +1,7 @@
 ghost use Rattle.std.specs.Prelude.{◌≡◌, ◌≤◌, ◌<◌, ◌+◌, ◌-◌, ◌*◌, [], ℕ, None, cond, nat_eq, length, OnOk, OnErr, IfOk, IfErr, IfSome, IsOk};
 ghost use Rattle.mb_edge.specs.Blocks.{GivesBlock};
 ghost use Rattle.mb_kinds.specs.Image.{Image};
-ghost use Rattle.mb_cache.specs.Clean.{AreClean, Rereads};
+ghost use Rattle.mb_cache.specs.Clean.{AreClean, Rereads, read_as};
 ghost use Rattle.mb_cache.specs.Pages.{page_at, under, count_covered, installed, page_stroke, pages_damaged};
 ghost use Rattle.mb_cache.specs.Stamps.{stamp_of, raised_by};
 ghost use Rattle.mb_cache.specs.State.{seen, Flushes, ReadHasCause, ReadsThrough};
@@ -87,55 +87,52 @@ impl<D: Disk> Cache<D> {
 
     /// A block as it is seen: its current page, else its checkpointed one, else the disk's block. A block that has a clean
     /// page is not read from the disk; one that is read gets a clean page, where memory suffices. `Device` comes only where
-    /// the disk's count of faults rose.
-    pub fn read(&mut self, block: u32) -> Result<[u8; 512], ReadFault>
-        ensures bytes { IfOk result (λ bytes. IfSome (seen D.told self.old) (λ view. bytes ≡ view.at block)) }
-        ensures size { IfOk result (λ bytes. length bytes ≡ 512) }
+    /// the disk's count of faults rose; `bytes` may then hold anything.
+    pub fn read(&mut self, block: u32, bytes: &mut [u8; 512]) -> Result<(), ReadFault>
+        ensures bytes { OnOk result (IfSome (seen D.told self.old) (λ view. bytes.new ≡ view.at block)) }
         ensures rest { self.new ≡ record self.old { disk = self.new.disk; room = record self.old.room { clean = self.new.room.clean } } }
         ensures told { D.told self.new.disk ≡ D.told self.old.disk }
         ensures cause { ReadHasCause (D.faults self.old.disk) (D.faults self.new.disk) result }
-        ensures clean { ReadsThrough self.old self.new block result }
+        ensures clean { ReadsThrough self.old self.new block (read_as result bytes.new) }
         ensures held { AreClean (D.told self.new.disk) self.new.room.clean }
     {
-        if let Some(bytes) = self.layers.get(block).copied() {
-            return Ok(bytes);
+        if let Some(page) = self.layers.get(block) {
+            *bytes = *page;
+            return Ok(());
         }
-        self.read_below(block)
+        self.read_below(block, bytes)
     }
 
     /// The disk's block, by its clean page where it has one.
-    fn read_below(&mut self, block: u32) -> Result<[u8; 512], ReadFault>
-        ensures bytes { IfOk result (λ bytes. GivesBlock (D.told self.old.disk) block bytes) }
-        ensures size { IfOk result (λ bytes. length bytes ≡ 512) }
+    fn read_below(&mut self, block: u32, bytes: &mut [u8; 512]) -> Result<(), ReadFault>
+        ensures bytes { OnOk result (GivesBlock (D.told self.old.disk) block bytes.new) }
         ensures rest { self.new ≡ record self.old { disk = self.new.disk; room = record self.old.room { clean = self.new.room.clean } } }
         ensures told { D.told self.new.disk ≡ D.told self.old.disk }
         ensures cause { ReadHasCause (D.faults self.old.disk) (D.faults self.new.disk) result }
-        ensures clean { Rereads None (page_at self.old.room.clean block) block self.old.disk self.old.room.clean self.new.disk self.new.room.clean result }
+        ensures clean { Rereads None (page_at self.old.room.clean block) block self.old.disk self.old.room.clean self.new.disk self.new.room.clean (read_as result bytes.new) }
         ensures held { AreClean (D.told self.new.disk) self.new.room.clean }
     {
-        if let Some(bytes) = self.clean.read(block) {
-            return Ok(bytes);
+        if self.clean.read(block, bytes) {
+            return Ok(());
         }
-        self.read_disk(block)
+        self.read_disk(block, bytes)
     }
 
     /// The disk's block, of a block that has no clean page; it gets one, where memory suffices.
-    fn read_disk(&mut self, block: u32) -> Result<[u8; 512], ReadFault>
+    fn read_disk(&mut self, block: u32, bytes: &mut [u8; 512]) -> Result<(), ReadFault>
         requires { page_at self.old.room.clean block ≡ None }
-        ensures bytes { IfOk result (λ bytes. GivesBlock (D.told self.old.disk) block bytes) }
-        ensures size { IfOk result (λ bytes. length bytes ≡ 512) }
+        ensures bytes { OnOk result (GivesBlock (D.told self.old.disk) block bytes.new) }
         ensures rest { self.new ≡ record self.old { disk = self.new.disk; room = record self.old.room { clean = self.new.room.clean } } }
         ensures told { D.told self.new.disk ≡ D.told self.old.disk }
         ensures cause { ReadHasCause (D.faults self.old.disk) (D.faults self.new.disk) result }
-        ensures clean { Rereads None None block self.old.disk self.old.room.clean self.new.disk self.new.room.clean result }
+        ensures clean { Rereads None None block self.old.disk self.old.room.clean self.new.disk self.new.room.clean (read_as result bytes.new) }
         ensures held { AreClean (D.told self.new.disk) self.new.room.clean }
     {
-        let mut bytes = [0; 512];
-        let Ok(()) = self.disk.read(block, &mut bytes) else {
+        let Ok(()) = self.disk.read(block, bytes) else {
             return Err(ReadFault::Device);
         };
-        self.clean.put(block, &bytes);
-        Ok(bytes)
+        self.clean.put(block, bytes);
+        Ok(())
     }
 
     /// Makes room for an install of so many blocks and for the checkpoint after it. The only error is want of memory,

@@ -45,30 +45,37 @@ fn install(
     Ok(())
 }
 
+// The bytes of a block.
+fn read(cache: &mut Cache<MemDisk>, block: u32) -> Result<[u8; 512], ReadFault> {
+    let mut bytes = [0; 512];
+    cache.read(block, &mut bytes)?;
+    Ok(bytes)
+}
+
 fn layers(rt: &impl Abort, alloc: Global, cache: &mut Cache<MemDisk>) -> Result<(), Fail> {
-    assert!(rt; cache.read(2) == Ok([1; 512]));
-    assert!(rt; cache.read(9) == Ok([0; 512]));
+    assert!(rt; read(cache, 2) == Ok([1; 512]));
+    assert!(rt; read(cache, 9) == Ok([0; 512]));
     install(alloc, cache, (2, 22), (9, 99))?;
-    assert!(rt; cache.read(2) == Ok([22; 512]));
-    assert!(rt; cache.read(9) == Ok([99; 512]));
+    assert!(rt; read(cache, 2) == Ok([22; 512]));
+    assert!(rt; read(cache, 9) == Ok([99; 512]));
     assert!(rt; cache.flush_one() == Flushed::Clean);
     cache.seal();
     install(alloc, cache, (9, 98), (3, 33))?;
     cache.forget_clean();
-    assert!(rt; cache.read(2) == Ok([22; 512]));
-    assert!(rt; cache.read(3) == Ok([33; 512]));
-    assert!(rt; cache.read(9) == Ok([98; 512]));
+    assert!(rt; read(cache, 2) == Ok([22; 512]));
+    assert!(rt; read(cache, 3) == Ok([33; 512]));
+    assert!(rt; read(cache, 9) == Ok([98; 512]));
     for (block, stamp) in [(2, 1), (3, 1), (9, 2), (4, 0)] {
         assert_eq!(rt; cache.stamp(block), stamp, "of block {block}");
     }
     cache.drop_current();
-    assert!(rt; cache.read(3) == Ok([1; 512]));
-    assert!(rt; cache.read(9) == Ok([99; 512]));
+    assert!(rt; read(cache, 3) == Ok([1; 512]));
+    assert!(rt; read(cache, 9) == Ok([99; 512]));
     assert_eq!(rt; cache.stamp(9), 2);
     assert!(rt; cache.flush_one() == Flushed::One);
     assert!(rt; cache.flush_one() == Flushed::One);
     assert!(rt; cache.flush_one() == Flushed::Clean);
-    assert!(rt; cache.read(9) == Ok([99; 512]));
+    assert!(rt; read(cache, 9) == Ok([99; 512]));
     Ok(())
 }
 
@@ -88,8 +95,8 @@ fn failing(rt: &impl Abort, alloc: Global, cache: &mut Cache<MemDisk>) -> Result
     cache.seal();
     assert!(rt; cache.flush_one() == Flushed::One);
     assert!(rt; cache.flush_one() == Flushed::Device);
-    assert!(rt; cache.read(1) == Ok([11; 512]));
-    assert!(rt; cache.read(2) == Ok([22; 512]));
+    assert!(rt; read(cache, 1) == Ok([11; 512]));
+    assert!(rt; read(cache, 2) == Ok([22; 512]));
     assert!(rt; cache.flush_one() == Flushed::One);
     assert!(rt; cache.flush_one() == Flushed::Clean);
     Ok(())
@@ -122,11 +129,11 @@ fn strokes(rt: &impl Abort, alloc: Global, cache: &mut Cache<MemDisk>) -> Result
     })?;
     damage.push(Stroke::Count { ino: 3, count: 0 })?;
     cache.damage(&damage);
-    assert!(rt; cache.read(1) == Ok([11; 512]));
-    assert!(rt; cache.read(2) == Ok([5; 512]));
-    assert!(rt; cache.read(3) == Ok([6; 512]));
+    assert!(rt; read(cache, 1) == Ok([11; 512]));
+    assert!(rt; read(cache, 2) == Ok([5; 512]));
+    assert!(rt; read(cache, 3) == Ok([6; 512]));
     cache.drop_current();
-    assert!(rt; cache.read(2) == Ok([22; 512]));
+    assert!(rt; read(cache, 2) == Ok([22; 512]));
     Ok(())
 }
 
@@ -156,13 +163,13 @@ fn a_block_is_pinned_more_than_once(rt: HostRuntime) -> Result<(), Fail> {
 
 // A block is read once, also where the second read fails; it is read again once the clean pages are forgotten.
 fn read_once(rt: &impl Abort, cache: &mut Cache<MemDisk>) {
-    assert!(rt; cache.read(2) == Ok([1; 512]));
-    assert!(rt; cache.read(2) == Ok([1; 512]));
-    assert!(rt; cache.read(3) == Err(ReadFault::Device));
-    assert!(rt; cache.read(3) == Ok([1; 512]));
-    assert!(rt; cache.read(2) == Ok([1; 512]));
+    assert!(rt; read(cache, 2) == Ok([1; 512]));
+    assert!(rt; read(cache, 2) == Ok([1; 512]));
+    assert!(rt; read(cache, 3) == Err(ReadFault::Device));
+    assert!(rt; read(cache, 3) == Ok([1; 512]));
+    assert!(rt; read(cache, 2) == Ok([1; 512]));
     cache.forget_clean();
-    assert!(rt; cache.read(2) == Err(ReadFault::Device));
+    assert!(rt; read(cache, 2) == Err(ReadFault::Device));
 }
 
 #[test]
@@ -177,12 +184,12 @@ fn a_block_is_read_once(rt: HostRuntime) -> Result<(), Fail> {
 // then on.
 fn read_many(rt: &impl Abort, cache: &mut Cache<MemDisk>) {
     for block in 0..1025 {
-        assert!(rt; cache.read(block).is_ok());
+        assert!(rt; read(cache, block).is_ok());
     }
     for block in 1..1025 {
-        assert!(rt; cache.read(block).is_ok());
+        assert!(rt; read(cache, block).is_ok());
     }
-    assert!(rt; cache.read(0) == Err(ReadFault::Device));
+    assert!(rt; read(cache, 0) == Err(ReadFault::Device));
 }
 
 #[test]
@@ -196,18 +203,18 @@ fn clean_pages_are_1024(rt: HostRuntime) -> Result<(), Fail> {
 // Of two blocks that are read and changed, the first one's write fails. Block 2, whose write was done, is a clean page then, and
 // block 1 is one again as soon as its page was written: the disk is read no third time.
 fn written_back(rt: &impl Abort, alloc: Global, cache: &mut Cache<MemDisk>) -> Result<(), Fail> {
-    assert!(rt; cache.read(1) == Ok([1; 512]));
-    assert!(rt; cache.read(2) == Ok([1; 512]));
+    assert!(rt; read(cache, 1) == Ok([1; 512]));
+    assert!(rt; read(cache, 2) == Ok([1; 512]));
     install(alloc, cache, (2, 22), (1, 11))?;
     cache.seal();
     assert!(rt; cache.flush_one() == Flushed::Device);
-    assert!(rt; cache.read(1) == Ok([11; 512]));
+    assert!(rt; read(cache, 1) == Ok([11; 512]));
     assert!(rt; cache.flush_one() == Flushed::One);
     assert!(rt; cache.flush_one() == Flushed::One);
     assert!(rt; cache.flush_one() == Flushed::Clean);
-    assert!(rt; cache.read(1) == Ok([11; 512]));
-    assert!(rt; cache.read(2) == Ok([22; 512]));
-    assert!(rt; cache.read(3) == Err(ReadFault::Device));
+    assert!(rt; read(cache, 1) == Ok([11; 512]));
+    assert!(rt; read(cache, 2) == Ok([22; 512]));
+    assert!(rt; read(cache, 3) == Err(ReadFault::Device));
     Ok(())
 }
 

@@ -124,8 +124,10 @@ fn step(
 
 // Whether each block is seen alike, and has the same stamp.
 fn agrees(cache: &mut Cache<MemDisk>, plain: &Plain) -> bool {
+    let mut bytes = [0; 512];
     for block in 0..BLOCKS {
-        if cache.read(block) != Ok(plain.seen(block)) || cache.stamp(block) != plain.stamp(block) {
+        let read = cache.read(block, &mut bytes);
+        if read.is_err() || bytes != plain.seen(block) || cache.stamp(block) != plain.stamp(block) {
             return false;
         }
     }

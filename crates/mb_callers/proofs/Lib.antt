@@ -6,3 +6,4 @@ pub mod Seen
 pub mod Staleness
 pub mod Sums
 pub mod UndoSteps
+pub mod Zipped

@@ -6,7 +6,7 @@ ghost use Rattle.mb_tree.specs.Views.{IsPart, over};
 ghost use Rattle.mb_callers.specs.Reads.{GathersSeen};
 
 use crate::copies::Copies;
-use crate::reads::{Reads, fetch};
+use crate::reads::Reads;
 use mb_cache::{Cache, ReadFault};
 use mb_edge::Disk;
 use mb_iface::{Changes, Need, View};
@@ -51,7 +51,7 @@ impl Blocks {
         ensures told { D.told cache.new.disk ≡ D.told cache.old.disk }
         ensures cause { ReadHasCause (D.faults cache.old.disk) (D.faults cache.new.disk) result }
     {
-        fetch(cache, &mut self.reads, need.first, need.count)?;
+        self.reads.fetch(cache, need.first, need.count)?;
         self.copies.reserve(self.reads.len())?;
         self.copies.store(&self.reads);
         Ok(())

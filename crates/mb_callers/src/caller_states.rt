@@ -13,7 +13,7 @@ ghost use Rattle.mb_core_spec.specs.Flights.{is_pin};
 
 use crate::gathering::{keep_blocks, keep_tables};
 use crate::pages::Pages;
-use crate::reads::{Reads, fetch};
+use crate::reads::Reads;
 use crate::tables::TablesNow;
 use crate::undoing::{give_back, note_entered, note_floor};
 use mb_cache::{Cache, ReadFault};
@@ -257,7 +257,7 @@ impl CallerState {
         ensures told { D.told cache.new.disk ≡ D.told cache.old.disk }
         ensures cause { ReadHasCause (D.faults cache.old.disk) (D.faults cache.new.disk) result }
     {
-        fetch(cache, &mut self.reads, need.first, need.count)?;
+        self.reads.fetch(cache, need.first, need.count)?;
         keep_blocks(
             &mut self.undo,
             &mut self.pages.blocks,

@@ -1,98 +1,20 @@
-ghost use Rattle.std.specs.Prelude.{◌≡◌, ◌≤◌, ◌<◌, ◌+◌, ◌∷◌, [], ℕ, length, OnOk, IsOk, IfSome, IfNone, Some, None, option_copied, nat_eq, slice_get};
-ghost use Rattle.std.specs.List.{IsDistinct};
+ghost use Rattle.std.specs.Prelude.{◌≡◌, ◌≤◌, ◌<◌, ◌+◌, ◌-◌, ◌∷◌, ◌++◌, [], ℕ, List, length, OnOk, IsOk, IfSome, IfNone, Some, None, false, option_copied, nat_eq, slice_get};
+ghost use Rattle.std.specs.List.{IsDistinct, list_any};
 ghost use Rattle.std.specs.Map.{keys_of};
-ghost use Rattle.indexmap.specs.IndexMap.{insert_entry, spare};
+ghost use Rattle.indexmap.specs.IndexMap.{insert_entry};
 ghost use Rattle.mb_core_spec.specs.Copies as copy;
 ghost use Rattle.mb_core_spec.specs.Copies.{kept_at, shown};
 ghost use Rattle.mb_callers.specs.Reads.{renewed, stored};
 ghost use Rattle.mb_callers.specs.Stale.{is_fresh, is_same, least_stale, lesser, stale_step};
 
+use crate::kept_blocks::KeptBlock;
 use crate::reads::Reads;
-use indexmap::IndexMap;
-use indexmap::map::Entry;
+use indexmap::IndexSet;
 use mb_cache::Cache;
 use mb_edge::{Disk, NoMemory};
 use mb_iface::Changes;
-use std::alloc::{AllocError, Global};
+use std::alloc::Global;
 use std::marker::Model;
-
-/// The bytes of a block with the stamp that it had.
-#[derive(Drop)]
-pub(crate) struct KeptBlock {
-    bytes: [u8; 512],
-    stamp: u64,
-}
-
-impl Model for KeptBlock {
-    ghost use Rattle.mb_core_spec.specs.Copies as spec;
-
-    ghost Value = { spec.KeptBlock };
-
-    ghost view = { λ k. record { bytes = k.bytes; stamp = k.stamp } };
-}
-
-impl KeptBlock {
-    pub fn new(bytes: [u8; 512], stamp: u64) -> KeptBlock
-        ensures { result ≡ record { bytes = bytes; stamp = stamp } }
-    {
-        KeptBlock { bytes, stamp }
-    }
-
-    pub fn bytes(&self) -> &[u8; 512]
-        ensures { result.now ≡ self.now.bytes }
-    {
-        &self.bytes
-    }
-
-    pub fn stamp(&self) -> u64
-        ensures { result ≡ self.now.stamp }
-    {
-        self.stamp
-    }
-
-    /// The same copy again; needs no memory.
-    pub fn copied(&self) -> KeptBlock
-        ensures { result ≡ self.now }
-    {
-        KeptBlock {
-            bytes: self.bytes,
-            stamp: self.stamp,
-        }
-    }
-
-    fn is_same(&self, page: &KeptBlock, stamp: u64) -> bool
-        ensures { result ≡ is_same (Some self.now) stamp page.now }
-    {
-        self.bytes == page.bytes && self.stamp == stamp
-    }
-}
-
-/// Gives a block its copy, a new block last: as `insert` does, whose answers would carry the old copy or
-/// the refused one by value. It answers where the block stands, as a guess. The only error is want of
-/// memory.
-fn write_copy(
-    map: &mut IndexMap<u32, KeptBlock>,
-    block: u32,
-    kept: &KeptBlock,
-) -> Result<u8, AllocError>
-    ensures items { OnOk result (map.new.entries ≡ insert_entry nat_eq map.old.entries block kept.now) }
-    ensures succeeds { 0 < spare map.old → IsOk result }
-    ensures spare { OnOk result (spare map.old ≤ spare map.new + 1) }
-{
-    let place = match map.entry(block)? {
-        Entry::Occupied(here) => {
-            let place = here.index();
-            *here.into_mut() = kept.copied();
-            place
-        }
-        Entry::Vacant(here) => {
-            let place = here.index();
-            here.insert(kept.copied());
-            place
-        }
-    };
-    Ok(place.min(255) as u8)
-}
 
 /// Where the guess for a block stands.
 fn guess_of(block: u32) -> usize
@@ -101,56 +23,70 @@ fn guess_of(block: u32) -> usize
     (block % 128) as usize
 }
 
-/// The copy of a block, by a search. It stays out of its callers, whose way by a guess is short.
+/// Where a block stands, by a search. It stays out of its caller, whose way by a guess is short.
 #[inline(never)]
-fn searched(map: &IndexMap<u32, KeptBlock>, block: u32) -> Option<&KeptBlock>
-    ensures { option_copied result ≡ kept_at map.now.entries block }
+fn searched(blocks: &IndexSet<u32>, block: u32) -> Option<usize>
+    ensures found { IfSome result (λ place. slice_get blocks.now.keys place ≡ Some block) }
+    ensures none { IfNone result (list_any (nat_eq block) blocks.now.keys ≡ false) }
 {
-    map.get(&block)
+    let (place, _) = blocks.get_full(&block)?;
+    Some(place)
 }
 
-/// Where a block's copy stands: at the guessed place, else by a search.
-fn place_of(map: &IndexMap<u32, KeptBlock>, guess: u8, block: u32) -> Option<usize>
-    ensures found { IfSome result (λ place. (kept : copy.KeptBlock) × (slice_get map.now.entries place ≡ Some (block, kept))) }
-    ensures none { IfNone result (kept_at map.now.entries block ≡ None) }
+/// Where a block stands: at the guessed place, else by a search.
+fn place_of(blocks: &IndexSet<u32>, guess: u8, block: u32) -> Option<usize>
+    ensures found { IfSome result (λ place. slice_get blocks.now.keys place ≡ Some block) }
+    ensures none { IfNone result (list_any (nat_eq block) blocks.now.keys ≡ false) }
+    ensures once { IsDistinct nat_eq blocks.now.keys }
 {
     let guessed = usize::from(guess);
-    if let Some((key, _)) = map.get_index(guessed) {
-        if *key == block {
-            return Some(guessed);
-        }
+    let all = blocks.as_slice();
+    if guessed < all.len() && all[guessed] == block {
+        return Some(guessed);
     }
-    searched_place(map, block)
-}
-
-/// Where a block's copy stands, by a search. It stays out of its caller, whose way by a guess is short.
-#[inline(never)]
-fn searched_place(map: &IndexMap<u32, KeptBlock>, block: u32) -> Option<usize>
-    ensures found { IfSome result (λ place. (kept : copy.KeptBlock) × (slice_get map.now.entries place ≡ Some (block, kept))) }
-    ensures none { IfNone result (kept_at map.now.entries block ≡ None) }
-{
-    let (place, _, _) = map.get_full(&block)?;
-    Some(place)
+    searched(blocks, block)
 }
 
 /// Copies of blocks, each block once. A contract sees the list and the room.
 #[derive(Drop)]
 pub(crate) struct Copies {
-    map: IndexMap<u32, KeptBlock>,
+    numbers: IndexSet<u32>,
+    /// The copies of the blocks, in their order, and behind them the room for further ones, so that a copy is made in its
+    /// place.
+    copies: Vec<KeptBlock>,
     /// By a block's number modulo 128, where such a block was last put, so that most look-ups need no
     /// search. It is looked at before it is believed, and any number may stand here.
     guesses: [u8; 128],
 }
 
 impl Model for Copies {
-    ghost use Rattle.std.specs.Prelude.{ℕ, List};
-    ghost use Rattle.indexmap.specs.IndexMap.{spare};
+    ghost use Rattle.std.specs.Prelude.{ℕ, List, ◌-◌, ◌≤◌, length, min};
+    ghost use Rattle.std.specs.List.{zip};
+    ghost use Rattle.indexmap.specs.IndexSet.{spare};
     ghost use Rattle.mb_room.specs.Room.{Roomy};
     ghost use Rattle.mb_core_spec.specs.Copies as spec;
 
     ghost Value = { Roomy (ℕ × spec.KeptBlock) };
 
-    ghost view = { λ c. record { items = c.map.entries; spare = spare c.map } };
+    ghost view = { λ c. record {
+      items = zip c.numbers.keys c.copies.items;
+      spare = min (spare c.numbers) (length c.copies.items - length c.numbers.keys);
+    } };
+
+    ghost invariant = { λ c. length c.numbers.keys ≤ length c.copies.items };
+}
+
+/// Makes room for so many more copies behind the first `used`. The only error is want of memory.
+fn lengthen(copies: &mut Vec<KeptBlock>, used: usize, more: usize) -> Result<(), NoMemory>
+    requires { used ≤ length copies.old.items }
+    ensures behind { (blank : List copy.KeptBlock) × (copies.new.items ≡ copies.old.items ++ blank) }
+    ensures ok { OnOk result (more ≤ length copies.new.items - used) }
+    ensures sure { more ≤ length copies.old.items - used → IsOk result }
+{
+    'copies: while copies.len() - used < more {
+        copies.push(KeptBlock::blank())?;
+    }
+    Ok(())
 }
 
 impl Copies {
@@ -159,7 +95,8 @@ impl Copies {
         ensures { result.items ≡ [] }
     {
         Copies {
-            map: IndexMap::new(alloc),
+            numbers: IndexSet::new(alloc),
+            copies: Vec::new(alloc),
             guesses: [0; 128],
         }
     }
@@ -169,12 +106,10 @@ impl Copies {
         ensures { option_copied result ≡ kept_at self.now.items block }
     {
         let guess = self.guesses[guess_of(block)];
-        if let Some((key, kept)) = self.map.get_index(usize::from(guess)) {
-            if *key == block {
-                return Some(kept);
-            }
+        match place_of(&self.numbers, guess, block) {
+            Some(place) => Some(&self.copies[place]),
+            None => None,
         }
-        searched(&self.map, block)
     }
 
     /// Makes room for so many more copies. Nothing else changes.
@@ -184,8 +119,8 @@ impl Copies {
         ensures kept { self.old.spare ≤ self.new.spare }
         ensures sure { more ≤ self.old.spare → IsOk result }
     {
-        self.map.reserve(more)?;
-        Ok(())
+        self.numbers.reserve(more)?;
+        lengthen(&mut self.copies, self.numbers.len(), more)
     }
 
     /// One copy more, in the place of its block's copy where it has one; needs no memory.
@@ -194,10 +129,11 @@ impl Copies {
         ensures items { self.new.items ≡ insert_entry nat_eq self.old.items block kept.now }
         ensures spare { self.old.spare ≤ self.new.spare + 1 }
     {
-        let Ok(guess) = write_copy(&mut self.map, block, kept) else {
+        let Ok((place, _)) = self.numbers.insert_full(block) else {
             unreachable!()
         };
-        self.guesses[guess_of(block)] = guess;
+        self.copies[place].copy_from(kept);
+        self.guesses[guess_of(block)] = place.min(255) as u8;
     }
 
     /// The copies of a list more; needs no memory.
@@ -216,7 +152,7 @@ impl Copies {
     pub fn len(&self) -> usize
         ensures { result ≡ length self.now.items }
     {
-        self.map.len()
+        self.numbers.len()
     }
 
     /// Gives the copy of a block new bytes, where the block has one; needs no memory.
@@ -224,9 +160,8 @@ impl Copies {
         ensures { (other : ℕ) → shown self.new.items other ≡ renewed ((block, bytes.now) ∷ []) (shown self.old.items) other }
     {
         let guess = self.guesses[guess_of(block)];
-        if let Some(place) = place_of(&self.map, guess, block) {
-            let (_, kept) = self.map.pair_mut(place);
-            kept.bytes = *bytes;
+        if let Some(place) = place_of(&self.numbers, guess, block) {
+            self.copies[place].rewrite(bytes);
         }
     }
 
@@ -245,7 +180,7 @@ impl Copies {
         ensures items { self.new.items ≡ [] }
         ensures spare { self.old.spare ≤ self.new.spare }
     {
-        self.map.truncate(0);
+        self.numbers.truncate(0);
     }
 
     fn is_fresh<D: Disk>(&self, block: u32, page: &KeptBlock, cache: &Cache<D>) -> bool
@@ -279,11 +214,11 @@ impl Copies {
         ensures once { IsDistinct nat_eq (keys_of pages.now.items) }
     {
         let mut least = None;
-        for at in 0..pages.map.len() {
-            let Some((block, page)) = pages.map.get_index(at) else {
+        for at in 0..pages.numbers.len() {
+            let Some(block) = pages.numbers.get_index(at) else {
                 unreachable!()
             };
-            least = self.step(least, *block, page, cache);
+            least = self.step(least, *block, &pages.copies[at], cache);
         }
         least
     }

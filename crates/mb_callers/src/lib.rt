@@ -20,6 +20,7 @@ mod caller_states;
 mod callers;
 mod copies;
 mod gathering;
+mod kept_blocks;
 mod laws;
 mod pages;
 mod reads;

@@ -1,8 +1,8 @@
-ghost use Rattle.std.specs.Prelude.{◌≡◌, ◌≤◌, ◌<◌, ◌+◌, ◌∷◌, ◌++◌, [], ℕ, Some, length, OnOk, IsErrOf, slice_get};
+ghost use Rattle.std.specs.Prelude.{◌≡◌, ◌≤◌, ◌<◌, ◌+◌, [], ℕ, Some, length, take, OnOk, slice_get};
 ghost use Rattle.mb_cache.specs.State.{ReadHasCause, seen};
 ghost use Rattle.mb_callers.specs.Reads.{AreRead};
 
-use crate::copies::KeptBlock;
+use crate::kept_blocks::KeptBlock;
 use mb_cache::{Cache, ReadFault};
 use mb_edge::{Disk, NoMemory};
 use std::alloc::Global;
@@ -12,15 +12,34 @@ use std::marker::Model;
 /// to the next.
 #[derive(Drop)]
 pub(crate) struct Reads {
+    /// The blocks that were read first, and behind them the room of those that were read before.
     items: Vec<(u32, KeptBlock)>,
+    /// How many were read.
+    count: usize,
 }
 
 impl Model for Reads {
+    ghost use Rattle.std.specs.Prelude.{◌≤◌, length, take};
     ghost use Rattle.mb_core_spec.specs.Copies.{CopyList};
 
     ghost Value = { CopyList };
 
-    ghost view = { λ r. r.items.items };
+    ghost view = { λ r. take r.count r.items.items };
+
+    ghost invariant = { λ r. r.count ≤ length r.items.items };
+}
+
+/// Makes room for one item behind the first `count`, which stay. The only error is want of memory.
+fn reserve_one(items: &mut Vec<(u32, KeptBlock)>, count: usize) -> Result<(), NoMemory>
+    requires { count ≤ length items.old.items }
+    ensures ok { OnOk result (count < length items.new.items) }
+    ensures same { take count items.new.items ≡ take count items.old.items }
+    ensures more { length items.old.items ≤ length items.new.items }
+{
+    if count == items.len() {
+        items.push((0, KeptBlock::blank()))?;
+    }
+    Ok(())
 }
 
 impl Reads {
@@ -30,6 +49,7 @@ impl Reads {
     {
         Reads {
             items: Vec::new(alloc),
+            count: 0,
         }
     }
 
@@ -37,7 +57,7 @@ impl Reads {
     pub fn len(&self) -> usize
         ensures { result ≡ length self.now }
     {
-        self.items.as_slice().len()
+        self.count
     }
 
     /// The block at a place, with its copy.
@@ -50,50 +70,46 @@ impl Reads {
     }
 
     /// Takes all blocks out, and keeps the room; needs no memory.
-    pub fn clear(&mut self)
+    fn clear(&mut self)
         ensures { self.new ≡ [] }
     {
-        self.items.clear();
+        self.count = 0;
     }
 
-    fn push(&mut self, block: u32, kept: KeptBlock) -> Result<(), NoMemory>
-        ensures ok { OnOk result (self.new ≡ self.old ++ (block, kept) ∷ []) }
+    /// Reads a block as it is seen, behind the others.
+    fn read<D: Disk>(&mut self, cache: &mut Cache<D>, block: u32) -> Result<(), ReadFault>
+        ensures rest { cache.new ≡ record cache.old { disk = cache.new.disk; room = record cache.old.room { clean = cache.new.room.clean } } }
+        ensures told { D.told cache.new.disk ≡ D.told cache.old.disk }
+        ensures cause { ReadHasCause (D.faults cache.old.disk) (D.faults cache.new.disk) result }
+        ensures ok { OnOk result ((first : ℕ) → first + length self.old ≡ block → AreRead (seen D.told cache.old) cache.old.stamps first self.old → AreRead (seen D.told cache.old) cache.old.stamps first self.new) }
+        ensures long { OnOk result (length self.new ≡ length self.old + 1) }
     {
-        self.items.push((block, kept))?;
+        reserve_one(&mut self.items, self.count)?;
+        let (number, kept) = &mut self.items[self.count];
+        *number = block;
+        kept.read(cache, block)?;
+        self.count += 1;
         Ok(())
     }
-}
 
-fn read_one<D: Disk>(cache: &mut Cache<D>, reads: &mut Reads, block: u32) -> Result<(), ReadFault>
-    ensures rest { cache.new ≡ record cache.old { disk = cache.new.disk; room = record cache.old.room { clean = cache.new.room.clean } } }
-    ensures told { D.told cache.new.disk ≡ D.told cache.old.disk }
-    ensures cause { ReadHasCause (D.faults cache.old.disk) (D.faults cache.new.disk) result }
-    ensures ok { OnOk result ((first : ℕ) → first + length reads.old ≡ block → AreRead (seen D.told cache.old) cache.old.stamps first reads.old → AreRead (seen D.told cache.old) cache.old.stamps first reads.new) }
-    ensures long { OnOk result (length reads.new ≡ length reads.old + 1) }
-{
-    let bytes = cache.read(block)?;
-    let stamp = cache.stamp(block);
-    reads.push(block, KeptBlock::new(bytes, stamp))?;
-    Ok(())
-}
-
-/// Reads so many blocks from one on, as they are seen.
-pub(crate) fn fetch<D: Disk>(
-    cache: &mut Cache<D>,
-    reads: &mut Reads,
-    first: u32,
-    count: u32,
-) -> Result<(), ReadFault>
-    requires { first + count ≤ 4294967295 }
-    ensures rest { cache.new ≡ record cache.old { disk = cache.new.disk; room = record cache.old.room { clean = cache.new.room.clean } } }
-    ensures told { D.told cache.new.disk ≡ D.told cache.old.disk }
-    ensures cause { ReadHasCause (D.faults cache.old.disk) (D.faults cache.new.disk) result }
-    ensures ok { OnOk result (AreRead (seen D.told cache.old) cache.old.stamps first reads.new) }
-    ensures long { OnOk result (length reads.new ≡ count) }
-{
-    reads.clear();
-    for at in 0..count {
-        read_one(cache, reads, first + at)?;
+    /// Reads so many blocks from one on, as they are seen, in the place of those before.
+    pub fn fetch<D: Disk>(
+        &mut self,
+        cache: &mut Cache<D>,
+        first: u32,
+        count: u32,
+    ) -> Result<(), ReadFault>
+        requires { first + count ≤ 4294967295 }
+        ensures rest { cache.new ≡ record cache.old { disk = cache.new.disk; room = record cache.old.room { clean = cache.new.room.clean } } }
+        ensures told { D.told cache.new.disk ≡ D.told cache.old.disk }
+        ensures cause { ReadHasCause (D.faults cache.old.disk) (D.faults cache.new.disk) result }
+        ensures ok { OnOk result (AreRead (seen D.told cache.old) cache.old.stamps first self.new) }
+        ensures long { OnOk result (length self.new ≡ count) }
+    {
+        self.clear();
+        for at in 0..count {
+            self.read(cache, first + at)?;
+        }
+        Ok(())
     }
-    Ok(())
 }

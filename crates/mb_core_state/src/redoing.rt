@@ -69,7 +69,8 @@ impl<F: FileSys, D: Disk> Fields<F, D> {
     {
         self.journal.reserve_steps(1)?;
         self.cache.forget_clean();
-        self.cache.read(1)?;
+        let mut block = [0; 512];
+        self.cache.read(1, &mut block)?;
         self.journal.fold(alloc)?;
         self.journal.mark(Step::Remounted);
         self.stage = Stage::Remounted;
