@@ -4,5 +4,6 @@ pub mod Finds
 pub mod Lasts
 pub mod Moved
 pub mod Replaced
+pub mod Rising
 pub mod Sealed
 pub mod Sound

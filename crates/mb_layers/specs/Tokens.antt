@@ -1,5 +1,5 @@
 -- What the map of tokens tells of a block.
-use Rattle.std.specs.Prelude.{◌≡◌, ℕ, ◌<◌, ◌≤◌, Bool, true, cond, nat_eq, Option, None, Some}
+use Rattle.std.specs.Prelude.{◌≡◌, ℕ, ◌<◌, ◌≤◌, Bool, true, cond, List, length, slice_index_or, nat_eq, Option, None, Some}
 use Rattle.std.specs.List.{list_any}
 use denote.RawPtr.{Ptr}
 use Rattle.indexmap.specs.IndexMap.{get}
@@ -26,10 +26,16 @@ current_in tokens block = current_of tokens (get nat_eq tokens.map block)
 abbrev pub sealed_in : Tokens → ℕ → Option Ptr
 sealed_in tokens block = sealed_of tokens (get nat_eq tokens.map block)
 
--- no generation is later than the present one, and each dropped one is earlier
+-- numbers that rise, each below a bound
+pub record AreRising (numbers : List ℕ) (bound : ℕ) : Type 0 where
+  pub ordered : (i j : ℕ) → i ≤ j → j < length numbers → slice_index_or numbers i 0 ≤ slice_index_or numbers j 0
+  pub below : (i : ℕ) → i < length numbers → slice_index_or numbers i 0 < bound
+
+-- no generation is later than the present one, and the dropped ones are earlier, the one that was dropped first in front
 pub record IsAged (tokens : Tokens) : Type 0 where
   pub each : (block : ℕ) (entry : Entry) → get nat_eq tokens.map block ≡ Some entry → entry.generation ≤ tokens.present
   pub dropped : (generation : ℕ) → is_dropped tokens generation ≡ true → generation < tokens.present
+  pub rising : AreRising tokens.dropped.items tokens.present
 
 -- the generations stay
 pub record SameAges (old new : Tokens) : Type 0 where

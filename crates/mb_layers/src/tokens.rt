@@ -86,10 +86,12 @@ impl Tokens {
         }
     }
 
+    /// Whether a generation was dropped: by halves, since there are as many as there were recoveries.
     fn is_dropped(&self, generation: u64) -> bool
+        requires { IsAged self.now }
         ensures { result ≡ is_dropped self.now generation }
     {
-        self.dropped.as_slice().contains(&generation)
+        self.dropped.as_slice().binary_search(&generation).is_ok()
     }
 
     /// Makes room for so many more blocks, and for so many generations. Nothing else changes.
