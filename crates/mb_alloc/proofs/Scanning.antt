@@ -163,6 +163,15 @@ module _ (shown : ℕ → Option (List ℕ)) (changes : ChangeList) (size : ℕ)
         was.found blocks part is ∙ sym (ap (free_below b) next ∙ ap (λ t. free_below b ino ++ cond t (ino ∷ []) []) (used blocks part is) ∙ append-nil (free_below b ino)));
   }
 
+  -- numbers in use, one after another
+  pub scanned_run : (list : List ℕ) (count ino n : ℕ)
+      → ((next : ℕ) → next < n → (blocks : ℕ → List ℕ) → IsPart shown blocks → size ≡ isize_of (over blocks (changed changes) 1) → is_free_number (over blocks (changed changes)) (ino + next) ≡ false)
+      → HasScanned shown changes size list count ino → HasScanned shown changes size list count (ino + n)
+  scanned_run list count ino zero used was = subst (HasScanned shown changes size list count) (omega arith) was
+  scanned_run list count ino (suc n) used was =
+      let so_far = scanned_run list count ino n (λ next less. used next (omega (arith, less))) was in
+      subst (HasScanned shown changes size list count) (omega arith) (scanned_used list count (ino + n) (used n (omega arith)) so_far)
+
   -- a hundred numbers are found, or all
   pub scanned_all : (list : List ℕ) (count ino : ℕ) → 3 ≤ size → ((count ≡ 100) × (ino ≤ 8 * (size - 2) + 1)) ⊎ (ino ≡ 8 * (size - 2) + 1) → HasScanned shown changes size list count ino
       → (blocks : ℕ → List ℕ) → IsPart shown blocks → size ≡ isize_of (over blocks (changed changes) 1) → words_back list 0 count ≡ free_numbers (over blocks (changed changes))
