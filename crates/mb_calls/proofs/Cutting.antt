@@ -14,7 +14,7 @@ use Rattle.mb_tree.specs.Lookup.{components, find_path, find_place, slash, start
 use Rattle.mb_tree.specs.declared.lookups.Placed.{Placed}
 use Rattle.mb_tree.specs.declared.seats.Seat.{Seat}
 use Rattle.mb_tree.specs.declared.trees.Tree.{Tree}
-use Rattle.mb_calls.specs.Following.{AsksNear, IsCut, IsGoing, IsKept, LacksForCall, LacksOnWay}
+use Rattle.mb_calls.specs.Following.{AsksNear, IsCut, IsGoing, IsKept, IsPlaceOf, LacksForCall, LacksOnWay}
 use Rattle.mb_calls.specs.Halts.{Matches, IsOver, Needs}
 use Rattle.mb_calls.specs.Following.{ViewGrows}
 use Rattle.mb_calls.specs.Looked.{IsFirst, IsLooked, paths_of}
@@ -62,8 +62,9 @@ module _ (shown : ℕ → Option (List ℕ)) (seat : Seat) (path : List ℕ) (wa
   some_with = subst (λ h. 0 < length h) (sym is) (head_some path walk.from next cut)
 
   pub kept_on : (stat : Stat) → is_directory stat.mode ≡ true → ((image : Image) (tree : Tree) → IsOver shown seat image tree → find_path tree.nodes seat.cred walk.dir head ≡ Ok stat)
-      → IsKept shown seat path (record { dir = stat.ino; from = next })
+      → IsKept shown seat path (record { dir = stat.ino; from = next; end = None })
   kept_on stat d found = record {
+    place = tt;
     within = let high = cut.within in omega arith;
     followed = λ image tree over. followed_on tree over.volume.sound seat.cred seat.cwd path walk.dir (drop walk.from path) head (drop next path) (kept.followed image tree over) cut_with some_with
         (tail_some path walk.from next cut) (tail_other path walk.from next cut) stat (found image tree over) d;
@@ -111,11 +112,17 @@ pub lacking_so : (shown : ℕ → Option (List ℕ)) (seat : Seat) (made : Call)
 lacking_so shown seat made path None is lacks = tt
 lacking_so shown seat made path (Some need) is lacks = lacking_first shown seat made path need is lacks
 
--- a walk stays as long as the view only grows
+-- a place that was found stays that of the path as long as the view only grows
+place_grows : (shown later : ℕ → Option (List ℕ)) (seat : Seat) (path : List ℕ) (end : Option Placed) → ViewGrows shown later → IfSome end (IsPlaceOf shown seat path) → IfSome end (IsPlaceOf later seat path)
+place_grows shown later seat path None grows is = tt
+place_grows shown later seat path (Some placed) grows is = λ image tree over. is image tree (record { part = grown_part shown later image.at grows over.part; volume = over.volume; seated = over.seated })
+
+-- and so does a walk
 pub kept_grows : (shown later : ℕ → Option (List ℕ)) (seat : Seat) (path : List ℕ) (walk : PathWalk) → ViewGrows shown later → IsKept shown seat path walk → IsKept later seat path walk
 kept_grows shown later seat path walk grows kept = record {
   within = kept.within;
   followed = λ image tree over. kept.followed image tree (record { part = grown_part shown later image.at grows over.part; volume = over.volume; seated = over.seated });
+  place = place_grows shown later seat path walk.end grows kept.place;
 }
 
 -- two values of one option are the same

@@ -6,9 +6,10 @@ use Rattle.mb_kinds.specs.declared.credentials.Cred.{Cred}
 use Rattle.mb_iface.specs.Near.{IsNear, IsOnWay}
 use Rattle.mb_iface.specs.Needs.{IsNeed}
 use Rattle.mb_iface.specs.declared.replies.Need.{Need}
-use Rattle.mb_tree.specs.Lookup.{components, start_of, walk}
+use Rattle.mb_tree.specs.Lookup.{components, find_place, start_of, walk}
 use Rattle.mb_tree.specs.Maps.{Numbered}
 use Rattle.mb_tree.specs.Trees.{IsDirectoryAt}
+use Rattle.mb_tree.specs.declared.lookups.Placed.{Placed}
 use Rattle.mb_tree.specs.declared.nodes.Node.{Node}
 use Rattle.mb_tree.specs.declared.seats.Seat.{Seat}
 use Rattle.mb_tree.specs.declared.trees.Tree.{Tree}
@@ -30,10 +31,15 @@ pub record IsFollowed (nodes : Numbered Node) (cred : Cred) (cwd : ℕ) (path : 
   -- so that the place of a path keeps its last component
   pub more : (front ≡ []) ⊎ (0 < length (components rest))
 
--- on each volume the walk is at a directory on the way of the path
+-- on each volume a path has this place
+abbrev pub IsPlaceOf : (ℕ → Option (List ℕ)) → Seat → List ℕ → Placed → Type 0
+IsPlaceOf shown seat path placed = (image : Image) (tree : Tree) → IsOver shown seat image tree → find_place tree.nodes seat.cred seat.cwd path ≡ Ok placed
+
+-- on each volume the walk is at a directory on the way of the path, and its end is the place of the path
 pub record IsKept (shown : ℕ → Option (List ℕ)) (seat : Seat) (path : List ℕ) (walk : PathWalk) : Type 0 where
   pub within : walk.from ≤ length path
   pub followed : (image : Image) (tree : Tree) → IsOver shown seat image tree → IsFollowed tree.nodes seat.cred seat.cwd path walk.dir (drop walk.from path)
+  pub place : IfSome walk.end (IsPlaceOf shown seat path)
 
 -- a component ends before the slash, and another begins after it
 pub record IsCut (path : List ℕ) (from : ℕ) (next : ℕ) : Type 0 where

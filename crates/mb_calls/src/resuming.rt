@@ -1,10 +1,10 @@
 ghost use Rattle.std.specs.Prelude.{◌<◌, IfSome, length};
-ghost use Rattle.mb_calls.specs.Following.{BeginsWalks, IsGoing, IsGoingFor, KeepsFirst, KeepsSecond, LacksForCall, WalksGoOn};
+ghost use Rattle.mb_calls.specs.Following.{BeginsWalks, IsGoing, IsGoingFor, IsKept, KeepsFirst, KeepsSecond, LacksForCall, LacksOnWay, WalksGoOn};
 ghost use Rattle.mb_calls.specs.Looked.{IsFirst, IsSecond};
 ghost use Rattle.mb_calls.specs.Performed.{FitsCall, IsNeeded, IsRight};
 
 use crate::performing::{Performed, perform_on, seat_of};
-use crate::walks::{Followed, PathWalk, PathWalks, follow, set_out};
+use crate::walks::{Followed, PathWalk, PathWalks, find_place, follow, set_out};
 use mb_iface::{FileSys, Need, Opens, View};
 use mb_kinds::{Call, Path};
 use mb_tree::{Seat, call_allowed};
@@ -53,6 +53,38 @@ fn second_path(call: &Call) -> Option<&Path>
     }
 }
 
+/// Whether a call asks for the place of its first path, and not for the inode to which it leads.
+fn asks_place(call: &Call) -> bool {
+    matches!(
+        call,
+        Call::Creat { .. } | Call::Unlink { .. } | Call::Mkdir { .. } | Call::Rmdir { .. }
+    )
+}
+
+/// Follows a path to its last component, and where `place` says so to its place.
+fn follow_to<F: FileSys, V: View>(
+    alloc: Global,
+    fs: &F,
+    view: &V,
+    seat: &Seat,
+    path: &Path,
+    walk: PathWalk,
+    place: bool,
+) -> Followed
+    requires kept { IsKept (V.shown view.now) seat.now path.now walk }
+    ensures kept { IsKept (V.shown view.now) seat.now path.now result.walk }
+    ensures lacking { IfSome result.need (LacksOnWay (V.shown view.now) seat.now path.now) }
+{
+    if walk.end.is_some() {
+        return Followed::to(walk);
+    }
+    let followed = follow(alloc, fs, view, seat, path, walk);
+    if !place || followed.need.is_some() {
+        return followed;
+    }
+    find_place(alloc, fs, view, seat, path, followed.walk)
+}
+
 /// The first walk of a call. The blocks that it lacks are the first ones that the call needs, since its row
 /// asks for the first path before all else.
 fn first_on<F: FileSys, V: View>(
@@ -68,7 +100,7 @@ fn first_on<F: FileSys, V: View>(
     ensures lacking { IfSome result.need (LacksForCall (V.shown view.now) seat.now call.now) }
 {
     match first_path(call) {
-        Some(path) => follow(alloc, fs, view, seat, path, walk),
+        Some(path) => follow_to(alloc, fs, view, seat, path, walk, asks_place(call)),
         None => Followed::to(walk),
     }
 }

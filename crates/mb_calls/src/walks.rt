@@ -17,6 +17,8 @@ pub struct PathWalk {
     pub dir: u16,
     /// The index of the first byte of the rest.
     pub from: usize,
+    /// The place of the path, once it was found.
+    pub end: Option<Placed>,
 }
 
 /// The walks of a call's paths; only link(2) has a second one.
@@ -72,6 +74,7 @@ pub fn begin(seat: &Seat) -> PathWalk
     PathWalk {
         dir: seat.cwd,
         from: 0,
+        end: None,
     }
 }
 
@@ -80,8 +83,8 @@ pub fn begin(seat: &Seat) -> PathWalk
 pub(crate) fn cut(path: &[u8], from: usize) -> Option<usize>
     ensures { IfSome result (λ next. IsCut path.now from next) }
 {
-    for at in 2..path.len() {
-        if at - 2 >= from && path[at - 1] == b'/' && path[at] != b'/' {
+    for at in from.saturating_add(2)..path.len() {
+        if path[at - 1] == b'/' && path[at] != b'/' {
             return Some(at);
         }
     }
@@ -157,6 +160,7 @@ fn step<F: FileSys, V: View>(
                 Stepped::On(PathWalk {
                     dir: stat.ino,
                     from: next,
+                    end: None,
                 })
             } else {
                 Stepped::Stopped
@@ -248,7 +252,7 @@ pub fn find_rest<F: FileSys, V: View>(
     find_at(alloc, fs, view, walk.dir, seat.cred, rest)
 }
 
-/// The place of a path, by the rest of its walk.
+/// The place of a path that was found, or else by the rest of its walk.
 pub fn place_rest<F: FileSys, V: View>(
     alloc: Global,
     fs: &F,
@@ -262,6 +266,37 @@ pub fn place_rest<F: FileSys, V: View>(
     ensures says { FindsPlace (V.shown view.now) seat.now path.now result }
     ensures near { NearWay (V.shown view.now) seat.now path.now result }
 {
+    if let Some(placed) = walk.end {
+        return Ok(placed);
+    }
     let rest = rest_of(alloc, path, walk.from)?;
     place_at(alloc, fs, view, walk.dir, seat.cred, rest)
+}
+
+/// Finds the place of a path by the rest of its walk, and keeps it; what refuses it is found again when the
+/// place is asked for in its turn.
+pub(crate) fn find_place<F: FileSys, V: View>(
+    alloc: Global,
+    fs: &F,
+    view: &V,
+    seat: &Seat,
+    path: &Path,
+    walk: PathWalk,
+) -> Followed
+    requires kept { IsKept (V.shown view.now) seat.now path.now walk }
+    ensures kept { IsKept (V.shown view.now) seat.now path.now result.walk }
+    ensures lacking { IfSome result.need (LacksOnWay (V.shown view.now) seat.now path.now) }
+{
+    match place_rest(alloc, fs, view, seat, path, walk) {
+        Ok(placed) => Followed::to(PathWalk {
+            dir: walk.dir,
+            from: walk.from,
+            end: Some(placed),
+        }),
+        Err(Halt::Need(need)) => Followed {
+            walk,
+            need: Some(need),
+        },
+        Err(_) => Followed::to(walk),
+    }
 }
