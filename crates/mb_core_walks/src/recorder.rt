@@ -2,7 +2,7 @@
 use crate::notes::Notes;
 use mb_cache::Flushed;
 use mb_callers::Pages;
-use mb_calls::{Performed, Ready};
+use mb_calls::{Performed, Performing, Ready};
 use mb_core_spec::{Config, Stage};
 use mb_core_state::{Fault, Finished, Gathered, Left};
 use mb_edge::{Crossings, Hook, NoMemory};
@@ -42,8 +42,15 @@ impl<C: EventCore> EventCore for Recorder<C> {
         self.core.begun(caller)
     }
 
-    fn perform(&self, alloc: Global, pages: &Pages, ticket: &Ticket, call: &Call) -> Performed {
-        self.core.perform(alloc, pages, ticket, call)
+    fn perform(
+        &self,
+        alloc: Global,
+        pages: &Pages,
+        ticket: &Ticket,
+        call: &Call,
+        way: &mut Option<Performing>,
+    ) -> Performed {
+        self.core.perform(alloc, pages, ticket, call, way)
     }
 
     fn enter(&mut self, alloc: Global, caller: u8, call: &Call) -> Enter {

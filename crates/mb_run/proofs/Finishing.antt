@@ -5,7 +5,6 @@ use Rattle.mb_edge.specs.declared.crossings.Crossing.{Crossing}
 use Rattle.mb_calls.specs.declared.performing.Performed.TheVariants as performed
 use Rattle.mb_calls.specs.declared.performing.Ready.{Ready}
 use Rattle.mb_core_spec.specs.Copies.{KeptBlock, PagesState, kept_at, shown}
-use Rattle.mb_core_spec.specs.declared.stages.Stage.TheVariants as stage
 use Rattle.mb_iface.specs.Needs.{IsNeed}
 use Rattle.mb_iface.specs.declared.replies.Need.{Need}
 use Rattle.mb_jobs.specs.declared.jobs.JobCall.{JobCall}
@@ -46,6 +45,9 @@ module _ (calls : List JobCall) (test : Option (Crossing → Bool)) (old : Sight
 
   pub held_declared : ticket.caller < old.config.callers
   held_declared = subst (λ n. n < old.config.callers) (sym stood.1.mine) may.within
+
+  pub held_mine : ticket.caller ≡ runner.crossings.caller
+  held_mine = stood.1.mine
 
   -- the call in flight is that one
   pub call_at : IsCallOf (old.seats ticket.caller) call

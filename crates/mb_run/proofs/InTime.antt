@@ -1,5 +1,5 @@
 -- Checkpoints are in time after each event, where they were before it.
-use Rattle.std.proofs.Common.{◌≡◌, ◌⊎◌, inl, inr, List, [], ◌∷◌, ◌++◌, ℕ, zero, suc, ◌<◌, Bool, true, false, ◌&&◌, ◌||◌, Option, None, Some, IfSome, drop, length, refl, ap, sym, subst, ◌∙◌, arith}
+use Rattle.std.proofs.Common.{◌≡◌, inl, inr, List, [], ◌∷◌, ◌++◌, ℕ, zero, suc, ◌<◌, Bool, true, false, ◌&&◌, ◌||◌, Option, None, Some, IfSome, drop, length, refl, ap, sym, subst, ◌∙◌, arith}
 use Rattle.std.proofs.lemmas.Bool.Decides.{nat_tests}
 use Rattle.std.specs.List.{AllByRecursion}
 use Rattle.std.specs.Prelude.{nat_le}
@@ -27,7 +27,7 @@ use Rattle.mb_kinds.specs.declared.replies.Reply.TheVariants as reply
 use Rattle.mb_run.specs.Events.{Answers, Enters, FaultsWith, Finishes, FlushesWith, Gathers, IsCallOf, IsUnplain, KeepsLog, LeavesWith, LogsInTime, Quits, SealsIf, entry_of, sealed}
 use Rattle.mb_run.specs.Recovering.{EndsByDevice, RunsFor, Steps, StrikesBy, Waits}
 use Rattle.mb_run.specs.Seals.{AreInTime, is_due, is_plain, is_sync, is_synced}
-use Rattle.mb_run.specs.Sights.{HasTicket, Limits, Seat, Sight, flight_of}
+use Rattle.mb_run.specs.Sights.{HasTicket, Limits, Sight, flight_of}
 use Rattle.mb_run.specs.declared.answers.Enter.{Enter}
 use Rattle.mb_run.specs.declared.answers.Enter.TheVariants as enter
 use Rattle.mb_run.specs.declared.answers.Stepped.{Stepped}

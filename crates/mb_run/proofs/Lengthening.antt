@@ -1,5 +1,5 @@
 -- The steps of a recovery, counted.
-use Rattle.std.proofs.Common.{◌≡◌, ℕ, zero, suc, ◌+◌, ◌≤◌, ◌⊎◌, inl, inr, refl, subst, sym, ap, arith}
+use Rattle.std.proofs.Common.{◌≡◌, ℕ, zero, suc, ◌+◌, ◌≤◌, ◌⊎◌, inl, inr, refl, subst, sym, arith}
 use Rattle.mb_core_spec.specs.declared.stages.Stage.TheVariants as stage
 use Rattle.mb_run.specs.Lengths.{Forward, GoesForward, GoesSince, RecoversSoon, Stands, StandsOn, WentForward}
 use Rattle.mb_run.specs.Recovering.{Rolls}

@@ -36,3 +36,4 @@ pub mod Beginning
 pub mod Ending
 pub mod Letters
 pub mod Starting
+pub mod UnderWay

@@ -10,7 +10,7 @@ use Rattle.mb_kinds.specs.declared.replies.Reply.{Reply}
 use Rattle.mb_kinds.specs.declared.replies.Reply.TheVariants as reply
 use Rattle.mb_edge.specs.Causes.{Rose}
 use Rattle.mb_core_spec.specs.Copies.{PagesState, no_pages, shown}
-use Rattle.mb_run.specs.Pages.{HasTablesFor, Performs, has}
+use Rattle.mb_run.specs.Pages.{Grows, HasTablesFor, LacksAll, Performs, has}
 use Rattle.mb_run.specs.Seals.{is_due}
 use Rattle.mb_run.specs.Sights.{Seat, Sight, one_if, recovers, flight_of, is_new, IsOld}
 use Rattle.mb_calls.specs.declared.performing.Ready.{Ready}
@@ -136,6 +136,7 @@ pub record Gains (caller : ℕ) (old new : Sight) (need : Need) (before now : Pa
   pub fresh : old.fresh caller ≡ true → new.fresh caller ≡ true
   pub got : has now need.first ≡ true
   pub keeps : (block : ℕ) → has before block ≡ true → has now block ≡ true
+  pub grows : LacksAll before need → Grows before now
   pub tables : HasTablesFor old.config.callers before → HasTablesFor old.config.callers now
   pub trail : new.trail ≡ old.trail
 

@@ -1,5 +1,5 @@
 -- How many steps a recovery takes.
-use Rattle.std.specs.Prelude.{ℕ, zero, suc, ◌+◌, ◌≤◌, ◌≡◌, ◌⊎◌, ⊤, Option, None, Some}
+use Rattle.std.specs.Prelude.{ℕ, zero, suc, ◌+◌, ◌≤◌, ◌≡◌, ◌⊎◌, Option, None, Some}
 use Rattle.mb_core_spec.specs.declared.stages.Stage.TheVariants as stage
 use Rattle.mb_run.specs.Recovering.{Rolls}
 use Rattle.mb_run.specs.Sights.{IsOrderly, Sight}

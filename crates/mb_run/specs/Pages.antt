@@ -1,8 +1,11 @@
 -- What a call gathered, as the driver looks at it.
-use Rattle.std.specs.Prelude.{ℕ, ◌≡◌, Bool, if◌then◌else◌, is_some, IfSome, length, nat_eq}
+use Rattle.std.specs.Prelude.{ℕ, ◌≡◌, ◌≤◌, ◌<◌, ◌+◌, ◌⊎◌, Bool, false, Option, Some, if◌then◌else◌, is_some, IfSome, length, nat_eq}
+use Rattle.mb_calls.specs.Following.{IsGoingFor, ViewGrows}
 use Rattle.mb_calls.specs.Performed.{FitsCall, IsRight}
 use Rattle.mb_calls.specs.declared.performing.Performed.{Performed}
-use Rattle.mb_core_spec.specs.Copies.{PagesState, TableCopy, kept_at, shown}
+use Rattle.mb_calls.specs.declared.resuming.Performing.{Performing}
+use Rattle.mb_core_spec.specs.Copies.{PagesState, TableCopy, kept_at, no_pages, shown}
+use Rattle.mb_iface.specs.declared.replies.Need.{Need}
 use Rattle.mb_kinds.specs.declared.calls.Call.{Call}
 
 -- a block was gathered; block 0 stands for the tables
@@ -17,3 +20,23 @@ HasTablesFor callers pages = IfSome pages.tables (λ (given : TableCopy). length
 abbrev pub Performs : PagesState → ℕ → Call → ℕ → Performed → Type 0
 Performs pages caller call moment result = IfSome pages.tables (λ (given : TableCopy).
     IsRight (shown pages.blocks) given.sessions given.opens caller call moment result × FitsCall given.sessions caller call result)
+
+-- ---- a call that goes on over more pages
+
+-- how far it followed its paths over what it gathered
+abbrev pub IsUnderWay : PagesState → ℕ → Call → Option Performing → Type 0
+IsUnderWay pages caller call way = IfSome way (λ (on : Performing). IfSome pages.tables (λ (given : TableCopy).
+    IsGoingFor (shown pages.blocks) given.sessions caller call on.walks))
+
+-- none of the blocks that are asked for was gathered
+abbrev pub LacksAll : PagesState → Need → Type 0
+LacksAll pages need = (block : ℕ) → need.first ≤ block → block < need.first + need.count → has pages block ≡ false
+
+-- what was gathered is there, with the same bytes, and so are the tables
+pub record Grows (before now : PagesState) : Type 0 where
+  pub blocks : ViewGrows (shown before.blocks) (shown now.blocks)
+  pub tables : IfSome before.tables (λ (given : TableCopy). now.tables ≡ Some given)
+
+-- what a call has after it asked for blocks: nothing, or more, if it had none of them
+abbrev pub GrowsBy : Need → PagesState → PagesState → Type 0
+GrowsBy need before now = (now ≡ no_pages) ⊎ (LacksAll before need → Grows before now)

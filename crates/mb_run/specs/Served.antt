@@ -1,5 +1,5 @@
 -- A job under way: where the call of each caller stands, which calls have their entries, and which crossings were counted.
-use Rattle.std.specs.Prelude.{ℕ, zero, suc, ◌+◌, ◌-◌, ◌*◌, ◌<◌, ◌≤◌, ◌≡◌, ◌≢◌, ◌⊎◌, List, [], ◌∷◌, ◌++◌, length, map, filter, take, nat_eq, nat_le, ◌||◌, slice_get, slice_index, Bool, true, false, cond, Option, Some, None, IfSome}
+use Rattle.std.specs.Prelude.{ℕ, zero, suc, ◌+◌, ◌-◌, ◌*◌, ◌<◌, ◌≤◌, ◌≡◌, ◌≢◌, ◌⊎◌, List, [], ◌∷◌, ◌++◌, length, map, filter, take, nat_eq, slice_get, slice_index, Bool, true, false, cond, Option, Some, None, IfSome}
 use Rattle.std.specs.List.{AllByRecursion, range_with_len}
 use Rattle.mb_edge.specs.Crossings.{place_of, next_nth}
 use Rattle.mb_edge.specs.declared.crossings.Crossing.{Crossing}
@@ -16,7 +16,6 @@ use Rattle.mb_run.specs.Pages.{HasTablesFor, has}
 pub use Rattle.mb_run.specs.Recovering.{counted}
 use Rattle.mb_run.specs.Recovering.{crossing_of, next_of}
 use Rattle.mb_run.specs.Sights.{Sight, Seat, HasTicket, IsOld, IsOrderly, IsWaiting, one_if, recovers}
-use Rattle.mb_kinds.specs.declared.calls.Call.TheVariants as call
 use Rattle.mb_run.specs.Events.{Strikes}
 use Rattle.mb_run.specs.Firsts.{KeepsFirsts}
 use Rattle.mb_jobs.specs.declared.jobs.JobCall.{JobCall}

@@ -5,7 +5,7 @@ ghost use Rattle.mb_edge.specs.Causes.{Rose};
 ghost use Rattle.mb_run.specs.declared.answers.Stepped.TheVariants as stepped;
 ghost use Rattle.mb_run.specs.Events.{Enters, FaultsWith, Finishes, FlushesWith, Gathers, IsAsked, IsCallOf, IsReadyAt, LeavesWith, Quits, WritesBehind, sealed};
 ghost use Rattle.mb_run.specs.Lengths.{Stands};
-ghost use Rattle.mb_run.specs.Pages.{HasTablesFor, Performs, has};
+ghost use Rattle.mb_run.specs.Pages.{HasTablesFor, IsUnderWay, Performs, has};
 ghost use Rattle.mb_run.specs.Recovering.{GoOn, RunsFor, Steps};
 ghost use Rattle.mb_run.specs.Rising.{RisesWith};
 ghost use Rattle.mb_run.specs.Served.{MayEnter};
@@ -14,7 +14,7 @@ ghost use Rattle.mb_run.specs.Sights.{HasTicket, IsOrderly, IsTicketOf, IsWaitin
 use crate::answers::{Enter, Stepped};
 use mb_cache::Flushed;
 use mb_callers::Pages;
-use mb_calls::{Performed, Ready};
+use mb_calls::{Performed, Performing, Ready};
 use mb_core_spec::{Config, Stage};
 use mb_core_state::{Fault, Finished, Gathered, Left};
 use mb_edge::{Crossings, Hook, NoMemory};
@@ -53,12 +53,22 @@ pub trait EventCore {
         requires { caller < (sight self.now).config.callers }
         ensures { result ≡ ((sight self.now).seats caller).begun };
 
-    /// Performs the call of a ticket over its pages, which have the tables, with the file system's code; the core stays
-    /// as it is, and the ticket may be of an earlier incarnation.
-    fn perform(&self, alloc: Global, pages: &Pages, ticket: &Ticket, call: &Call) -> Performed
+    /// Performs the call of a ticket over its pages, which have the tables, with the file system's code; it goes on where
+    /// `way` has it stopped over fewer of them, and begins anew where that is `None`. The core stays as it is, and the ticket
+    /// may be of an earlier incarnation.
+    fn perform(
+        &self,
+        alloc: Global,
+        pages: &Pages,
+        ticket: &Ticket,
+        call: &Call,
+        way: &mut Option<Performing>,
+    ) -> Performed
         requires there { has pages.now 0 ≡ true }
         requires tables { HasTablesFor (sight self.now).config.callers pages.now }
         requires declared { ticket.now.caller < (sight self.now).config.callers }
+        requires going { IsUnderWay pages.now ticket.now.caller call.now way.old }
+        ensures going { IsUnderWay pages.now ticket.now.caller call.now way.new }
         ensures performs { Performs pages.now ticket.now.caller call.now ticket.now.moment result }
         ensures asked { IsAsked pages.now result };
 

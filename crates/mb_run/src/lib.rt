@@ -43,4 +43,4 @@ pub use progress::{Next, Turn, Went};
 pub use runner::{At, Runner};
 pub use runs::{recover, run_call, run_holder, run_in_order, turn};
 pub use settles::{SettleEnd, Settled, settle};
-pub use steps::step;
+pub use steps::{keep_way, step};

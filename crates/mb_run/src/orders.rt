@@ -31,7 +31,8 @@ fn look<C: EventCore>(alloc: Global, core: &C, runner: &Runner, call: &Call) -> 
             if !has_tables(&runner.pages) {
                 return Next::Early;
             }
-            match core.perform(alloc, &runner.pages, &ticket, call) {
+            let mut way = None;
+            match core.perform(alloc, &runner.pages, &ticket, call, &mut way) {
                 Performed::Need(_) => Next::Early,
                 Performed::Ready(_) => Next::Late,
                 Performed::NoMemory => Next::NoMemory,
@@ -56,7 +57,8 @@ fn step_once<C: EventCore, H: Hook>(
     ensures origin { C.origin core.new ≡ C.origin core.old }
     ensures right { IsOrderly (C.sight core.new) }
 {
-    match step(alloc, core, hook, runner, calls, call) {
+    let mut way = None;
+    match step(alloc, core, hook, runner, calls, call, &mut way) {
         Went::Ended => return true,
         Went::On => return true,
         Went::Back => return true,
@@ -96,7 +98,8 @@ fn step_to_finish<C: EventCore, H: Hook>(
                 return false;
             }
         }
-        match step(alloc, core, hook, runner, calls, call) {
+        let mut way = None;
+        match step(alloc, core, hook, runner, calls, call, &mut way) {
             Went::On => {}
             Went::Ended => return true,
             Went::Back => return true,

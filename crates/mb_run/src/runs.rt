@@ -159,8 +159,9 @@ pub fn run_holder<C: EventCore, H: Hook>(
     ensures origin { C.origin core.new ≡ C.origin core.old }
     ensures right { IsOrderly (C.sight core.new) }
 {
+    let mut way = None;
     'turns: loop {
-        match step(alloc, core, hook, runner, calls, call) {
+        match step(alloc, core, hook, runner, calls, call, &mut way) {
             Went::Ended => return true,
             Went::On => {}
             Went::Back => {}
@@ -175,7 +176,7 @@ pub fn run_holder<C: EventCore, H: Hook>(
                     give_up(core, runner);
                     return false;
                 }
-                Went::Back => {}
+                Went::Back => way = None,
                 Went::On => unreachable!(),
                 Went::Shut => unreachable!(),
                 Went::Busy(_) => unreachable!(),
@@ -199,7 +200,8 @@ pub fn turn<C: EventCore, H: Hook>(
     ensures origin { C.origin core.new ≡ C.origin core.old }
     ensures right { IsOrderly (C.sight core.new) }
 {
-    match step(alloc, core, hook, runner, calls, call) {
+    let mut way = None;
+    match step(alloc, core, hook, runner, calls, call, &mut way) {
         Went::Ended => return Turn::Ended,
         Went::On => return Turn::Again,
         Went::Back => return Turn::Again,

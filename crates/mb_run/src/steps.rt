@@ -1,7 +1,7 @@
-ghost use Rattle.std.specs.Prelude.{◌≡◌, ◌≢◌, ◌<◌, ◌≤◌, Some, IfSome, true, false};
+ghost use Rattle.std.specs.Prelude.{◌≡◌, ◌≢◌, ◌<◌, ◌≤◌, ◌⊎◌, None, Some, IfSome, true, false};
 ghost use Rattle.mb_calls.specs.declared.performing.Performed.TheVariants as performed;
 ghost use Rattle.mb_core_spec.specs.declared.stages.Stage.TheVariants as stage;
-ghost use Rattle.mb_run.specs.Pages.{Performs, has};
+ghost use Rattle.mb_run.specs.Pages.{GrowsBy, IsUnderWay, LacksAll, Performs, has};
 ghost use Rattle.mb_run.specs.Served.{Asks, Did, GoesIn, MayStep};
 ghost use Rattle.mb_run.specs.Sights.{IsOrderly, IsTicketOf};
 ghost use Rattle.mb_run.specs.Tallies.{IsEntering, IsFinishing, Tallies, TalliedBy};
@@ -13,10 +13,10 @@ use crate::event_core::EventCore;
 use crate::progress::Went;
 use crate::runner::{At, Runner};
 use mb_callers::Pages;
-use mb_calls::{Performed, Ready};
+use mb_calls::{Performed, Performing, Ready};
 use mb_core_state::{Finished, Gathered, Left};
 use mb_edge::{Hook, Word};
-use mb_iface::Need;
+use mb_iface::{Need, View};
 use mb_jobs::JobCall;
 use mb_kinds::{Call, Kind, Ticket};
 use std::alloc::Global;
@@ -120,6 +120,7 @@ fn gather<C: EventCore, H: Hook>(
     requires first { need.first < 262144 }
     requires some { 1 ≤ need.count }
     requires count { need.count ≤ 32 }
+    ensures grown { GrowsBy need runner.old.pages runner.new.pages }
     ensures did { Did calls.now (H.test hook.old) (C.sight core.old) (C.sight core.new) runner.old runner.new result }
     ensures tallied { Tallies (H.test hook.old) (C.sight core.old) (C.sight core.new) runner.old runner.new result }
     ensures test { H.test hook.new ≡ H.test hook.old }
@@ -253,6 +254,67 @@ pub(crate) fn has_tables(pages: &Pages) -> bool
     pages.opens().is_some()
 }
 
+/// Whether none of the blocks is there that are asked for, the first of which is not.
+fn lacks_all(pages: &Pages, need: Need) -> bool
+    requires lacks { has pages.now need.first ≡ false }
+    requires some { 1 ≤ need.first }
+    requires first { need.first < 262144 }
+    requires count { need.count ≤ 32 }
+    ensures { result ≡ true → LacksAll pages.now need }
+{
+    for block in need.first + 1..need.first + need.count {
+        if pages.get(block).is_some() {
+            return false;
+        }
+    }
+    true
+}
+
+/// Has a call begin anew that asks for a block that is there: its bytes may be others once it is read again.
+pub fn keep_way(pages: &Pages, need: Need, way: &mut Option<Performing>)
+    requires lacks { has pages.now need.first ≡ false }
+    requires some { 1 ≤ need.first }
+    requires first { need.first < 262144 }
+    requires count { need.count ≤ 32 }
+    ensures { (way.new ≡ None) ⊎ ((way.new ≡ way.old) × LacksAll pages.now need) }
+{
+    if !lacks_all(pages, need) {
+        *way = None;
+    }
+}
+
+/// Gathers what the call asked for, with what it followed of its paths.
+fn gather_on<C: EventCore, H: Hook>(
+    alloc: Global,
+    core: &mut C,
+    hook: &mut H,
+    runner: &mut Runner,
+    calls: &[JobCall],
+    call: &Call,
+    ticket: &Ticket,
+    need: Need,
+    way: &mut Option<Performing>,
+) -> Went
+    requires may { MayStep calls.now (H.test hook.old) (C.sight core.old) runner.old call.now }
+    requires inside { runner.old.at ≡ at.Inside ticket.now }
+    requires there { has runner.old.pages 0 ≡ true }
+    requires lacks { has runner.old.pages need.first ≡ false }
+    requires above { 1 ≤ need.first }
+    requires first { need.first < 262144 }
+    requires some { 1 ≤ need.count }
+    requires count { need.count ≤ 32 }
+    requires going { IsUnderWay runner.old.pages runner.old.crossings.caller call.now way.old }
+    ensures going { IsUnderWay runner.new.pages runner.new.crossings.caller call.now way.new }
+    ensures did { Did calls.now (H.test hook.old) (C.sight core.old) (C.sight core.new) runner.old runner.new result }
+    ensures tallied { Tallies (H.test hook.old) (C.sight core.old) (C.sight core.new) runner.old runner.new result }
+    ensures test { H.test hook.new ≡ H.test hook.old }
+    ensures origin { C.origin core.new ≡ C.origin core.old }
+    ensures right { IsOrderly (C.sight core.new) }
+{
+    keep_way(&runner.pages, need, way);
+    gather(alloc, core, hook, runner, calls, call, ticket, need)
+}
+
 fn go_on<C: EventCore, H: Hook>(
     alloc: Global,
     core: &mut C,
@@ -261,9 +323,12 @@ fn go_on<C: EventCore, H: Hook>(
     calls: &[JobCall],
     call: &Call,
     ticket: &Ticket,
+    way: &mut Option<Performing>,
 ) -> Went
     requires may { MayStep calls.now (H.test hook.old) (C.sight core.old) runner.old call.now }
     requires inside { runner.old.at ≡ at.Inside ticket.now }
+    requires going { IsUnderWay runner.old.pages runner.old.crossings.caller call.now way.old }
+    ensures going { IsUnderWay runner.new.pages runner.new.crossings.caller call.now way.new }
     ensures did { Did calls.now (H.test hook.old) (C.sight core.old) (C.sight core.new) runner.old runner.new result }
     ensures tallied { Tallies (H.test hook.old) (C.sight core.old) (C.sight core.new) runner.old runner.new result }
     ensures test { H.test hook.new ≡ H.test hook.old }
@@ -271,6 +336,7 @@ fn go_on<C: EventCore, H: Hook>(
     ensures right { IsOrderly (C.sight core.new) }
 {
     if !has_tables(&runner.pages) {
+        *way = None;
         return gather(
             alloc,
             core,
@@ -282,15 +348,20 @@ fn go_on<C: EventCore, H: Hook>(
             Need { first: 0, count: 1 },
         );
     }
-    match core.perform(alloc, &runner.pages, ticket, call) {
-        Performed::Need(need) => gather(alloc, core, hook, runner, calls, call, ticket, need),
+    match core.perform(alloc, &runner.pages, ticket, call, way) {
+        Performed::Need(need) => {
+            gather_on(alloc, core, hook, runner, calls, call, ticket, need, way)
+        }
         Performed::NoMemory => Went::NoMemory,
-        Performed::Ready(ready) => finish(alloc, core, hook, runner, calls, call, ticket, ready),
+        Performed::Ready(ready) => {
+            *way = None;
+            finish(alloc, core, hook, runner, calls, call, ticket, ready)
+        }
     }
 }
 
 /// One step of a caller, whose next call is that one: it enters, gathers, finishes or leaves. Where
-/// memory suffices the call was begun.
+/// memory suffices the call was begun. `way` is how far the call followed its paths.
 pub fn step<C: EventCore, H: Hook>(
     alloc: Global,
     core: &mut C,
@@ -298,8 +369,11 @@ pub fn step<C: EventCore, H: Hook>(
     runner: &mut Runner,
     calls: &[JobCall],
     call: &Call,
+    way: &mut Option<Performing>,
 ) -> Went
-    requires { MayStep calls.now (H.test hook.old) (C.sight core.old) runner.old call.now }
+    requires may { MayStep calls.now (H.test hook.old) (C.sight core.old) runner.old call.now }
+    requires going { IsUnderWay runner.old.pages runner.old.crossings.caller call.now way.old }
+    ensures going { IsUnderWay runner.new.pages runner.new.crossings.caller call.now way.new }
     ensures did { Did calls.now (H.test hook.old) (C.sight core.old) (C.sight core.new) runner.old runner.new result }
     ensures begins { result ≢ went.NoMemory → ((C.sight core.new).seats runner.old.crossings.caller).begun ≢ 0 }
     ensures tallied { Tallies (H.test hook.old) (C.sight core.old) (C.sight core.new) runner.old runner.new result }
@@ -308,8 +382,14 @@ pub fn step<C: EventCore, H: Hook>(
     ensures right { IsOrderly (C.sight core.new) }
 {
     match runner.at {
-        At::Outside => enter(alloc, core, hook, runner, calls, call),
-        At::Inside(ticket) => go_on(alloc, core, hook, runner, calls, call, &ticket),
-        At::Logged(ticket) => leave(core, hook, runner, calls, call, &ticket),
+        At::Outside => {
+            *way = None;
+            enter(alloc, core, hook, runner, calls, call)
+        }
+        At::Inside(ticket) => go_on(alloc, core, hook, runner, calls, call, &ticket, way),
+        At::Logged(ticket) => {
+            *way = None;
+            leave(core, hook, runner, calls, call, &ticket)
+        }
     }
 }

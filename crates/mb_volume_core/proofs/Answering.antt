@@ -1,5 +1,5 @@
 -- A call in flight ends with an entry that changes nothing.
-use Rattle.std.proofs.Common.{◌≡◌, ◌∙◌, inl, inr, [], ◌∷◌, ℕ, ◌+◌, true, false, Option, None, Some, slice_get, refl, ap, sym, arith}
+use Rattle.std.proofs.Common.{◌≡◌, ◌∙◌, inl, inr, ℕ, false, Option, None, Some, slice_get, refl, ap, sym, arith}
 use Rattle.mb_kinds.specs.declared.entries.Flight.{Flight}
 use Rattle.mb_kinds.specs.declared.replies.Reply.{Reply}
 use Rattle.mb_cache.specs.Stamps.{Stamps}

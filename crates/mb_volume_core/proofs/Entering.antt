@@ -8,9 +8,9 @@ use Rattle.mb_kinds.specs.declared.replies.Reply.{Reply}
 use Rattle.mb_kinds.specs.declared.replies.Reply.TheVariants as reply
 use Rattle.mb_core_spec.specs.Callers.{begun, one_if}
 use Rattle.mb_core_spec.specs.Copies.{PagesState, no_pages}
-use Rattle.mb_core_spec.specs.Events.{answered_by, beginning, begins, ended, entering, goes_in, with_room}
+use Rattle.mb_core_spec.specs.Events.{answered_by, beginning, ended, entering, goes_in, with_room}
 use Rattle.mb_core_spec.specs.Flights.{HasTicket, IsFlying, IsTicket, runs}
-use Rattle.mb_core_spec.specs.Numbers.{is_open, open_calls, open_flight}
+use Rattle.mb_core_spec.specs.Numbers.{is_open, open_flight}
 use Rattle.mb_core_spec.specs.Right.{Right}
 use Rattle.mb_core_spec.specs.State.{CallerState, CoreState}
 use Rattle.mb_core_spec.specs.declared.stages.Stage.{Stage}

@@ -1,8 +1,7 @@
 -- A call that finishes.
-use Rattle.std.proofs.Common.{◌≡◌, ◌≢◌, ◌⊎◌, ◌∙◌, ◌≤◌, ◌<◌, ◌+◌, inl, inr, [], ◌∷◌, ℕ, Bool, true, false, if◌then◌else◌, is_some, Option, None, Some, IfSome, List, length, slice_get, refl, ap, sym, subst, arith}
+use Rattle.std.proofs.Common.{◌≡◌, ◌⊎◌, ◌∙◌, ◌+◌, inl, inr, ℕ, Bool, true, false, if◌then◌else◌, is_some, Option, None, Some, IfSome, List, length, slice_get, refl, ap, sym, subst, arith}
 use Rattle.std.proofs.lemmas.Bool.{cases_lt}
-use Rattle.std.proofs.lemmas.Bool.Decides.{nat_tests}
-use Rattle.std.proofs.lemmas.Option.{same_Some, slice_get_within}
+use Rattle.std.proofs.lemmas.Option.{slice_get_within}
 use Rattle.std.specs.Prelude.{min, nat_le}
 use Rattle.mb_kinds.specs.Image.{Image}
 use Rattle.mb_kinds.specs.declared.calls.Call.{Call}
@@ -11,21 +10,19 @@ use Rattle.mb_kinds.specs.declared.faults.Ticket.{Ticket}
 use Rattle.mb_kinds.specs.declared.replies.Reply.{Reply}
 use Rattle.mb_kinds.specs.declared.replies.Reply.TheVariants as reply
 use Rattle.mb_edge.specs.Damage.{OpenCounts}
-use Rattle.mb_tree.specs.Plans.{IsServedReply}
 use Rattle.mb_tree.specs.declared.machines.Machine.{Machine}
 use Rattle.mb_tree.specs.declared.seats.Seat.{Seat as Session}
-use Rattle.mb_calls.specs.Performed.{AreAlike, FitsCall, IsAnsweredBy as WasAnswered, IsPerformed as WasPerformed, IsPlainReply, IsReadyFor as WasReady, OthersAlike}
-use Rattle.mb_calls.specs.declared.performing.Performed.TheVariants as performed
+use Rattle.mb_calls.specs.Performed.{AreAlike, IsAnsweredBy as WasAnswered, IsPlainReply, IsReadyFor as WasReady}
 use Rattle.mb_calls.specs.declared.performing.Ready.{Ready as PerformedReady}
 use Rattle.mb_callers.specs.CallerLaws.{FloorMeetsNoStale}
 use Rattle.mb_callers.specs.Stale.{AllFresh, IsLeastStale}
 use Rattle.mb_core_spec.specs.Callers.{one_if}
 use Rattle.mb_core_spec.specs.Copies.{HoldsFloor, PagesState, TableCopy, shown}
-use Rattle.mb_core_spec.specs.Events.{floor_after, gathers_anew, logging, staling, taken_back, with_room}
-use Rattle.mb_core_spec.specs.Flights.{HasTicket as IsHeld, IsFlying, IsMine, IsTicket, runs}
+use Rattle.mb_core_spec.specs.Events.{floor_after, gathers_anew, staling, taken_back, with_room}
+use Rattle.mb_core_spec.specs.Flights.{IsMine}
 use Rattle.mb_core_spec.specs.Numbers.{is_open, open_flight}
 use Rattle.mb_core_spec.specs.Owed.{IsPlain}
-use Rattle.mb_core_spec.specs.Performed.{Agrees, IsAnsweredBy, IsPerformed, IsReadyFor}
+use Rattle.mb_core_spec.specs.Performed.{Agrees, IsAnsweredBy, IsReadyFor}
 use Rattle.mb_core_spec.specs.Right.{Right}
 use Rattle.mb_core_spec.specs.State.{CallerState, CoreState}
 use Rattle.mb_core_spec.specs.declared.ready.Ready.{Ready}
@@ -35,12 +32,12 @@ use Rattle.mb_core_state.specs.Answers.{IsPresent}
 use Rattle.mb_core_state.specs.Finishing.{Finishes as EndsBy, IsLogged}
 use Rattle.mb_core_state.specs.declared.answers.Finished.{Finished}
 use Rattle.mb_core_state.specs.declared.answers.Finished.TheVariants as finished
-use Rattle.mb_core_events.specs.Callings.{HoldsTicket, IsUnanswered, MayFinish}
+use Rattle.mb_core_events.specs.Callings.{HoldsTicket, MayFinish}
 use Rattle.mb_core_events.proofs.Knowing.{runs_now, ticket_of_is}
 use Rattle.mb_run.specs.CoreSight.{is_fresh, pages_kept, seat_of, sight_of, stales_of}
 use Rattle.mb_run.specs.Events.{Finishes, IsReadyAt, IsStale, Logs}
 use Rattle.mb_volume_core.specs.Seals.{SealsAfter}
-use Rattle.mb_run.specs.Pages.{HasTablesFor, Performs, has}
+use Rattle.mb_run.specs.Pages.{HasTablesFor, has}
 use Rattle.mb_run.specs.Sights.{HasTicket, Seat}
 use Rattle.mb_volume_core.specs.Answers.{as_performed}
 use Rattle.mb_volume_core.proofs.Answering.{open_is}

@@ -1,5 +1,5 @@
 -- A call that gathers.
-use Rattle.std.proofs.Common.{◌≡◌, ◌≢◌, ◌∙◌, ◌<◌, ◌≤◌, inl, inr, ℕ, zero, Bool, true, false, if◌then◌else◌, is_some, nat_eq, IfSome, IsSome, Option, None, Some, option_map, length, slice_get, refl, ap, sym, subst, arith}
+use Rattle.std.proofs.Common.{◌≡◌, ◌≢◌, ◌∙◌, inl, inr, ℕ, Bool, true, false, if◌then◌else◌, is_some, nat_eq, Option, None, Some, option_map, length, slice_get, refl, ap, sym, subst, arith}
 use Rattle.std.proofs.lemmas.Bool.{cases_lt, eqb-true, eqb-false}
 use Rattle.std.proofs.lemmas.Option.{same_Some}
 use Rattle.mb_kinds.specs.Image.{Image}
@@ -20,8 +20,10 @@ use Rattle.mb_core_state.specs.declared.answers.Gathered.TheVariants as gathered
 use Rattle.mb_core_events.specs.Callings.{HoldsTicket, IsAsked, IsUnanswered}
 use Rattle.mb_run.specs.CoreSight.{is_fresh, pages_kept, seat_of, sight_of, stales_of}
 use Rattle.mb_run.specs.Events.{Answers, Gains, Gathers}
-use Rattle.mb_run.specs.Pages.{HasTablesFor, has}
-use Rattle.mb_run.specs.Sights.{HasTicket, Seat}
+use Rattle.mb_run.specs.Pages.{Grows, HasTablesFor, LacksAll, has}
+use Rattle.mb_run.specs.Sights.{HasTicket}
+use Rattle.mb_cache.specs.State.{seen}
+use Rattle.mb_volume_core.proofs.Growing.{blocks_grow, tables_grow}
 use Rattle.mb_volume_core.proofs.Origins.{origin_of}
 use Rattle.mb_volume_core.proofs.Answering.{answered, open_is}
 use Rattle.mb_volume_core.proofs.Freshness.{holds_fresh, tests_fresh}
@@ -78,6 +80,13 @@ module _ {F D : Type 0} (told : D → Option Image) (faults : D → ℕ) (core :
       | inr none ↦ subst (HasTablesFor (length core.config.callers)) (sym (by.tables (omega (arith, none))).got_is) (r.orderly.sessions ∙ r.orderly.numbered.callers_are)
     ]
 
+    -- what the caller has grows, where it had none of the blocks
+    gathered_more : LacksAll before need → Grows before now
+    gathered_more lacks = elim (cases_lt 0 need.first) [
+      | inl some ↦ (let blocks = by.blocks (omega (arith, some)) in subst (Grows before) (sym blocks.got_is) (blocks_grow before need lacks (seen told core.cache) core.cache.stamps blocks.reads (omega (arith, some)) blocks.long blocks.are))
+      | inr none ↦ (let zero_is : need.first ≡ 0 = omega (arith, none) in subst (Grows before) (sym (by.tables zero_is).got_is) (tables_grow before need lacks (live_copy core.tables) zero_is asked.some))
+    ]
+
     abbrev grown : CallerState
     grown = record mine { pages = by.kept.pages; undo = by.kept.undo }
 
@@ -102,6 +111,7 @@ module _ {F D : Type 0} (told : D → Option Image) (faults : D → ℕ) (core :
               (sym (ap (λ (o : Option CallerState). is_fresh core.cache.stamps core.tables (pages_kept o)) here) ∙ was))));
           got = has_first need.first before now got.more;
           keeps = keeps_all need.first before now got.more;
+          grows = gathered_more;
           tables = with_sessions;
           trail = ap (λ (c : CoreState F D). c.journal.trail) event;
         }

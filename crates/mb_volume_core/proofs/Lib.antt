@@ -13,3 +13,4 @@ pub mod Rising
 pub mod Sealing
 pub mod Behind
 pub mod Standing
+pub mod Growing

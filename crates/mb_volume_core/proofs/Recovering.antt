@@ -1,5 +1,5 @@
 -- A step of a recovery.
-use Rattle.std.proofs.Common.{◌≡◌, ◌⊎◌, ◌∙◌, ◌+◌, ◌-◌, ◌<◌, ◌≤◌, inl, inr, [], ◌∷◌, ◌++◌, List, ℕ, Bool, true, false, Option, None, Some, IfSome, length, slice_get, slice_set, refl, ap, sym, subst, arith}
+use Rattle.std.proofs.Common.{◌≡◌, ◌⊎◌, ◌∙◌, ◌+◌, ◌<◌, ◌≤◌, inl, inr, [], ◌∷◌, ◌++◌, List, ℕ, Bool, true, false, Option, None, Some, IfSome, length, slice_get, slice_set, refl, ap, sym, subst, arith}
 use Rattle.std.proofs.lemmas.Option.{same_Some}
 use Rattle.std.specs.Prelude.{if◌then◌else◌, nat_lt}
 use Rattle.mb_kinds.specs.Image.{Image}
@@ -10,17 +10,14 @@ use Rattle.mb_kinds.specs.declared.faults.Ticket.{Ticket}
 use Rattle.mb_kinds.specs.declared.faults.Kind.TheVariants.{Remount, Replay}
 use Rattle.mb_kinds.specs.declared.replies.Reply.TheVariants as reply
 use Rattle.mb_edge.specs.Causes.{Rose}
-use Rattle.mb_edge.specs.Crossings.{next_nth}
 use Rattle.mb_edge.specs.declared.crossings.Crossing.{Crossing}
 use Rattle.mb_edge.specs.declared.crossings.Crossings.{Crossings}
 use Rattle.mb_edge.specs.declared.strokes.Stroke.{Stroke}
-use Rattle.mb_oplog.specs.declared.oplogs.Logged.{Logged}
 use Rattle.mb_cache.specs.declared.answers.ReadFault.TheVariants as read
 use Rattle.mb_core_spec.specs.Callers.{insiders, one_if}
-use Rattle.mb_core_spec.specs.Events.{answered_by, taken_back, with_room}
+use Rattle.mb_core_spec.specs.Events.{taken_back, with_room}
 use Rattle.mb_core_spec.specs.Flights.{MayBeInside}
 use Rattle.mb_core_spec.specs.Bounds.{replayed}
-use Rattle.mb_core_spec.specs.Numbers.{open_flight}
 use Rattle.mb_core_spec.specs.Recovery.{dropping, failing, remounting, reopening, resuming}
 use Rattle.mb_core_spec.specs.Right.{Right}
 use Rattle.mb_core_spec.specs.State.{CallerState, CoreState}
@@ -42,7 +39,7 @@ use Rattle.mb_recover.specs.declared.steps.Stepped.TheVariants as recovered
 use Rattle.mb_run.specs.CoreSight.{seat_of, sight_of}
 use Rattle.mb_run.specs.Events.{Answers}
 use Rattle.mb_run.specs.Lengths.{Stands}
-use Rattle.mb_run.specs.Recovering.{EndsByDevice, GoOn, GoesOn, IsAtNone, IsPassed, IsTaken, Rolls, RunsFor, Steps, Strikes, StrikesBy, Waits, awaits_remount}
+use Rattle.mb_run.specs.Recovering.{EndsByDevice, GoOn, IsAtNone, IsPassed, IsTaken, Rolls, RunsFor, Steps, StrikesBy, Waits, awaits_remount}
 use Rattle.mb_run.specs.Served.{AreCounts, counted}
 use Rattle.mb_run.specs.Sights.{recovers, steps_left}
 use Rattle.mb_run.specs.declared.answers.Stepped.TheVariants as stepped
@@ -53,7 +50,7 @@ use Rattle.mb_volume_core.proofs.Answering.{answered, open_is}
 use Rattle.mb_volume_core.proofs.Gathering.{last_begun}
 use Rattle.mb_volume_core.proofs.Origins.{origin_of}
 use Rattle.mb_volume_core.proofs.Standing.{ended_stands}
-use Rattle.mb_volume_core.proofs.Staying.{begun_now, floor_without, keeps_log, open_now, own_now, seated, some_at, stays_at}
+use Rattle.mb_volume_core.proofs.Staying.{begun_now, floor_without, keeps_log, open_now, own_now, seated, some_at}
 
 -- ---- the crossings of the call that runs the step
 

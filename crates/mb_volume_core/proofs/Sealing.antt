@@ -1,9 +1,8 @@
 -- A checkpoint, and a page that is written back.
-use Rattle.std.proofs.Common.{◌≡◌, ◌∙◌, ◌≤◌, ◌+◌, ℕ, true, [], ◌∷◌, ◌++◌, Option, Result, Ok, Err, length, refl, ap, sym, subst, arith, length-append}
+use Rattle.std.proofs.Common.{◌≡◌, ◌∙◌, ◌≤◌, ℕ, true, ◌∷◌, ◌++◌, Option, Result, Ok, Err, length, ap, sym, subst, arith, length-append}
 use Rattle.std.specs.Result.{OnErr, OnOk}
 use Rattle.mb_kinds.specs.Image.{Image}
 use Rattle.mb_edge.specs.Causes.{Rose}
-use Rattle.mb_cache.specs.Pages.{PageList}
 use Rattle.mb_cache.specs.State.{CacheState, Flushes}
 use Rattle.mb_cache.specs.declared.answers.Flushed.{Flushed}
 use Rattle.mb_cache.specs.declared.answers.Flushed.TheVariants as flushed
@@ -11,7 +10,6 @@ use Rattle.mb_core_spec.specs.Callers.{insiders}
 use Rattle.mb_core_spec.specs.Events.{with_room}
 use Rattle.mb_core_spec.specs.Recovery.{flushing, sealing}
 use Rattle.mb_core_spec.specs.State.{CoreState}
-use Rattle.mb_core_spec.specs.declared.stages.Stage.{Stage}
 use Rattle.mb_core_spec.specs.declared.stages.Stage.TheVariants as stage
 use Rattle.mb_run.specs.CoreSight.{sight_of}
 use Rattle.mb_core_state.specs.declared.answers.Finished.{Finished}

@@ -10,7 +10,7 @@ ghost use Rattle.mb_volume_core.specs.Seals.{SealsAfter};
 use crate::answers::{as_ready, entered_as, stepped_as};
 use mb_cache::Flushed;
 use mb_callers::{Pages, least_stale_block};
-use mb_calls::{Performed, Ready};
+use mb_calls::{Performed, Performing, Ready};
 use mb_core_events::Core;
 use mb_core_spec::{Config, Stage};
 use mb_core_state::{Fault, Finished, Gathered, Left};
@@ -114,7 +114,14 @@ impl<F: FileSys, D: Disk> EventCore for VolumeCore<F, D> {
         self.core.begun(caller)
     }
 
-    fn perform(&self, alloc: Global, pages: &Pages, ticket: &Ticket, call: &Call) -> Performed {
+    fn perform(
+        &self,
+        alloc: Global,
+        pages: &Pages,
+        ticket: &Ticket,
+        call: &Call,
+        way: &mut Option<Performing>,
+    ) -> Performed {
         let fs = self.core.fs();
         let Some(sessions) = pages.sessions() else {
             unreachable!()
@@ -122,11 +129,13 @@ impl<F: FileSys, D: Disk> EventCore for VolumeCore<F, D> {
         let Some(opens) = pages.opens() else {
             unreachable!()
         };
-        mb_calls::perform(
+        let seats = sessions.as_slice();
+        let on = way.get_or_insert(Performing::new(&seats[usize::from(ticket.caller)]));
+        on.go(
             alloc,
             &fs,
             pages,
-            sessions.as_slice(),
+            seats,
             opens,
             ticket.caller,
             call,

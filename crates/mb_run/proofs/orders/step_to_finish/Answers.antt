@@ -13,8 +13,8 @@ steps-init g c = record { turning = turning_begin _ _ _ _ _ c.requires; begun = 
 pub look-requires : goal.look-requires
 look-requires g c = may_look _ _ _ _ _ c.steps.invariant.turning.may
 
-pub step-requires : goal.step-requires
-step-requires g c = rw c.steps.invariant.test c.steps.invariant.turning.may
+pub step-requires-clause-may : goal.step-requires-clause-may
+step-requires-clause-may g c = rw c.steps.invariant.test c.steps.invariant.turning.may
 
 pub returns-in-Late-clause-moved : goal.returns-in-Late-clause-moved
 returns-in-Late-clause-moved g c = stopped_move _ _ _ _ _ _ _ c.steps.invariant.turning

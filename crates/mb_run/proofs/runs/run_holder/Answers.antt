@@ -4,22 +4,25 @@ use Rattle.mb_run.proofs.GivingUp.{may_give_up}
 use Rattle.mb_run.proofs.runs.run_holder.Goals as goal
 
 pub turns-init : goal.turns-init
-turns-init g c = record { turning = turning_begin _ _ _ _ _ c.requires.may; mine = c.requires.mine; tallied = λ tally. tally; origin = refl; test = refl }
+turns-init g c = record { going = tt; turning = turning_begin _ _ _ _ _ c.requires.may; mine = c.requires.mine; tallied = λ tally. tally; origin = refl; test = refl }
 
-pub step-requires : goal.step-requires
-step-requires g c = rw c.turns.invariant.test c.turns.invariant.turning.may
+pub step-requires-clause-may : goal.step-requires-clause-may
+step-requires-clause-may g c = rw c.turns.invariant.test c.turns.invariant.turning.may
+
+pub step-requires-clause-going : goal.step-requires-clause-going
+step-requires-clause-going g c = c.turns.invariant.going
 
 pub returns-in-Ended-clause-ran : goal.returns-in-Ended-clause-ran
 returns-in-Ended-clause-ran g c = turning_ends _ _ _ _ _ _ _ _ _ c.turns.invariant.turning (rw c.turns.invariant.test at c.in-Ended.ensures.did.nears) c.in-Ended.ensures.did.goes.0 c.in-Ended.ensures.did.goes.1
 
 pub turns-preserved-in-On : goal.turns-preserved-in-On
-turns-preserved-in-On g c = record { turning = turning_on _ _ _ _ _ _ _ _ _ c.turns.invariant.turning (rw c.turns.invariant.test at c.in-On.ensures.did.nears) c.in-On.ensures.did.goes.0 c.step.ensures.right; mine = mine_then _ _ _ _ _ _ _ _ _ _ c.turns.invariant.turning c.in-On.ensures.did.nears c.turns.invariant.mine; tallied = λ tally. (rw c.turns.invariant.test at c.in-On.ensures.tallied) (c.turns.invariant.tallied tally); origin = c.step.ensures.origin ∙ c.turns.invariant.origin; test = c.step.ensures.test ∙ c.turns.invariant.test }
+turns-preserved-in-On g c = record { going = c.step.ensures.going; turning = turning_on _ _ _ _ _ _ _ _ _ c.turns.invariant.turning (rw c.turns.invariant.test at c.in-On.ensures.did.nears) c.in-On.ensures.did.goes.0 c.step.ensures.right; mine = mine_then _ _ _ _ _ _ _ _ _ _ c.turns.invariant.turning c.in-On.ensures.did.nears c.turns.invariant.mine; tallied = λ tally. (rw c.turns.invariant.test at c.in-On.ensures.tallied) (c.turns.invariant.tallied tally); origin = c.step.ensures.origin ∙ c.turns.invariant.origin; test = c.step.ensures.test ∙ c.turns.invariant.test }
 
 pub turns-smaller-in-On : goal.turns-smaller-in-On
 turns-smaller-in-On g c = turning_less _ _ _ _ _ _ c.in-On.ensures.did.nears c.in-On.ensures.did.goes.1
 
 pub turns-preserved-in-Back : goal.turns-preserved-in-Back
-turns-preserved-in-Back g c = record { turning = turning_on _ _ _ _ _ _ _ _ _ c.turns.invariant.turning (rw c.turns.invariant.test at c.in-Back.ensures.did.nears) c.in-Back.ensures.did.goes.0 c.step.ensures.right; mine = mine_then _ _ _ _ _ _ _ _ _ _ c.turns.invariant.turning c.in-Back.ensures.did.nears c.turns.invariant.mine; tallied = λ tally. (rw c.turns.invariant.test at c.in-Back.ensures.tallied) (c.turns.invariant.tallied tally); origin = c.step.ensures.origin ∙ c.turns.invariant.origin; test = c.step.ensures.test ∙ c.turns.invariant.test }
+turns-preserved-in-Back g c = record { going = c.step.ensures.going; turning = turning_on _ _ _ _ _ _ _ _ _ c.turns.invariant.turning (rw c.turns.invariant.test at c.in-Back.ensures.did.nears) c.in-Back.ensures.did.goes.0 c.step.ensures.right; mine = mine_then _ _ _ _ _ _ _ _ _ _ c.turns.invariant.turning c.in-Back.ensures.did.nears c.turns.invariant.mine; tallied = λ tally. (rw c.turns.invariant.test at c.in-Back.ensures.tallied) (c.turns.invariant.tallied tally); origin = c.step.ensures.origin ∙ c.turns.invariant.origin; test = c.step.ensures.test ∙ c.turns.invariant.test }
 
 pub turns-smaller-in-Back : goal.turns-smaller-in-Back
 turns-smaller-in-Back g c = turning_less _ _ _ _ _ _ c.in-Back.ensures.did.nears c.in-Back.ensures.did.goes.1
@@ -35,6 +38,7 @@ returns-in-Ended-recover-clause-ran g c = shut_ends _ _ _ _ _ _ _ _ _ _ _ c.turn
 
 pub turns-preserved : goal.turns-preserved
 turns-preserved g c = record {
+  going = tt;
   turning = shut_goes _ _ _ _ _ _ _ _ _ _ _ c.turns.invariant.turning (rw c.turns.invariant.test at c.in-Shut.ensures.did) (rw (c.step.ensures.test ∙ c.turns.invariant.test) at c.in-Back-recover.ensures.recovers) c.recover.ensures.right;
   mine = mine_twice _ _ (g.H.Hook.test c.turns.hook) _ _ _ _ _ _ _ _ _ c.turns.invariant.turning c.in-Shut.ensures.did.nears (rw c.step.ensures.test at c.in-Back-recover.ensures.recovers).nears c.turns.invariant.mine;
   tallied = λ tally. (rw (c.step.ensures.test ∙ c.turns.invariant.test) at c.in-Back-recover.ensures.tallied) ((rw c.turns.invariant.test at c.in-Shut.ensures.tallied) (c.turns.invariant.tallied tally));

@@ -1,4 +1,5 @@
 use Rattle.std.proofs.Common.{◌≡◌}
+use Rattle.mb_run.specs.Pages.{IsUnderWay}
 use Rattle.mb_run.specs.Served.{IsMine, work}
 use Rattle.mb_run.specs.Tallies.{IsTallied}
 use Rattle.mb_run.proofs.Going.{IsTurning}
@@ -9,6 +10,7 @@ invariant-turns g l = record {
   turning : IsTurning l.calls (g.H.Hook.test l.fn.hook) (g.C.EventCore.sight l.fn.core) (g.C.EventCore.sight l.core) l.fn.runner l.runner l.call;
   mine : IsMine l.fn.runner.crossings.caller (g.C.EventCore.sight l.core).floor;
   tallied : IsTallied (g.H.Hook.test l.fn.hook) (g.C.EventCore.sight l.fn.core) l.fn.runner l.fn.runner.at → IsTallied (g.H.Hook.test l.fn.hook) (g.C.EventCore.sight l.core) l.runner l.runner.at;
+  going : IsUnderWay l.runner.pages l.runner.crossings.caller l.call l.way;
   origin : g.C.EventCore.origin l.core ≡ g.C.EventCore.origin l.fn.core;
   test : g.H.Hook.test l.hook ≡ g.H.Hook.test l.fn.hook;
 }

@@ -1,4 +1,4 @@
-use Rattle.std.proofs.Common.{refl, ◌∙◌, arith}
+use Rattle.std.proofs.Common.{◌∙◌, arith}
 use Rattle.mb_run.proofs.Ending.{keeps_then}
 use Rattle.mb_run.proofs.Lengthening.{calm_ends, forward_then}
 use Rattle.mb_run.proofs.settles.recover_calmly.Goals as goal

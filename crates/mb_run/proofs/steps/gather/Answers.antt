@@ -1,3 +1,7 @@
+use Rattle.std.proofs.Common.{inl, inr, ap, sym, subst, ◌∙◌}
+use Rattle.mb_run.specs.Pages.{Grows, GrowsBy}
+use Rattle.mb_run.specs.declared.runner.Runner.{Runner}
+use Rattle.mb_run.proofs.UnderWay.{grows_same}
 use Rattle.mb_kinds.specs.declared.faults.Kind.TheVariants as kind
 use Rattle.mb_core_state.specs.declared.answers.Gathered.TheVariants as gathered
 use Rattle.mb_run.proofs.Inside.{inside_asked, asked_gather, asked_room}
@@ -41,3 +45,18 @@ returns-in-NoMemory-clause-tallied g c = λ tally. tt
 
 pub returns-in-Done-clause-tallied : goal.returns-in-Done-clause-tallied
 returns-in-Done-clause-tallied g c = gathering_done _ _ _ _ _ c.requires.may c.args.ticket.now c.requires.inside _ _ c.if-is_struck.ensures.asks _ c.args.need c.gather.new.pages c.in-Done.ensures.gathers
+
+pub returns-then-is_struck-clause-grown : goal.returns-then-is_struck-clause-grown
+returns-then-is_struck-clause-grown g c = inl (ap (λ (r : Runner). r.pages) c.if-is_struck.ensures.asks.0)
+
+pub returns-in-Skip-clause-grown : goal.returns-in-Skip-clause-grown
+returns-in-Skip-clause-grown g c = inl (ap (λ (r : Runner). r.pages) c.back.ensures)
+
+pub returns-in-Device-clause-grown : goal.returns-in-Device-clause-grown
+returns-in-Device-clause-grown g c = inl (ap (λ (r : Runner). r.pages) c.advance.ensures)
+
+pub returns-in-NoMemory-clause-grown : goal.returns-in-NoMemory-clause-grown
+returns-in-NoMemory-clause-grown g c = inr (λ lacks. subst (λ p. Grows c.args.runner.now.pages p) (sym (c.in-NoMemory.ensures.gathers.1 ∙ ap (λ (r : Runner). r.pages) c.if-is_struck.ensures.asks.1)) (grows_same c.args.runner.now.pages))
+
+pub returns-in-Done-clause-grown : goal.returns-in-Done-clause-grown
+returns-in-Done-clause-grown g c = subst (λ p. GrowsBy c.args.need p c.gather.new.pages) (ap (λ (r : Runner). r.pages) c.if-is_struck.ensures.asks.1) (inr c.in-Done.ensures.gathers.1.grows)

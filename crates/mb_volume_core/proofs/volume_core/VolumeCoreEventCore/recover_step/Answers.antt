@@ -1,9 +1,7 @@
-use Rattle.std.proofs.Common.{◌≡◌, ◌∙◌, sym, subst}
-use Rattle.mb_edge.specs.Causes.{Rose}
+use Rattle.std.proofs.Common.{◌∙◌, sym, subst}
 use Rattle.mb_run.specs.CoreSight.{sight_of}
 use Rattle.mb_run.specs.Recovering.{RunsFor, Steps}
 use Rattle.mb_run.specs.declared.answers.Stepped.{Stepped}
-use Rattle.mb_run.specs.declared.answers.Stepped.TheVariants as stepped
 use Rattle.mb_run.proofs.InTime.{if_some_at, steps_time}
 use Rattle.mb_volume_core.proofs.Orderly.{orderly}
 use Rattle.mb_volume_core.proofs.Recovering.{comes, goes_on, has_for, rose_at, stands_at}
