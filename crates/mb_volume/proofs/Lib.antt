@@ -12,3 +12,4 @@ pub mod Rising
 pub mod Holding
 pub mod Quitting
 pub mod Calling
+pub mod Gathered

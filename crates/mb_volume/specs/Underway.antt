@@ -12,7 +12,8 @@ use Rattle.mb_kinds.specs.declared.faults.Ticket.{Ticket}
 use Rattle.mb_kinds.specs.declared.replies.Reply.{Reply}
 use Rattle.mb_kinds.specs.declared.replies.Reply.TheVariants as reply
 use Rattle.mb_calls.specs.declared.performing.Performed.TheVariants as performed
-use Rattle.mb_run.specs.Pages.{HasTablesFor, Performs, has}
+use Rattle.mb_core_spec.specs.Copies.{PagesState}
+use Rattle.mb_run.specs.Pages.{GrowsBy, HasTablesFor, Performs, has}
 use Rattle.mb_run.specs.Served.{AreCounts, AreSound, IsCounted, counted}
 use Rattle.mb_run.specs.Sights.{HasTicket, IsWaiting, Seat}
 use Rattle.mb_run.specs.declared.answers.Stepped.{Stepped}
@@ -185,3 +186,8 @@ MayCome call test struck seat attempt (event.Finish ticket ready) =
 MayCome call test struck seat attempt (event.Leave ticket) = attempt.at ≡ at.Logged ticket
 MayCome call test struck seat attempt (event.Fault ticket crossing passed) = HoldsTicket attempt.at ticket × IsMet test struck attempt crossing passed
 MayCome call test struck seat attempt event.Recover = IsWaiting seat
+
+-- what the caller has after an event: where it gathered, nothing, or more, if it had none of the blocks
+abbrev pub GrowsAfter : Event → PagesState → PagesState → Type 0
+GrowsAfter (event.Gather ticket need) before now = GrowsBy need before now
+GrowsAfter _ before now = Unit {0}

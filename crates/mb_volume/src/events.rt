@@ -1,13 +1,13 @@
 ghost use Rattle.std.specs.Prelude.{◌≡◌, ◌<◌, ◌≤◌, true};
 ghost use Rattle.mb_calls.specs.declared.performing.Performed.TheVariants as performed;
 ghost use Rattle.mb_edge.specs.declared.hooks.Word.TheVariants as word;
-ghost use Rattle.mb_run.specs.Pages.{Performs, has};
+ghost use Rattle.mb_run.specs.Pages.{GrowsBy, Performs, has};
 ghost use Rattle.mb_run.specs.Rising.{RisesWith};
 ghost use Rattle.mb_run.specs.Sights.{IsOrderly, IsWaiting};
 ghost use Rattle.mb_run.specs.declared.runner.At.TheVariants as at;
 ghost use Rattle.mb_volume.specs.Parts.{Moves, part_of};
 ghost use Rattle.mb_volume.specs.Rising.{RisesAfter, word_for};
-ghost use Rattle.mb_volume.specs.Underway.{Goes, GoesUnasked, HoldsTicket, IsMet, IsOn, MayCome, rolled};
+ghost use Rattle.mb_volume.specs.Underway.{Goes, GoesUnasked, GrowsAfter, HoldsTicket, IsMet, IsOn, MayCome, rolled};
 
 use crate::attempt::Attempt;
 use mb_calls::Ready;
@@ -90,6 +90,7 @@ fn gather<C: EventCore>(
     requires some { 1 ≤ need.count }
     requires count { need.count ≤ 32 }
     requires right { IsOrderly (C.sight core.old) }
+    ensures grown { GrowsBy need attempt.old.pages attempt.new.pages }
     ensures goes { GoesUnasked call.now (part_of (C.sight core.old) attempt.old.crossings.caller) (part_of (C.sight core.new) attempt.old.crossings.caller) attempt.old attempt.new result }
     ensures same { attempt.new.crossings.caller ≡ attempt.old.crossings.caller }
     ensures moves { Moves attempt.old.crossings.caller (C.sight core.old) (C.sight core.new) }
@@ -103,7 +104,10 @@ fn gather<C: EventCore>(
             attempt.back();
             Came::On
         }
-        Gathered::Device => Came::Answered(Reply::Device),
+        Gathered::Device => {
+            attempt.back();
+            Came::Answered(Reply::Device)
+        }
         Gathered::NoMemory => Came::NoMemory,
         Gathered::Done => Came::On,
     }
@@ -252,6 +256,7 @@ pub(crate) fn act<C: EventCore, H: Hook>(
     requires on { IsOn call.now (part_of (C.sight core.old) attempt.old.crossings.caller) attempt.old }
     requires may { MayCome call.now (H.test hook.old) (H.struck hook.old) ((C.sight core.old).seats attempt.old.crossings.caller) attempt.old event }
     requires right { IsOrderly (C.sight core.old) }
+    ensures grown { GrowsAfter event attempt.old.pages attempt.new.pages }
     ensures goes { Goes call.now (H.test hook.old) (part_of (C.sight core.old) attempt.old.crossings.caller) (part_of (C.sight core.new) attempt.old.crossings.caller) attempt.old attempt.new result }
     ensures same { attempt.new.crossings.caller ≡ attempt.old.crossings.caller }
     ensures moves { Moves attempt.old.crossings.caller (C.sight core.old) (C.sight core.new) }

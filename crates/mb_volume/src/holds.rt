@@ -1,6 +1,6 @@
 ghost use Rattle.std.specs.Prelude.{◌≡◌, ◌<◌, ◌≤◌, true, false, IfNone, IfSome};
 ghost use Rattle.mb_calls.specs.declared.performing.Performed.TheVariants as performed;
-ghost use Rattle.mb_run.specs.Pages.{Performs, has};
+ghost use Rattle.mb_run.specs.Pages.{GrowsBy, IsUnderWay, Performs, has};
 ghost use Rattle.mb_run.specs.Rising.{RisesWith};
 ghost use Rattle.mb_run.specs.Served.{counted};
 ghost use Rattle.mb_run.specs.Sights.{IsWaiting};
@@ -9,18 +9,18 @@ ghost use Rattle.mb_turn.specs.Passes.{IsIdle};
 ghost use Rattle.mb_volume.specs.Attempts.{new_attempt};
 ghost use Rattle.mb_volume.specs.Passing.{IsLater, IsMaking, part_in};
 ghost use Rattle.mb_volume.specs.Rising.{RisesAfter, word_for};
-ghost use Rattle.mb_volume.specs.Underway.{HoldsTicket, IsLeftOff, Leads, MayCome};
+ghost use Rattle.mb_volume.specs.Underway.{GrowsAfter, HoldsTicket, IsLeftOff, Leads, MayCome};
 
 use crate::attempt::Attempt;
 use crate::events::{Came, Event};
 use crate::performing::{has_tables, perform};
 use crate::shared::SharedCore;
 use crate::volume::Volume;
-use mb_calls::{Performed, Ready};
+use mb_calls::{Performed, Performing, Ready};
 use mb_edge::{Disk, Hook, Word};
 use mb_iface::{FileSys, Need};
 use mb_kinds::{Call, Kind, Ticket};
-use mb_run::At;
+use mb_run::{At, keep_way};
 use mb_turn::Pass;
 use std::alloc::Global;
 use std::sync::Wait;
@@ -62,6 +62,7 @@ impl<F: FileSys, D: Disk> Volume<F, D> {
         requires idle { IsIdle self.now.table pass.old }
         requires making { IsMaking call.now (H.test hook.old) pass.old attempt.old false }
         requires may { MayCome call.now (H.test hook.old) (H.struck hook.old) (part_in pass.old).seat attempt.old event }
+        ensures grown { GrowsAfter event attempt.old.pages attempt.new.pages }
         ensures later { IsLater self.now.table pass.old pass.new }
         ensures leads { Leads call.now (H.test hook.old) (part_in pass.old) (part_in pass.new) attempt.old attempt.new result.0 }
         ensures same { attempt.new.crossings.caller ≡ attempt.old.crossings.caller }
@@ -163,6 +164,7 @@ impl<F: FileSys, D: Disk> Volume<F, D> {
         requires making { IsMaking call.now (H.test hook.old) pass.old attempt.old false }
         requires inside { attempt.old.at ≡ at.Inside ticket.now }
         requires need { (need.first < 262144) × (1 ≤ need.count) × (need.count ≤ 32) }
+        ensures grown { IfSome result.1 (λ code. GrowsBy need attempt.old.pages attempt.new.pages) }
         ensures later { IsLater self.now.table pass.old pass.new }
         ensures leads { Leads call.now (H.test hook.old) (part_in pass.old) (part_in pass.new) attempt.old attempt.new result.0 }
         ensures same { attempt.new.crossings.caller ≡ attempt.old.crossings.caller }
@@ -241,6 +243,42 @@ impl<F: FileSys, D: Disk> Volume<F, D> {
         self.hold(rt, alloc, pass, hook, attempt, call, event).0
     }
 
+    /// It gathers what the call asked for, with what it followed of its paths.
+    fn gather_on<H: Hook, R: Wait>(
+        &self,
+        rt: &R,
+        alloc: Global,
+        pass: &mut Pass<SharedCore<F, D>>,
+        hook: &mut H,
+        attempt: &mut Attempt,
+        call: &Call,
+        ticket: &Ticket,
+        need: Need,
+        way: &mut Option<Performing>,
+    ) -> Came
+        requires idle { IsIdle self.now.table pass.old }
+        requires making { IsMaking call.now (H.test hook.old) pass.old attempt.old false }
+        requires inside { attempt.old.at ≡ at.Inside ticket.now }
+        requires there { has attempt.old.pages 0 ≡ true }
+        requires lacks { has attempt.old.pages need.first ≡ false }
+        requires need { (need.first < 262144) × (1 ≤ need.count) × (need.count ≤ 32) }
+        requires above { 1 ≤ need.first }
+        requires going { IsUnderWay attempt.old.pages attempt.old.crossings.caller call.now way.old }
+        ensures going { IsUnderWay attempt.new.pages attempt.new.crossings.caller call.now way.new }
+        ensures later { IsLater self.now.table pass.old pass.new }
+        ensures leads { Leads call.now (H.test hook.old) (part_in pass.old) (part_in pass.new) attempt.old attempt.new result }
+        ensures same { attempt.new.crossings.caller ≡ attempt.old.crossings.caller }
+        ensures rises { RisesWith (H.faults hook.old) (H.faults hook.new) (part_in pass.old).struck (part_in pass.new).struck }
+        ensures test { H.test hook.new ≡ H.test hook.old }
+    {
+        keep_way(&attempt.pages, need, way);
+        let (came, code) = self.gather(rt, alloc, pass, hook, attempt, call, ticket, need);
+        if code.is_none() {
+            *way = None;
+        }
+        came
+    }
+
     /// The call, which is inside, is performed over what it gathered, outside the turn, and finishes, or it gathers what
     /// is not there yet.
     #[tactic(auto, using(crate::proofs::Rising::rises_same))]
@@ -252,12 +290,15 @@ impl<F: FileSys, D: Disk> Volume<F, D> {
         hook: &mut H,
         attempt: &mut Attempt,
         code: &mut Option<F>,
+        way: &mut Option<Performing>,
         call: &Call,
         ticket: &Ticket,
     ) -> Came
         requires idle { IsIdle self.now.table pass.old }
         requires making { IsMaking call.now (H.test hook.old) pass.old attempt.old false }
         requires inside { attempt.old.at ≡ at.Inside ticket.now }
+        requires going { IsUnderWay attempt.old.pages attempt.old.crossings.caller call.now way.old }
+        ensures going { IsUnderWay attempt.new.pages attempt.new.crossings.caller call.now way.new }
         ensures later { IsLater self.now.table pass.old pass.new }
         ensures leads { Leads call.now (H.test hook.old) (part_in pass.old) (part_in pass.new) attempt.old attempt.new result }
         ensures same { attempt.new.crossings.caller ≡ attempt.old.crossings.caller }
@@ -266,19 +307,21 @@ impl<F: FileSys, D: Disk> Volume<F, D> {
     {
         if has_tables(&attempt.pages) {
             if let Some(fs) = *code {
-                match perform(alloc, &fs, &attempt.pages, ticket, call) {
+                match perform(alloc, &fs, &attempt.pages, ticket, call, way) {
                     Performed::Need(need) => {
-                        return self
-                            .gather(rt, alloc, pass, hook, attempt, call, ticket, need)
-                            .0;
+                        return self.gather_on(
+                            rt, alloc, pass, hook, attempt, call, ticket, need, way,
+                        );
                     }
                     Performed::NoMemory => return Came::NoMemory,
                     Performed::Ready(ready) => {
+                        *way = None;
                         return self.finish(rt, alloc, pass, hook, attempt, call, ticket, ready);
                     }
                 }
             }
         }
+        *way = None;
         let tables = Need { first: 0, count: 1 };
         let (came, gathered) = self.gather(rt, alloc, pass, hook, attempt, call, ticket, tables);
         *code = gathered;
@@ -295,11 +338,14 @@ impl<F: FileSys, D: Disk> Volume<F, D> {
         hook: &mut H,
         attempt: &mut Attempt,
         code: &mut Option<F>,
+        way: &mut Option<Performing>,
         shut: bool,
         call: &Call,
     ) -> Came
         requires idle { IsIdle self.now.table pass.old }
         requires making { IsMaking call.now (H.test hook.old) pass.old attempt.old shut }
+        requires going { IsUnderWay attempt.old.pages attempt.old.crossings.caller call.now way.old }
+        ensures going { IsUnderWay attempt.new.pages attempt.new.crossings.caller call.now way.new }
         ensures later { IsLater self.now.table pass.old pass.new }
         ensures leads { Leads call.now (H.test hook.old) (part_in pass.old) (part_in pass.new) attempt.old attempt.new result }
         ensures same { attempt.new.crossings.caller ≡ attempt.old.crossings.caller }
@@ -307,16 +353,23 @@ impl<F: FileSys, D: Disk> Volume<F, D> {
         ensures test { H.test hook.new ≡ H.test hook.old }
     {
         if shut {
+            *way = None;
             return self
                 .hold(rt, alloc, pass, hook, attempt, call, Event::Recover)
                 .0;
         }
         match attempt.at {
-            At::Outside => self.enter(rt, alloc, pass, hook, attempt, call),
-            At::Inside(ticket) => {
-                self.go_on(rt, alloc, pass, hook, attempt, code, call, &ticket)
+            At::Outside => {
+                *way = None;
+                self.enter(rt, alloc, pass, hook, attempt, call)
             }
-            At::Logged(ticket) => self.leave(rt, alloc, pass, hook, attempt, call, &ticket),
+            At::Inside(ticket) => {
+                self.go_on(rt, alloc, pass, hook, attempt, code, way, call, &ticket)
+            }
+            At::Logged(ticket) => {
+                *way = None;
+                self.leave(rt, alloc, pass, hook, attempt, call, &ticket)
+            }
         }
     }
 

@@ -9,7 +9,7 @@ ghost use Rattle.mb_run.specs.Sights.{IsOrderly};
 ghost use Rattle.mb_volume.specs.Parts.{Moves, part_of, stand_in};
 ghost use Rattle.mb_volume.specs.Rising.{RisesAfter, word_for};
 ghost use Rattle.mb_volume.specs.Shared.{origin_of};
-ghost use Rattle.mb_volume.specs.Underway.{Goes, IsOn, MayCome};
+ghost use Rattle.mb_volume.specs.Underway.{Goes, GrowsAfter, IsOn, MayCome};
 
 use crate::attempt::Attempt;
 use crate::events::{Came, Event, act};
@@ -87,6 +87,7 @@ impl<F: FileSys, D: Disk> SharedCore<F, D> {
     ) -> Came
         requires on { IsOn call.now (part_of (sight_of self.old.core.core) attempt.old.crossings.caller) attempt.old }
         requires may { MayCome call.now (H.test hook.old) (H.struck hook.old) ((sight_of self.old.core.core).seats attempt.old.crossings.caller) attempt.old event }
+        ensures grown { GrowsAfter event attempt.old.pages attempt.new.pages }
         ensures goes { Goes call.now (H.test hook.old) (part_of (sight_of self.old.core.core) attempt.old.crossings.caller) (part_of (sight_of self.new.core.core) attempt.old.crossings.caller) attempt.old attempt.new result }
         ensures same { attempt.new.crossings.caller ≡ attempt.old.crossings.caller }
         ensures moves { Moves attempt.old.crossings.caller (sight_of self.old.core.core) (sight_of self.new.core.core) }

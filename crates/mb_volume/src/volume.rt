@@ -77,9 +77,20 @@ impl<F: FileSys, D: Disk> Volume<F, D> {
     {
         let mut attempt = self.begin(rt, alloc, pass);
         let mut code = None;
+        let mut way = None;
         let mut shut = false;
         for _ in rt.forever() {
-            match self.step(rt, alloc, pass, hook, &mut attempt, &mut code, shut, call) {
+            match self.step(
+                rt,
+                alloc,
+                pass,
+                hook,
+                &mut attempt,
+                &mut code,
+                &mut way,
+                shut,
+                call,
+            ) {
                 Came::Answered(reply) => return Ok(reply),
                 Came::NoMemory => {
                     self.give_up(rt, pass, &attempt);

@@ -1,5 +1,6 @@
 use Rattle.std.proofs.Common.{sym, subst}
 use Rattle.mb_volume.proofs.Rising.{after_none, after_roll}
+use Rattle.mb_volume.specs.Underway.{GrowsAfter}
 use Rattle.mb_volume.specs.Rising.{RisesAfter, word_for}
 use Rattle.mb_volume.specs.declared.events.Event.{Event}
 use Rattle.mb_volume.proofs.events.act.Goals as goal
@@ -22,3 +23,6 @@ returns-in-Fault-clause-rises g c =
 
 pub returns-in-Recover-clause-rises : goal.returns-in-Recover-clause-rises
 returns-in-Recover-clause-rises g c = after_roll (word_for c.args.event) _ _ _ _ c.recover.ensures.rises
+
+pub returns-in-Gather-clause-grown : goal.returns-in-Gather-clause-grown
+returns-in-Gather-clause-grown g c = subst (λ (e : Event). GrowsAfter e c.args.attempt.now.pages c.gather.new.attempt.pages) (sym c.in-Gather.is) c.gather.ensures.grown

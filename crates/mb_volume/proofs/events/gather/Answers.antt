@@ -1,3 +1,7 @@
+use Rattle.std.proofs.Common.{ap, inl, inr, subst, sym}
+use Rattle.mb_run.specs.Pages.{Grows}
+use Rattle.mb_run.proofs.UnderWay.{grows_same}
+use Rattle.mb_volume.specs.declared.attempt.Attempt.{Attempt}
 use Rattle.mb_core_state.specs.declared.answers.Gathered.TheVariants as gathered
 use Rattle.mb_volume.proofs.Inside.{comes_back, comes_device, comes_gain, has_ticket, lacks_inside, moves_gathers, own_ticket}
 use Rattle.mb_volume.proofs.Entered.{comes_nothing}
@@ -42,3 +46,15 @@ returns-in-NoMemory-clause-still g c = gathers_still _ _ c.args.ticket.now c.arg
 
 pub returns-in-Done-clause-still : goal.returns-in-Done-clause-still
 returns-in-Done-clause-still g c = gathers_still _ _ c.args.ticket.now c.args.need c.args.attempt.now.pages c.gather.new.pages gathered.Done (has_ticket _ _ _ (g.C.EventCore.sight c.args.core.now) _ c.requires.on.2 _ c.requires.inside) c.in-Done.ensures.gathers
+
+pub returns-in-Skip-clause-grown : goal.returns-in-Skip-clause-grown
+returns-in-Skip-clause-grown g c = inl (ap (λ (a : Attempt). a.pages) c.back.ensures)
+
+pub returns-in-Device-clause-grown : goal.returns-in-Device-clause-grown
+returns-in-Device-clause-grown g c = inl (ap (λ (a : Attempt). a.pages) c.back-in-Device.ensures)
+
+pub returns-in-NoMemory-clause-grown : goal.returns-in-NoMemory-clause-grown
+returns-in-NoMemory-clause-grown g c = inr (λ lacks. subst (λ p. Grows c.args.attempt.now.pages p) (sym c.in-NoMemory.ensures.gathers.1) (grows_same c.args.attempt.now.pages))
+
+pub returns-in-Done-clause-grown : goal.returns-in-Done-clause-grown
+returns-in-Done-clause-grown g c = inr c.in-Done.ensures.gathers.1.grows

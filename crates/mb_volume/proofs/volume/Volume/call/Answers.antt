@@ -11,6 +11,7 @@ pub loop-init : goal.loop-init
 loop-init g c = record {
   can_next = tt;
   is_finite = tt;
+  going = tt;
   later = c.begin-attempt.ensures.later;
   underway = call_begins c.args.call.now (g.H.Hook.test c.args.hook.now) c.args.pass.now c.begin-attempt.new.pass c.begin-attempt.result c.begin-attempt.ensures.part c.begin-attempt.ensures.declared c.requires.most c.requires.free c.begin-attempt.ensures.attempt;
   caller = ap (λ (a : Attempt). a.crossings.caller) c.begin-attempt.ensures.attempt ∙ sym c.begin-attempt.ensures.later.caller;
@@ -47,6 +48,7 @@ loop-preserved-in-Shut g c =
     record {
       can_next = tt;
       is_finite = tt;
+      going = c.step.ensures.going;
       later = later_then _ _ _ _ c.loop.invariant.later c.step.ensures.later;
       underway = is.0;
       caller = c.step.ensures.same ∙ c.loop.invariant.caller ∙ sym c.step.ensures.later.caller;
@@ -59,6 +61,7 @@ pub loop-preserved-in-Busy : goal.loop-preserved-in-Busy
 loop-preserved-in-Busy g c = record {
   can_next = tt;
   is_finite = tt;
+  going = c.step.ensures.going;
   later = later_then _ _ _ _ c.loop.invariant.later c.step.ensures.later;
   underway = (rw c.loop.invariant.test at c.in-Busy.ensures.leads) (part_in c.args.pass.now) c.loop.invariant.underway;
   caller = c.step.ensures.same ∙ c.loop.invariant.caller ∙ sym c.step.ensures.later.caller;
@@ -71,6 +74,7 @@ pub loop-preserved-in-Inside : goal.loop-preserved-in-Inside
 loop-preserved-in-Inside g c = record {
   can_next = tt;
   is_finite = tt;
+  going = c.step.ensures.going;
   later = later_then _ _ _ _ c.loop.invariant.later c.step.ensures.later;
   underway = ((rw c.loop.invariant.test at c.in-Inside.ensures.leads) (part_in c.args.pass.now) c.loop.invariant.underway).0;
   caller = c.step.ensures.same ∙ c.loop.invariant.caller ∙ sym c.step.ensures.later.caller;
@@ -83,6 +87,7 @@ pub loop-preserved : goal.loop-preserved
 loop-preserved g c = record {
   can_next = tt;
   is_finite = tt;
+  going = c.step.ensures.going;
   later = later_then _ _ _ _ c.loop.invariant.later c.step.ensures.later;
   underway = (rw c.loop.invariant.test at c.in-On.ensures.leads) (part_in c.args.pass.now) c.loop.invariant.underway;
   caller = c.step.ensures.same ∙ c.loop.invariant.caller ∙ sym c.step.ensures.later.caller;

@@ -1,5 +1,6 @@
 -- The call is under way, as it began.
 use Rattle.std.proofs.Common.{◌≡◌, true}
+use Rattle.mb_run.specs.Pages.{IsUnderWay}
 use Rattle.mb_run.specs.Rising.{RisesWith}
 use Rattle.mb_run.specs.Sights.{IsWaiting}
 use Rattle.mb_volume.specs.Passing.{IsLater, part_in}
@@ -10,6 +11,7 @@ abbrev pub invariant-loop : goal.invariant-loop
 invariant-loop g l = record {
   can_next : (goal.iterator-loop g).can_next l.iterator';
   is_finite : (goal.iterator-loop g).is_finite l.iterator';
+  going : IsUnderWay l.attempt.pages l.attempt.crossings.caller l.call l.way;
   later : IsLater l.self.table l.fn.pass l.pass;
   underway : IsUnderway l.call (g.H.Hook.test l.fn.hook) (part_in l.fn.pass) (part_in l.pass) l.attempt;
   caller : l.attempt.crossings.caller ≡ l.pass.caller;
