@@ -18,6 +18,8 @@ pub struct FileDisk<R: Files<File = File> + Drop> {
     path: Word8,
     make: bool,
     file: Option<File>,
+    /// So many whole blocks the file was seen to have; 0 at first.
+    whole: u64,
     faults: u64,
 }
 
@@ -32,6 +34,7 @@ impl<R: Files<File = File> + Drop> FileDisk<R> {
             path,
             make,
             file: None,
+            whole: 0,
             faults: 0,
         }
     }
@@ -75,14 +78,21 @@ impl<R: Files<File = File> + Drop> FileDisk<R> {
         }
     }
 
+    /// The file's length is asked of the system only where the block lies behind what it was seen to have.
     fn put(&mut self, block: u32, from: &[u8]) -> io::Result<()>
         ensures { self.new.faults ≡ self.old.faults }
     {
         self.open()?;
-        match &self.file {
-            Some(file) => put_block(file, block, from),
-            None => Err(io::Error::from(ErrorKind::NotFound)),
+        let Some(file) = &self.file else {
+            return Err(io::Error::from(ErrorKind::NotFound));
+        };
+        let at = u64::from(block);
+        if at > self.whole {
+            self.whole = cut_off(file, at)?;
         }
+        file.write_all_at(from, at * 512)?;
+        self.whole = self.whole.max(at + 1);
+        Ok(())
     }
 }
 
@@ -138,11 +148,12 @@ fn give_block(file: &File, block: u32, into: &mut [u8]) -> io::Result<()>
     }
 }
 
-// Bytes after the last whole block belong to no block, so a write past them cuts them off.
-fn put_block(file: &File, block: u32, from: &[u8]) -> io::Result<()> {
+// Bytes after the last whole block belong to no block, so they are cut off before a write past them. The whole blocks are
+// told.
+fn cut_off(file: &File, block: u64) -> io::Result<u64> {
     let whole = file.metadata()?.len() / 512;
-    if whole < u64::from(block) {
+    if whole < block {
         file.set_len(whole * 512)?;
     }
-    file.write_all_at(from, u64::from(block) * 512)
+    Ok(whole)
 }
