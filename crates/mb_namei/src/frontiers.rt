@@ -1,9 +1,9 @@
 ghost use Rattle.std.specs.Prelude.{◌≤◌, ◌<◌, ◌+◌, ◌*◌};
 ghost use Rattle.mb_namei.specs.Frontiers.{LacksPart};
 
+use crate::addresses::Addresses;
 use crate::parts::{Fetched, fetch};
-use crate::searches::{PartSought, search_part};
-use mb_bmap::{Located, address};
+use crate::slots::{Glimpse, scan_slots};
 use mb_iface::{Changes, Need, View, seen};
 use mb_kinds::Name;
 
@@ -47,11 +47,12 @@ fn lacking_of_many<V: View>(
     requires slots { count ≤ 268435455 }
     ensures { LacksPart (V.shown view.now) changes.now dir result }
 {
-    if is_there(view, changes, dir, parts - 1) {
+    let addresses = Addresses::read(view, changes, dir)?;
+    if is_there(view, changes, &addresses, parts - 1) {
         return None;
     }
-    let part = parts_there(view, changes, dir, parts);
-    if has_name_before(view, changes, dir, part, count, name) {
+    let part = parts_there(view, changes, &addresses, parts);
+    if has_name_before(view, changes, &addresses, part, count, name) {
         return None;
     }
     match fetch(view, changes, dir, part, parts) {
@@ -61,17 +62,17 @@ fn lacking_of_many<V: View>(
 }
 
 /// Whether the block of a part is there. A part without a block is not.
-fn is_there<V: View>(view: &V, changes: &Changes, dir: u16, part: u32) -> bool
+fn is_there<V: View>(view: &V, changes: &Changes, addresses: &Addresses<'_>, part: u32) -> bool
     requires { part < 2113674 }
 {
-    match address(view, changes, dir, part) {
-        Located::At(block) => block < 262_144 && seen(view, changes, block).is_some(),
-        _ => false,
+    match addresses.block(view, changes, part) {
+        Some(block) => seen(view, changes, block).is_some(),
+        None => false,
     }
 }
 
 /// How many parts are there, where they are got in a row and the last one is not.
-fn parts_there<V: View>(view: &V, changes: &Changes, dir: u16, parts: u32) -> u32
+fn parts_there<V: View>(view: &V, changes: &Changes, addresses: &Addresses<'_>, parts: u32) -> u32
     requires some { 1 ≤ parts }
     requires few { parts ≤ 2113674 }
     ensures { result < parts }
@@ -80,7 +81,7 @@ fn parts_there<V: View>(view: &V, changes: &Changes, dir: u16, parts: u32) -> u3
     let mut lacking = parts - 1;
     while there < lacking {
         let middle = there + (lacking - there) / 2;
-        if is_there(view, changes, dir, middle) {
+        if is_there(view, changes, addresses, middle) {
             there = middle + 1;
         } else {
             lacking = middle;
@@ -94,7 +95,7 @@ fn parts_there<V: View>(view: &V, changes: &Changes, dir: u16, parts: u32) -> u3
 fn has_name_before<V: View>(
     view: &V,
     changes: &Changes,
-    dir: u16,
+    addresses: &Addresses<'_>,
     part: u32,
     count: u32,
     name: &Name,
@@ -103,27 +104,44 @@ fn has_name_before<V: View>(
     requires slots { count ≤ 268435455 }
     requires filled { 32 * part < count }
 {
-    for before in run_before(view, changes, dir, part)..part {
-        match search_part(view, changes, dir, before, count, count, name) {
-            PartSought::Found { .. } => return true,
-            _ => {}
+    for before in run_before(view, changes, addresses, part)..part {
+        if has_name(view, changes, addresses, before, name) {
+            return true;
         }
     }
     false
 }
 
+/// Whether a name stands in a part with 32 slots, whose block is there.
+fn has_name<V: View>(
+    view: &V,
+    changes: &Changes,
+    addresses: &Addresses<'_>,
+    part: u32,
+    name: &Name,
+) -> bool
+    requires { part < 2113674 }
+{
+    let Some(block) = addresses.block(view, changes, part) else {
+        return false;
+    };
+    let Some(bytes) = seen(view, changes, block) else {
+        return false;
+    };
+    matches!(scan_slots(bytes, 32, name), Glimpse::Named { .. })
+}
+
 /// The first of the parts that were got last before one.
-fn run_before<V: View>(view: &V, changes: &Changes, dir: u16, part: u32) -> u32
+fn run_before<V: View>(view: &V, changes: &Changes, addresses: &Addresses<'_>, part: u32) -> u32
     requires { part < 2113674 }
 {
     if part < 2 {
         return 0;
     }
-    let first = address(view, changes, dir, part / 2);
-    let last = address(view, changes, dir, part - 1);
+    let first = addresses.block(view, changes, part / 2);
+    let last = addresses.block(view, changes, part - 1);
     match (first, last) {
-        (Located::At(begin), Located::At(end))
-            if end > begin && end - begin == part - 1 - part / 2 => part / 2,
+        (Some(begin), Some(end)) if end > begin && end - begin == part - 1 - part / 2 => part / 2,
         _ => part - 1,
     }
 }

@@ -9,6 +9,7 @@
 //! component leads to. The queries promise `Finds` of `mb_iface`.
 #![tactic(auto)]
 
+mod addresses;
 mod components;
 mod frontiers;
 mod inodes;
