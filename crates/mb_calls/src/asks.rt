@@ -23,9 +23,9 @@ pub fn find<F: FileSys, V: View>(
     view: &V,
     seat: &Seat,
     path: &Path,
-    walk: PathWalk,
+    walk: &PathWalk,
 ) -> Result<Stat, Halt>
-    requires kept { IsKept (V.shown view.now) seat.now path.now walk }
+    requires kept { IsKept (V.shown view.now) seat.now path.now walk.now }
     ensures wants { Needs (lacking (V.shown view.now)) result }
     ensures says { FindsInode (V.shown view.now) seat.now path.now result }
     ensures near { NearPath (V.shown view.now) seat.now path.now result }
@@ -56,9 +56,9 @@ fn placed<F: FileSys, V: View>(
     view: &V,
     seat: &Seat,
     path: &Path,
-    walk: PathWalk,
+    walk: &PathWalk,
 ) -> Result<Placed, Halt>
-    requires kept { IsKept (V.shown view.now) seat.now path.now walk }
+    requires kept { IsKept (V.shown view.now) seat.now path.now walk.now }
     ensures wants { Needs (lacking (V.shown view.now)) result }
     ensures says { FindsPlace (V.shown view.now) seat.now path.now result }
     ensures near { NearPath (V.shown view.now) seat.now path.now result }
@@ -102,9 +102,9 @@ pub fn place<F: FileSys, V: View>(
     view: &V,
     seat: &Seat,
     path: &Path,
-    walk: PathWalk,
+    walk: &PathWalk,
 ) -> Result<Spot, Halt>
-    requires kept { IsKept (V.shown view.now) seat.now path.now walk }
+    requires kept { IsKept (V.shown view.now) seat.now path.now walk.now }
     ensures wants { SpotWants (lacking (V.shown view.now)) result }
     ensures says { FindsSpot (V.shown view.now) seat.now path.now result }
     ensures near { NearSpot (V.shown view.now) seat.now path.now result }

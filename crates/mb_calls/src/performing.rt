@@ -141,10 +141,10 @@ pub fn perform_on<F: FileSys, V: View>(
     caller: u8,
     call: &Call,
     moment: u32,
-    walks: PathWalks,
+    walks: &PathWalks,
 ) -> Performed
     requires declared { caller < length sessions.now }
-    requires going { IsGoingFor (V.shown view.now) sessions.now caller call.now walks }
+    requires going { IsGoingFor (V.shown view.now) sessions.now caller call.now walks.now }
     ensures right { IsRight (V.shown view.now) sessions.now opens.now caller call.now moment result }
     ensures needed { IsNeeded (V.shown view.now) sessions.now opens.now caller call.now result }
     ensures fit { FitsCall sessions.now caller call.now result }
@@ -190,6 +190,6 @@ pub fn perform<F: FileSys, V: View>(
         caller,
         call,
         moment,
-        set_out(seat),
+        &set_out(seat),
     )
 }

@@ -78,9 +78,9 @@ pub fn plan_call<F: FileSys, V: View>(
     seat: &Seat,
     call: &Call,
     moment: u32,
-    walks: PathWalks,
+    walks: &PathWalks,
 ) -> Result<CallPlan, Halt>
-    requires going { IsGoing (V.shown view.now) seat.now call.now walks }
+    requires going { IsGoing (V.shown view.now) seat.now call.now walks.now }
     ensures wants { Needs (lacking (V.shown view.now)) result }
     ensures says { PlansRow (V.shown view.now) opens.now seats.now seat.now call.now moment result }
     ensures near { NearCall (V.shown view.now) seat.now call.now result }
@@ -88,11 +88,11 @@ pub fn plan_call<F: FileSys, V: View>(
 {
     match call {
         Call::Open { path, how } => {
-            let asked = find(alloc, fs, view, seat, path, walks.first);
+            let asked = find(alloc, fs, view, seat, path, &walks.first);
             open_asked(seat, asked, *how)
         }
         Call::Creat { path, mode } => {
-            let spot = place(alloc, fs, view, seat, path, walks.first);
+            let spot = place(alloc, fs, view, seat, path, &walks.first);
             creat_spot(seat, *mode, moment, spot)
         }
         Call::Close { fd } => unasked(close_row(alloc, seat, *fd)),
@@ -100,46 +100,46 @@ pub fn plan_call<F: FileSys, V: View>(
         Call::Write { fd, bytes } => unasked(write_row(alloc, seat, *fd, bytes, moment)),
         Call::Dup { fd } => unasked(dup_row(seat, *fd)),
         Call::Link { from, to } => {
-            let asked = find(alloc, fs, view, seat, from, walks.first);
-            let spot = place(alloc, fs, view, seat, to, walks.second);
+            let asked = find(alloc, fs, view, seat, from, &walks.first);
+            let spot = place(alloc, fs, view, seat, to, &walks.second);
             link_spot(seat, moment, asked, spot)
         }
         Call::Unlink { path } => {
-            let spot = place(alloc, fs, view, seat, path, walks.first);
+            let spot = place(alloc, fs, view, seat, path, &walks.first);
             unlink_spot(seat, moment, spot)
         }
         Call::Mkdir { path, mode } => {
-            let spot = place(alloc, fs, view, seat, path, walks.first);
+            let spot = place(alloc, fs, view, seat, path, &walks.first);
             mkdir_spot(seat, *mode, moment, spot)
         }
         Call::Rmdir { path } => {
-            let spot = place(alloc, fs, view, seat, path, walks.first);
+            let spot = place(alloc, fs, view, seat, path, &walks.first);
             let used = used(alloc, fs, view, spot);
             rmdir_spot(opens, seats, seat, moment, spot, used)
         }
         Call::Chdir { path } => {
-            let asked = find(alloc, fs, view, seat, path, walks.first);
+            let asked = find(alloc, fs, view, seat, path, &walks.first);
             chdir_asked(seat, asked)
         }
         Call::Stat { path } => {
-            let asked = find(alloc, fs, view, seat, path, walks.first);
+            let asked = find(alloc, fs, view, seat, path, &walks.first);
             stat_asked(asked)
         }
         Call::Fstat { fd } => fstat_row(alloc, fs, view, seat, *fd),
         Call::Chmod { path, mode } => {
-            let asked = find(alloc, fs, view, seat, path, walks.first);
+            let asked = find(alloc, fs, view, seat, path, &walks.first);
             chmod_asked(seat, asked, *mode, moment)
         }
         Call::Chown { path, uid, gid } => {
-            let asked = find(alloc, fs, view, seat, path, walks.first);
+            let asked = find(alloc, fs, view, seat, path, &walks.first);
             chown_asked(seat, asked, *uid, *gid, moment)
         }
         Call::Utime { path, atime, mtime } => {
-            let asked = find(alloc, fs, view, seat, path, walks.first);
+            let asked = find(alloc, fs, view, seat, path, &walks.first);
             utime_asked(seat, asked, *atime, *mtime, moment)
         }
         Call::Access { path, bits } => {
-            let asked = find(alloc, fs, view, seat, path, walks.first);
+            let asked = find(alloc, fs, view, seat, path, &walks.first);
             access_asked(seat, asked, *bits)
         }
         Call::Umask { mask } => Ok(changing(

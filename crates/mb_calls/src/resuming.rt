@@ -4,7 +4,7 @@ ghost use Rattle.mb_calls.specs.Looked.{IsFirst, IsSecond};
 ghost use Rattle.mb_calls.specs.Performed.{FitsCall, IsNeeded, IsRight};
 
 use crate::performing::{Performed, perform_on, seat_of};
-use crate::walks::{Followed, PathWalk, PathWalks, find_place, follow, set_out};
+use crate::walks::{PathWalk, PathWalks, find_place, follow, set_out};
 use mb_iface::{FileSys, Need, Opens, View};
 use mb_kinds::{Call, Path};
 use mb_tree::{Seat, call_allowed};
@@ -61,108 +61,89 @@ fn asks_place(call: &Call) -> bool {
     )
 }
 
-/// Follows a path to its last component, and where `place` says so to its place.
+/// Follows a path to its last component, and where `place` says so finds its place; it tells which blocks the
+/// view lacks.
 fn follow_to<F: FileSys, V: View>(
     alloc: Global,
     fs: &F,
     view: &V,
     seat: &Seat,
     path: &Path,
-    walk: PathWalk,
+    walk: &mut PathWalk,
     place: bool,
-) -> Followed
-    requires kept { IsKept (V.shown view.now) seat.now path.now walk }
-    ensures kept { IsKept (V.shown view.now) seat.now path.now result.walk }
-    ensures lacking { IfSome result.need (LacksOnWay (V.shown view.now) seat.now path.now) }
+) -> Option<Need>
+    requires kept { IsKept (V.shown view.now) seat.now path.now walk.old }
+    ensures kept { IsKept (V.shown view.now) seat.now path.now walk.new }
+    ensures lacking { IfSome result (LacksOnWay (V.shown view.now) seat.now path.now) }
 {
     if walk.end.is_some() {
-        return Followed::to(walk);
+        return None;
     }
-    let followed = follow(alloc, fs, view, seat, path, walk);
-    if !place || followed.need.is_some() {
-        return followed;
+    let need = follow(alloc, fs, view, seat, path, walk);
+    if !place || need.is_some() {
+        return need;
     }
-    find_place(alloc, fs, view, seat, path, followed.walk)
+    find_place(alloc, fs, view, seat, path, walk)
 }
 
-/// The first walk of a call. The blocks that it lacks are the first ones that the call needs, since its row
-/// asks for the first path before all else.
+/// The first walk of a call goes on. The blocks that it lacks are the first ones that the call needs, since its
+/// row asks for the first path before all else.
 fn first_on<F: FileSys, V: View>(
     alloc: Global,
     fs: &F,
     view: &V,
     seat: &Seat,
     call: &Call,
-    walk: PathWalk,
-) -> Followed
-    requires kept { KeepsFirst (V.shown view.now) seat.now call.now walk }
-    ensures kept { KeepsFirst (V.shown view.now) seat.now call.now result.walk }
-    ensures lacking { IfSome result.need (LacksForCall (V.shown view.now) seat.now call.now) }
+    walk: &mut PathWalk,
+) -> Option<Need>
+    requires kept { KeepsFirst (V.shown view.now) seat.now call.now walk.old }
+    ensures kept { KeepsFirst (V.shown view.now) seat.now call.now walk.new }
+    ensures lacking { IfSome result (LacksForCall (V.shown view.now) seat.now call.now) }
 {
     match first_path(call) {
         Some(path) => follow_to(alloc, fs, view, seat, path, walk, asks_place(call)),
-        None => Followed::to(walk),
+        None => None,
     }
 }
 
-/// The second walk of a call. What it lacks is asked for again where the row comes to the second path, so
-/// that path does not overtake the first.
+/// The second walk of a call goes on. What it lacks is asked for again where the row comes to the second path,
+/// so that path does not overtake the first.
 fn second_on<F: FileSys, V: View>(
     alloc: Global,
     fs: &F,
     view: &V,
     seat: &Seat,
     call: &Call,
-    walk: PathWalk,
-) -> PathWalk
-    requires kept { KeepsSecond (V.shown view.now) seat.now call.now walk }
-    ensures { KeepsSecond (V.shown view.now) seat.now call.now result }
+    walk: &mut PathWalk,
+)
+    requires kept { KeepsSecond (V.shown view.now) seat.now call.now walk.old }
+    ensures { KeepsSecond (V.shown view.now) seat.now call.now walk.new }
 {
-    match second_path(call) {
-        Some(path) => follow(alloc, fs, view, seat, path, walk).walk,
-        None => walk,
+    if let Some(path) = second_path(call) {
+        let _ = follow(alloc, fs, view, seat, path, walk);
     }
 }
 
-/// The walks of a call, and the blocks that its first path lacks.
-#[derive(Clone, Copy, Debug, Drop)]
-struct Advanced {
-    walks: PathWalks,
-    need: Option<Need>,
-}
-
-/// The walks of a call, as far as the view has the blocks for them; the second one once the first is at its
-/// end.
+/// The walks of a call go on as far as the view has the blocks for them, the second one once the first is at its
+/// end; it tells which blocks the first path lacks.
 fn advance<F: FileSys, V: View>(
     alloc: Global,
     fs: &F,
     view: &V,
     seat: &Seat,
     call: &Call,
-    walks: PathWalks,
-) -> Advanced
-    requires going { IsGoing (V.shown view.now) seat.now call.now walks }
-    ensures going { IsGoing (V.shown view.now) seat.now call.now result.walks }
-    ensures lacking { IfSome result.need (LacksForCall (V.shown view.now) seat.now call.now) }
+    walks: &mut PathWalks,
+) -> Option<Need>
+    requires going { IsGoing (V.shown view.now) seat.now call.now walks.old }
+    ensures going { IsGoing (V.shown view.now) seat.now call.now walks.new }
+    ensures lacking { IfSome result (LacksForCall (V.shown view.now) seat.now call.now) }
 {
-    let first = first_on(alloc, fs, view, seat, call, walks.first);
-    if first.need.is_some() {
-        return Advanced {
-            walks: PathWalks {
-                first: first.walk,
-                second: walks.second,
-            },
-            need: first.need,
-        };
+    let need = first_on(alloc, fs, view, seat, call, &mut walks.first);
+    if need.is_some() {
+        return need;
     }
-    let second = second_on(alloc, fs, view, seat, call, walks.second);
-    Advanced {
-        walks: PathWalks {
-            first: first.walk,
-            second,
-        },
-        need: None,
-    }
+    second_on(alloc, fs, view, seat, call, &mut walks.second);
+    None
 }
 
 impl Performing {
@@ -196,12 +177,18 @@ impl Performing {
     {
         call_allowed(call);
         let seat = seat_of(sessions, caller);
-        let advanced = advance(alloc, fs, view, seat, call, self.walks);
-        self.walks = advanced.walks;
-        match advanced.need {
+        match advance(alloc, fs, view, seat, call, &mut self.walks) {
             Some(need) => Performed::Need(need),
             None => perform_on(
-                alloc, fs, view, sessions, opens, caller, call, moment, self.walks,
+                alloc,
+                fs,
+                view,
+                sessions,
+                opens,
+                caller,
+                call,
+                moment,
+                &self.walks,
             ),
         }
     }

@@ -28,24 +28,6 @@ pub struct PathWalks {
     pub second: PathWalk,
 }
 
-/// A walk as far as the view has the blocks for it.
-#[derive(Clone, Copy, Debug, Drop)]
-pub(crate) struct Followed {
-    pub walk: PathWalk,
-    /// The blocks that the view lacks for the next component. `None` where the last component is reached,
-    /// or where the next one is refused or met want of memory.
-    pub need: Option<Need>,
-}
-
-impl Followed {
-    /// A walk that lacks no blocks.
-    pub fn to(walk: PathWalk) -> Followed
-        ensures { result ≡ record { walk = walk; need = None } }
-    {
-        Followed { walk, need: None }
-    }
-}
-
 /// One component of a walk.
 #[derive(Clone, Copy, Debug, Drop)]
 pub(crate) enum Stepped {
@@ -173,37 +155,32 @@ fn step<F: FileSys, V: View>(
     }
 }
 
-/// Follows a path to the directory of its last component, as far as the view has the blocks. What stops it
-/// beside lacking blocks is found again when the rest is asked for in its turn.
+/// Follows a path to the directory of its last component, as far as the view has the blocks: it tells which
+/// ones it lacks for the next component. What stops it else is found again when the rest is asked for in its
+/// turn.
 pub(crate) fn follow<F: FileSys, V: View>(
     alloc: Global,
     fs: &F,
     view: &V,
     seat: &Seat,
     path: &Path,
-    walk: PathWalk,
-) -> Followed
-    requires kept { IsKept (V.shown view.now) seat.now path.now walk }
-    ensures kept { IsKept (V.shown view.now) seat.now path.now result.walk }
-    ensures lacking { IfSome result.need (LacksOnWay (V.shown view.now) seat.now path.now) }
+    walk: &mut PathWalk,
+) -> Option<Need>
+    requires kept { IsKept (V.shown view.now) seat.now path.now walk.old }
+    ensures kept { IsKept (V.shown view.now) seat.now path.now walk.new }
+    ensures lacking { IfSome result (LacksOnWay (V.shown view.now) seat.now path.now) }
 {
-    let mut further = walk;
     for _ in 0..path.as_slice().len() {
-        let Some(next) = cut(path.as_slice(), further.from) else {
-            return Followed::to(further);
+        let Some(next) = cut(path.as_slice(), walk.from) else {
+            return None;
         };
-        match step(alloc, fs, view, seat, path, further, next) {
-            Stepped::On(walk) => further = walk,
-            Stepped::Need(need) => {
-                return Followed {
-                    walk: further,
-                    need: Some(need),
-                };
-            }
-            Stepped::Stopped => return Followed::to(further),
+        match step(alloc, fs, view, seat, path, *walk, next) {
+            Stepped::On(further) => *walk = further,
+            Stepped::Need(need) => return Some(need),
+            Stepped::Stopped => return None,
         }
     }
-    Followed::to(further)
+    None
 }
 
 /// The place of a path from a directory.
@@ -241,9 +218,9 @@ pub fn find_rest<F: FileSys, V: View>(
     view: &V,
     seat: &Seat,
     path: &Path,
-    walk: PathWalk,
+    walk: &PathWalk,
 ) -> Result<Stat, Halt>
-    requires kept { IsKept (V.shown view.now) seat.now path.now walk }
+    requires kept { IsKept (V.shown view.now) seat.now path.now walk.now }
     ensures wants { Needs (lacking (V.shown view.now)) result }
     ensures says { FindsInode (V.shown view.now) seat.now path.now result }
     ensures near { NearWay (V.shown view.now) seat.now path.now result }
@@ -259,9 +236,9 @@ pub fn place_rest<F: FileSys, V: View>(
     view: &V,
     seat: &Seat,
     path: &Path,
-    walk: PathWalk,
+    walk: &PathWalk,
 ) -> Result<Placed, Halt>
-    requires kept { IsKept (V.shown view.now) seat.now path.now walk }
+    requires kept { IsKept (V.shown view.now) seat.now path.now walk.now }
     ensures wants { Needs (lacking (V.shown view.now)) result }
     ensures says { FindsPlace (V.shown view.now) seat.now path.now result }
     ensures near { NearWay (V.shown view.now) seat.now path.now result }
@@ -273,30 +250,26 @@ pub fn place_rest<F: FileSys, V: View>(
     place_at(alloc, fs, view, walk.dir, seat.cred, rest)
 }
 
-/// Finds the place of a path by the rest of its walk, and keeps it; what refuses it is found again when the
-/// place is asked for in its turn.
+/// Finds the place of a path by the rest of its walk, and keeps it, or tells which blocks the view lacks for
+/// it; what refuses it is found again when the place is asked for in its turn.
 pub(crate) fn find_place<F: FileSys, V: View>(
     alloc: Global,
     fs: &F,
     view: &V,
     seat: &Seat,
     path: &Path,
-    walk: PathWalk,
-) -> Followed
-    requires kept { IsKept (V.shown view.now) seat.now path.now walk }
-    ensures kept { IsKept (V.shown view.now) seat.now path.now result.walk }
-    ensures lacking { IfSome result.need (LacksOnWay (V.shown view.now) seat.now path.now) }
+    walk: &mut PathWalk,
+) -> Option<Need>
+    requires kept { IsKept (V.shown view.now) seat.now path.now walk.old }
+    ensures kept { IsKept (V.shown view.now) seat.now path.now walk.new }
+    ensures lacking { IfSome result (LacksOnWay (V.shown view.now) seat.now path.now) }
 {
     match place_rest(alloc, fs, view, seat, path, walk) {
-        Ok(placed) => Followed::to(PathWalk {
-            dir: walk.dir,
-            from: walk.from,
-            end: Some(placed),
-        }),
-        Err(Halt::Need(need)) => Followed {
-            walk,
-            need: Some(need),
-        },
-        Err(_) => Followed::to(walk),
+        Ok(placed) => {
+            walk.end = Some(placed);
+            None
+        }
+        Err(Halt::Need(need)) => Some(need),
+        Err(_) => None,
     }
 }

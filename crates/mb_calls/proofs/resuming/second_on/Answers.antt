@@ -9,5 +9,5 @@ pub follow-requires : goal.follow-requires
 follow-requires g c = record { kept = c.requires.kept c.in-Some.path.now c.in-Some.ensures }
 
 pub returns-in-Some : goal.returns-in-Some
-returns-in-Some g c = λ path is. subst (λ p. IsKept (g.V.View.shown c.args.view.now) c.args.seat.now p c.follow.result.walk)
+returns-in-Some g c = λ path is. subst (λ p. IsKept (g.V.View.shown c.args.view.now) c.args.seat.now p c.follow.new.walk)
     (same_path (slice_get (paths_of c.args.call.now) 1) c.in-Some.path.now path c.in-Some.ensures is) c.follow.ensures.kept

@@ -1,20 +1,18 @@
-use Rattle.std.proofs.Common.{subst, sym, ◌∙◌}
-use Rattle.std.specs.Prelude.{Err, Result}
+use Rattle.std.proofs.Common.{subst}
+use Rattle.std.specs.Prelude.{Err}
 use Rattle.mb_tree.specs.declared.lookups.Placed.{Placed}
 use Rattle.mb_calls.specs.Asks.{NearWay}
-use Rattle.mb_calls.specs.Following.{IsKept}
 use Rattle.mb_calls.specs.Halts.{Needs}
 use Rattle.mb_calls.specs.Halts.Scope.{lacking}
 use Rattle.mb_calls.specs.declared.halts.Halt.{Halt}
-use Rattle.mb_calls.specs.declared.walks.Followed.{Followed}
 use Rattle.mb_calls.proofs.walks.find_place.Goals as goal
 
 pub returns-in-Ok-clause-kept : goal.returns-in-Ok-clause-kept
-returns-in-Ok-clause-kept g c = subst (λ (followed : Followed). IsKept (g.V.View.shown c.args.view.now) c.args.seat.now c.args.path.now followed.walk) (sym c.to.ensures) (record {
+returns-in-Ok-clause-kept g c = record {
   within = c.requires.kept.within;
   followed = c.requires.kept.followed;
   place = c.in-Ok.ensures.says;
-})
+}
 
 pub returns-in-Err-Need-clause-lacking : goal.returns-in-Err-Need-clause-lacking
 returns-in-Err-Need-clause-lacking g c = record {
