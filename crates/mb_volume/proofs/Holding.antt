@@ -12,6 +12,7 @@ use Rattle.mb_run.specs.CoreSight.{sight_of}
 use Rattle.mb_kinds.specs.declared.faults.Kind.{Kind}
 use Rattle.mb_kinds.specs.declared.faults.Ticket.{Ticket}
 use Rattle.mb_run.specs.declared.runner.At.{At}
+use Rattle.mb_run.specs.declared.runner.At.TheVariants as at
 use Rattle.mb_run.specs.Served.{counted}
 use Rattle.mb_run.specs.Sights.{Limits, Sight, limits_of}
 use Rattle.mb_turn.proofs.Lists.{prefix_trans}
@@ -19,11 +20,13 @@ use Rattle.mb_turn.specs.Passes.{Continues, IsIdle, Known, known}
 use Rattle.mb_volume_core.proofs.Origins.{origin_of}
 use Rattle.mb_volume_core.specs.declared.volume_core.Origin.{Origin}
 use Rattle.mb_volume.specs.Parts.{Moves, Part, part_of, stand_in}
+use Rattle.mb_volume.specs.Passed.{Marks}
 use Rattle.mb_volume.specs.Passing.{IsLater, IsMaking, part_in, seen_by}
 use Rattle.mb_volume.specs.Underway.{Brings, Goes, HoldsTicket, IsTold, IsUnderway, Leads}
 use Rattle.mb_volume.specs.declared.attempt.Attempt.{Attempt}
 use Rattle.mb_volume.specs.declared.events.Came.{Came}
 use Rattle.mb_volume.specs.declared.events.Came.TheVariants as came
+use Rattle.mb_volume.specs.declared.events.Event.{Event}
 use Rattle.mb_volume.specs.Shared.{Shared}
 use Rattle.mb_volume.proofs.Changing.{others_stand, part_follows}
 use Rattle.mb_volume.proofs.Faulted.{underway_counted}
@@ -51,6 +54,12 @@ part_now saw now caller mine same low config entries stand = ap (part_of now) sa
 pub leads_on : (call : Call) (test : Option (Crossing → Bool)) (saw now new : Part) (before after : Attempt) (answer : Came) → now ≡ saw → IsTold new → Goes call test now new before after answer → Leads call test saw new before after answer
 leads_on call test saw now new before after answer same told goes = λ from u.
     brings call test before.crossings.caller from new after answer told (goes from (subst (λ (p : Part). IsUnderway call test from p before) (sym same) u))
+
+-- and so are the fault points that it passed
+pub held_marks : (event : Event) (saw now new : Sight) (caller mine : ℕ) (before after : Attempt) (answer : Came) → mine ≡ caller → part_of now mine ≡ part_of saw caller → Marks event (now.seats mine) (new.seats mine) before after answer
+    → Marks event (saw.seats caller) (new.seats caller) before after answer
+held_marks event saw now new caller mine before after answer same part marks =
+    subst (λ (p : Part). Marks event p.seat (new.seats caller) before after answer) part (subst (λ n. Marks event (now.seats mine) (new.seats n) before after answer) same marks)
 
 -- ---- one step after another
 
@@ -88,6 +97,10 @@ pub holds_inside : {F D : Type 0} (call : Call) (test : Option (Crossing → Boo
     → Leads call test (part_in old) (part_in new) before after answer → HoldsTicket after.at ticket
 holds_inside call test old new before after answer ticket making is leads =
     subst (λ (a : At). HoldsTicket a ticket) (sym (inside_leads call test (part_in old) (part_in new) before after answer ticket is leads making.from making.underway).1) refl
+
+pub at_inside : {F D : Type 0} (call : Call) (test : Option (Crossing → Bool)) (old new : Known (Shared F D)) (before after : Attempt) (answer : Came) (ticket : Ticket) → (making : IsMaking call test old before false) → answer ≡ came.Inside ticket
+    → Leads call test (part_in old) (part_in new) before after answer → after.at ≡ at.Inside ticket
+at_inside call test old new before after answer ticket making is leads = (inside_leads call test (part_in old) (part_in new) before after answer ticket is leads making.from making.underway).1
 
 inside_on : (call : Call) (test : Option (Crossing → Bool)) (first then : Part) (before after : Attempt) (answer : Came) (ticket : Ticket) → answer ≡ came.Inside ticket → Leads call test first then before after answer → Leads call test first then before after came.On
 inside_on call test first then before after answer ticket is leads = λ from u. (inside_leads call test first then before after answer ticket is leads from u).0

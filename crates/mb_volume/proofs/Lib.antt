@@ -13,3 +13,5 @@ pub mod Holding
 pub mod Quitting
 pub mod Calling
 pub mod Gathered
+pub mod Marking
+pub mod Hearing

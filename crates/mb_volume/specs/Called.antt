@@ -1,6 +1,7 @@
 -- What a call by a shared volume leaves of its caller's part of the core, as the caller saw it before and as it sees it then.
-use Rattle.std.specs.Prelude.{ℕ, ◌+◌, ◌≤◌, ◌≡◌, ◌++◌, ◌∷◌, List, [], length, filter, Bool, true, false, Option, None}
+use Rattle.std.specs.Prelude.{ℕ, ◌+◌, ◌≤◌, ◌≡◌, ◌++◌, ◌∷◌, List, [], length, filter, Bool, true, false, Option, None, IfSome}
 use Rattle.std.specs.List.{AllByRecursion}
+use Rattle.mb_edge.specs.Causes.{Rose}
 use Rattle.mb_edge.specs.declared.crossings.Crossing.{Crossing}
 use Rattle.mb_kinds.specs.declared.calls.Call.{Call}
 use Rattle.mb_kinds.specs.declared.entries.Entry.{Entry}
@@ -9,6 +10,7 @@ use Rattle.mb_kinds.specs.declared.faults.Kind.{Kind}
 use Rattle.mb_kinds.specs.declared.faults.Kind.TheVariants as kind
 use Rattle.mb_kinds.specs.declared.replies.Reply.{Reply}
 use Rattle.mb_kinds.specs.declared.replies.Reply.TheVariants as reply
+use Rattle.mb_run.specs.Seals.{is_plain}
 use Rattle.mb_run.specs.Served.{AreSound}
 use Rattle.mb_volume.specs.Parts.{Part}
 
@@ -65,3 +67,23 @@ pub record IsGivenUp (test : Option (Crossing → Bool)) (caller : ℕ) (old now
   pub suffers : Suffers test caller old now
   -- a call that did not begin met no fault
   pub calm : now.seat.begun ≡ old.seat.begun → now.struck ≡ old.struck
+
+-- ---- the fault injector's count beside the fault points that the call passed
+
+-- the kinds of fault points that each call passes on its way to a plain reply
+abbrev pub is_on_way : Kind → Bool
+is_on_way kind.Remount = false
+is_on_way kind.Replay = false
+is_on_way _ = true
+
+-- where the test holds of a call's first fault point of a kind, the count of faults rose
+abbrev pub TakesFirst : Option (Crossing → Bool) → ℕ → ℕ → ℕ → ℕ → Kind → Type 0
+TakesFirst test caller ordinal before now kind = IfSome test (λ fires. fires (record { caller = caller; ordinal = ordinal; kind = kind; nth = 1 }) ≡ true → Rose before now)
+
+-- so it is of each kind on its way
+abbrev pub TakesFirsts : Option (Crossing → Bool) → ℕ → ℕ → ℕ → ℕ → Type 0
+TakesFirsts test caller ordinal before now = (kind : Kind) → is_on_way kind ≡ true → TakesFirst test caller ordinal before now kind
+
+-- of the caller's next call, where it was answered with a plain reply
+abbrev pub TakesFaults : Option (Crossing → Bool) → ℕ → Part → ℕ → ℕ → Reply → Type 0
+TakesFaults test caller old before now answer = is_plain answer ≡ true → TakesFirsts test caller (old.seat.begun + 1) before now

@@ -5,3 +5,5 @@ pub mod Called
 pub mod Underway
 pub mod Passing
 pub mod Rising
+pub mod Passed
+pub mod Examples

@@ -6,7 +6,9 @@ ghost use Rattle.mb_run.specs.Rising.{RisesWith};
 ghost use Rattle.mb_run.specs.Sights.{IsOrderly, IsWaiting};
 ghost use Rattle.mb_run.specs.declared.runner.At.TheVariants as at;
 ghost use Rattle.mb_volume.specs.Parts.{Moves, part_of};
+ghost use Rattle.mb_volume.specs.Passed.{Marks};
 ghost use Rattle.mb_volume.specs.Rising.{RisesAfter, word_for};
+ghost use Rattle.mb_volume.specs.declared.events.Event.TheVariants as events;
 ghost use Rattle.mb_volume.specs.Underway.{Goes, GoesUnasked, GrowsAfter, HoldsTicket, IsMet, IsOn, MayCome, rolled};
 
 use crate::attempt::Attempt;
@@ -58,6 +60,7 @@ fn enter<C: EventCore>(alloc: Global, core: &mut C, attempt: &mut Attempt, call:
     requires outside { attempt.old.at ≡ at.Outside }
     requires right { IsOrderly (C.sight core.old) }
     ensures goes { GoesUnasked call.now (part_of (C.sight core.old) attempt.old.crossings.caller) (part_of (C.sight core.new) attempt.old.crossings.caller) attempt.old attempt.new result }
+    ensures marks { Marks events.Enter ((C.sight core.old).seats attempt.old.crossings.caller) ((C.sight core.new).seats attempt.old.crossings.caller) attempt.old attempt.new result }
     ensures same { attempt.new.crossings.caller ≡ attempt.old.crossings.caller }
     ensures moves { Moves attempt.old.crossings.caller (C.sight core.old) (C.sight core.new) }
     ensures still { (C.sight core.new).records ≡ (C.sight core.old).records }
@@ -92,6 +95,7 @@ fn gather<C: EventCore>(
     requires right { IsOrderly (C.sight core.old) }
     ensures grown { GrowsBy need attempt.old.pages attempt.new.pages }
     ensures goes { GoesUnasked call.now (part_of (C.sight core.old) attempt.old.crossings.caller) (part_of (C.sight core.new) attempt.old.crossings.caller) attempt.old attempt.new result }
+    ensures marks { Marks (events.Gather ticket.now need) ((C.sight core.old).seats attempt.old.crossings.caller) ((C.sight core.new).seats attempt.old.crossings.caller) attempt.old attempt.new result }
     ensures same { attempt.new.crossings.caller ≡ attempt.old.crossings.caller }
     ensures moves { Moves attempt.old.crossings.caller (C.sight core.old) (C.sight core.new) }
     ensures still { (C.sight core.new).records ≡ (C.sight core.old).records }
@@ -128,6 +132,7 @@ fn finish<C: EventCore>(
     requires ready { Performs attempt.old.pages ticket.now.caller call.now ticket.now.moment (performed.Ready ready) }
     requires right { IsOrderly (C.sight core.old) }
     ensures goes { GoesUnasked call.now (part_of (C.sight core.old) attempt.old.crossings.caller) (part_of (C.sight core.new) attempt.old.crossings.caller) attempt.old attempt.new result }
+    ensures marks { Marks (events.Finish ticket.now ready) ((C.sight core.old).seats attempt.old.crossings.caller) ((C.sight core.new).seats attempt.old.crossings.caller) attempt.old attempt.new result }
     ensures same { attempt.new.crossings.caller ≡ attempt.old.crossings.caller }
     ensures moves { Moves attempt.old.crossings.caller (C.sight core.old) (C.sight core.new) }
     ensures still { (C.sight core.new).records ≡ (C.sight core.old).records }
@@ -162,6 +167,7 @@ fn leave<C: EventCore>(core: &mut C, attempt: &mut Attempt, call: &Call, ticket:
     requires logged { attempt.old.at ≡ at.Logged ticket.now }
     requires right { IsOrderly (C.sight core.old) }
     ensures goes { GoesUnasked call.now (part_of (C.sight core.old) attempt.old.crossings.caller) (part_of (C.sight core.new) attempt.old.crossings.caller) attempt.old attempt.new result }
+    ensures marks { Marks (events.Leave ticket.now) ((C.sight core.old).seats attempt.old.crossings.caller) ((C.sight core.new).seats attempt.old.crossings.caller) attempt.old attempt.new result }
     ensures same { attempt.new.crossings.caller ≡ attempt.old.crossings.caller }
     ensures moves { Moves attempt.old.crossings.caller (C.sight core.old) (C.sight core.new) }
     ensures still { (C.sight core.new).records ≡ (C.sight core.old).records }
@@ -193,6 +199,7 @@ fn fault<C: EventCore, H: Hook>(
     requires met { IsMet (H.test hook.now) (H.struck hook.now) attempt.old crossing.now passed.now }
     requires right { IsOrderly (C.sight core.old) }
     ensures goes { Goes call.now (H.test hook.now) (part_of (C.sight core.old) attempt.old.crossings.caller) (part_of (C.sight core.new) attempt.old.crossings.caller) attempt.old attempt.new result }
+    ensures marks { Marks (events.Fault ticket.now crossing.now passed.now) ((C.sight core.old).seats attempt.old.crossings.caller) ((C.sight core.new).seats attempt.old.crossings.caller) attempt.old attempt.new result }
     ensures same { attempt.new.crossings.caller ≡ attempt.old.crossings.caller }
     ensures moves { Moves attempt.old.crossings.caller (C.sight core.old) (C.sight core.new) }
     ensures rises { RisesAfter word.Fault (H.faults hook.now) (H.faults hook.now) (C.sight core.old).records (C.sight core.new).records }
@@ -230,6 +237,7 @@ fn recover<C: EventCore, H: Hook>(
     requires waits { IsWaiting ((C.sight core.old).seats attempt.old.crossings.caller) }
     requires right { IsOrderly (C.sight core.old) }
     ensures goes { Goes call.now (H.test hook.old) (part_of (C.sight core.old) attempt.old.crossings.caller) (part_of (C.sight core.new) attempt.old.crossings.caller) attempt.old attempt.new result }
+    ensures marks { Marks events.Recover ((C.sight core.old).seats attempt.old.crossings.caller) ((C.sight core.new).seats attempt.old.crossings.caller) attempt.old attempt.new result }
     ensures same { attempt.new.crossings.caller ≡ attempt.old.crossings.caller }
     ensures moves { Moves attempt.old.crossings.caller (C.sight core.old) (C.sight core.new) }
     ensures rises { RisesWith (H.faults hook.old) (H.faults hook.new) (C.sight core.old).records (C.sight core.new).records }
@@ -240,8 +248,14 @@ fn recover<C: EventCore, H: Hook>(
     let _ = call;
     let mut by = Some(attempt.crossings);
     let stepped = core.recover_step(alloc, &mut by, hook);
-    attempt.keep(&by);
-    rolled(stepped)
+    match stepped {
+        // no recovery was in progress, so no fault point was passed
+        Stepped::Idle => Came::On,
+        _ => {
+            attempt.keep(&by);
+            rolled(stepped)
+        }
+    }
 }
 
 /// One event of a caller's call.
@@ -258,9 +272,11 @@ pub(crate) fn act<C: EventCore, H: Hook>(
     requires right { IsOrderly (C.sight core.old) }
     ensures grown { GrowsAfter event attempt.old.pages attempt.new.pages }
     ensures goes { Goes call.now (H.test hook.old) (part_of (C.sight core.old) attempt.old.crossings.caller) (part_of (C.sight core.new) attempt.old.crossings.caller) attempt.old attempt.new result }
+    ensures marks { Marks event ((C.sight core.old).seats attempt.old.crossings.caller) ((C.sight core.new).seats attempt.old.crossings.caller) attempt.old attempt.new result }
     ensures same { attempt.new.crossings.caller ≡ attempt.old.crossings.caller }
     ensures moves { Moves attempt.old.crossings.caller (C.sight core.old) (C.sight core.new) }
     ensures rises { RisesAfter (word_for event) (H.faults hook.old) (H.faults hook.new) (C.sight core.old).records (C.sight core.new).records }
+    ensures grows { H.faults hook.old ≤ H.faults hook.new }
     ensures test { H.test hook.new ≡ H.test hook.old }
     ensures origin { C.origin core.new ≡ C.origin core.old }
     ensures right { IsOrderly (C.sight core.new) }

@@ -7,6 +7,7 @@ ghost use Rattle.mb_run.specs.Sights.{IsWaiting};
 ghost use Rattle.mb_run.specs.declared.runner.At.TheVariants as at;
 ghost use Rattle.mb_turn.specs.Passes.{IsIdle};
 ghost use Rattle.mb_volume.specs.Attempts.{new_attempt};
+ghost use Rattle.mb_volume.specs.Passed.{Hears, HearsAt, HearsFault, Marks};
 ghost use Rattle.mb_volume.specs.Passing.{IsLater, IsMaking, part_in};
 ghost use Rattle.mb_volume.specs.Rising.{RisesAfter, word_for};
 ghost use Rattle.mb_volume.specs.Underway.{GrowsAfter, HoldsTicket, IsLeftOff, Leads, MayCome};
@@ -65,8 +66,10 @@ impl<F: FileSys, D: Disk> Volume<F, D> {
         ensures grown { GrowsAfter event attempt.old.pages attempt.new.pages }
         ensures later { IsLater self.now.table pass.old pass.new }
         ensures leads { Leads call.now (H.test hook.old) (part_in pass.old) (part_in pass.new) attempt.old attempt.new result.0 }
+        ensures marks { Marks event (part_in pass.old).seat (part_in pass.new).seat attempt.old attempt.new result.0 }
         ensures same { attempt.new.crossings.caller ≡ attempt.old.crossings.caller }
         ensures rises { RisesAfter (word_for event) (H.faults hook.old) (H.faults hook.new) (part_in pass.old).struck (part_in pass.new).struck }
+        ensures grows { H.faults hook.old ≤ H.faults hook.new }
         ensures test { H.test hook.new ≡ H.test hook.old }
     {
         let mut shared = self.turn.take(rt, pass);
@@ -96,6 +99,8 @@ impl<F: FileSys, D: Disk> Volume<F, D> {
         ensures unasked { IfNone result ((pass.new ≡ pass.old) × (attempt.new ≡ record attempt.old { crossings = counted attempt.old.crossings kind })) }
         ensures later { IsLater self.now.table pass.old pass.new }
         ensures leads { IfSome result (Leads call.now (H.test hook.old) (part_in pass.old) (part_in pass.new) attempt.old attempt.new) }
+        ensures passed { IfNone result (HearsAt (H.test hook.old) (H.faults hook.old) (H.faults hook.new) attempt.old.crossings kind) }
+        ensures struck { IfSome result (HearsFault (H.test hook.old) (H.faults hook.old) (H.faults hook.new) (part_in pass.new).seat attempt.old attempt.new kind) }
         ensures same { attempt.new.crossings.caller ≡ attempt.old.crossings.caller }
         ensures rises { RisesWith (H.faults hook.old) (H.faults hook.new) (part_in pass.old).struck (part_in pass.new).struck }
         ensures test { H.test hook.new ≡ H.test hook.old }
@@ -131,6 +136,7 @@ impl<F: FileSys, D: Disk> Volume<F, D> {
         requires outside { attempt.old.at ≡ at.Outside }
         ensures later { IsLater self.now.table pass.old pass.new }
         ensures leads { Leads call.now (H.test hook.old) (part_in pass.old) (part_in pass.new) attempt.old attempt.new result }
+        ensures hears { Hears (H.test hook.old) (H.faults hook.old) (H.faults hook.new) (part_in pass.old).seat (part_in pass.new).seat attempt.old attempt.new result }
         ensures same { attempt.new.crossings.caller ≡ attempt.old.crossings.caller }
         ensures rises { RisesWith (H.faults hook.old) (H.faults hook.new) (part_in pass.old).struck (part_in pass.new).struck }
         ensures test { H.test hook.new ≡ H.test hook.old }
@@ -167,6 +173,7 @@ impl<F: FileSys, D: Disk> Volume<F, D> {
         ensures grown { IfSome result.1 (λ code. GrowsBy need attempt.old.pages attempt.new.pages) }
         ensures later { IsLater self.now.table pass.old pass.new }
         ensures leads { Leads call.now (H.test hook.old) (part_in pass.old) (part_in pass.new) attempt.old attempt.new result.0 }
+        ensures hears { Hears (H.test hook.old) (H.faults hook.old) (H.faults hook.new) (part_in pass.old).seat (part_in pass.new).seat attempt.old attempt.new result.0 }
         ensures same { attempt.new.crossings.caller ≡ attempt.old.crossings.caller }
         ensures rises { RisesWith (H.faults hook.old) (H.faults hook.new) (part_in pass.old).struck (part_in pass.new).struck }
         ensures test { H.test hook.new ≡ H.test hook.old }
@@ -199,6 +206,7 @@ impl<F: FileSys, D: Disk> Volume<F, D> {
         requires ready { Performs attempt.old.pages ticket.now.caller call.now ticket.now.moment (performed.Ready ready) }
         ensures later { IsLater self.now.table pass.old pass.new }
         ensures leads { Leads call.now (H.test hook.old) (part_in pass.old) (part_in pass.new) attempt.old attempt.new result }
+        ensures hears { Hears (H.test hook.old) (H.faults hook.old) (H.faults hook.new) (part_in pass.old).seat (part_in pass.new).seat attempt.old attempt.new result }
         ensures same { attempt.new.crossings.caller ≡ attempt.old.crossings.caller }
         ensures rises { RisesWith (H.faults hook.old) (H.faults hook.new) (part_in pass.old).struck (part_in pass.new).struck }
         ensures test { H.test hook.new ≡ H.test hook.old }
@@ -231,6 +239,7 @@ impl<F: FileSys, D: Disk> Volume<F, D> {
         requires logged { attempt.old.at ≡ at.Logged ticket.now }
         ensures later { IsLater self.now.table pass.old pass.new }
         ensures leads { Leads call.now (H.test hook.old) (part_in pass.old) (part_in pass.new) attempt.old attempt.new result }
+        ensures hears { Hears (H.test hook.old) (H.faults hook.old) (H.faults hook.new) (part_in pass.old).seat (part_in pass.new).seat attempt.old attempt.new result }
         ensures same { attempt.new.crossings.caller ≡ attempt.old.crossings.caller }
         ensures rises { RisesWith (H.faults hook.old) (H.faults hook.new) (part_in pass.old).struck (part_in pass.new).struck }
         ensures test { H.test hook.new ≡ H.test hook.old }
@@ -267,6 +276,7 @@ impl<F: FileSys, D: Disk> Volume<F, D> {
         ensures going { IsUnderWay attempt.new.pages attempt.new.crossings.caller call.now way.new }
         ensures later { IsLater self.now.table pass.old pass.new }
         ensures leads { Leads call.now (H.test hook.old) (part_in pass.old) (part_in pass.new) attempt.old attempt.new result }
+        ensures hears { Hears (H.test hook.old) (H.faults hook.old) (H.faults hook.new) (part_in pass.old).seat (part_in pass.new).seat attempt.old attempt.new result }
         ensures same { attempt.new.crossings.caller ≡ attempt.old.crossings.caller }
         ensures rises { RisesWith (H.faults hook.old) (H.faults hook.new) (part_in pass.old).struck (part_in pass.new).struck }
         ensures test { H.test hook.new ≡ H.test hook.old }
@@ -301,6 +311,7 @@ impl<F: FileSys, D: Disk> Volume<F, D> {
         ensures going { IsUnderWay attempt.new.pages attempt.new.crossings.caller call.now way.new }
         ensures later { IsLater self.now.table pass.old pass.new }
         ensures leads { Leads call.now (H.test hook.old) (part_in pass.old) (part_in pass.new) attempt.old attempt.new result }
+        ensures hears { Hears (H.test hook.old) (H.faults hook.old) (H.faults hook.new) (part_in pass.old).seat (part_in pass.new).seat attempt.old attempt.new result }
         ensures same { attempt.new.crossings.caller ≡ attempt.old.crossings.caller }
         ensures rises { RisesWith (H.faults hook.old) (H.faults hook.new) (part_in pass.old).struck (part_in pass.new).struck }
         ensures test { H.test hook.new ≡ H.test hook.old }
@@ -348,6 +359,7 @@ impl<F: FileSys, D: Disk> Volume<F, D> {
         ensures going { IsUnderWay attempt.new.pages attempt.new.crossings.caller call.now way.new }
         ensures later { IsLater self.now.table pass.old pass.new }
         ensures leads { Leads call.now (H.test hook.old) (part_in pass.old) (part_in pass.new) attempt.old attempt.new result }
+        ensures hears { Hears (H.test hook.old) (H.faults hook.old) (H.faults hook.new) (part_in pass.old).seat (part_in pass.new).seat attempt.old attempt.new result }
         ensures same { attempt.new.crossings.caller ≡ attempt.old.crossings.caller }
         ensures rises { RisesWith (H.faults hook.old) (H.faults hook.new) (part_in pass.old).struck (part_in pass.new).struck }
         ensures test { H.test hook.new ≡ H.test hook.old }

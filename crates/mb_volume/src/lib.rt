@@ -12,10 +12,12 @@
 
 mod attempt;
 mod events;
+mod examples;
 mod holds;
 mod performing;
 mod shared;
 mod volume;
 
+pub use examples::worked_firsts;
 pub use shared::SharedCore;
 pub use volume::Volume;

@@ -1,4 +1,4 @@
-ghost use Rattle.std.specs.Prelude.{◌≡◌, Some, length, slice_get};
+ghost use Rattle.std.specs.Prelude.{◌≡◌, ◌≤◌, Some, length, slice_get};
 ghost use Rattle.mb_core_events.specs.Callings.{HasOpenCall};
 ghost use Rattle.mb_core_spec.specs.Events.{ended, with_room};
 ghost use Rattle.mb_core_spec.specs.Right.{Right};
@@ -7,6 +7,7 @@ ghost use Rattle.mb_run.specs.CoreSight.{sight_of};
 ghost use Rattle.mb_run.specs.Seals.{AreInTime};
 ghost use Rattle.mb_run.specs.Sights.{IsOrderly};
 ghost use Rattle.mb_volume.specs.Parts.{Moves, part_of, stand_in};
+ghost use Rattle.mb_volume.specs.Passed.{Marks};
 ghost use Rattle.mb_volume.specs.Rising.{RisesAfter, word_for};
 ghost use Rattle.mb_volume.specs.Shared.{origin_of};
 ghost use Rattle.mb_volume.specs.Underway.{Goes, GrowsAfter, IsOn, MayCome};
@@ -89,9 +90,11 @@ impl<F: FileSys, D: Disk> SharedCore<F, D> {
         requires may { MayCome call.now (H.test hook.old) (H.struck hook.old) ((sight_of self.old.core.core).seats attempt.old.crossings.caller) attempt.old event }
         ensures grown { GrowsAfter event attempt.old.pages attempt.new.pages }
         ensures goes { Goes call.now (H.test hook.old) (part_of (sight_of self.old.core.core) attempt.old.crossings.caller) (part_of (sight_of self.new.core.core) attempt.old.crossings.caller) attempt.old attempt.new result }
+        ensures marks { Marks event ((sight_of self.old.core.core).seats attempt.old.crossings.caller) ((sight_of self.new.core.core).seats attempt.old.crossings.caller) attempt.old attempt.new result }
         ensures same { attempt.new.crossings.caller ≡ attempt.old.crossings.caller }
         ensures moves { Moves attempt.old.crossings.caller (sight_of self.old.core.core) (sight_of self.new.core.core) }
         ensures rises { RisesAfter (word_for event) (H.faults hook.old) (H.faults hook.new) self.old.core.core.journal.records self.new.core.core.journal.records }
+        ensures grows { H.faults hook.old ≤ H.faults hook.new }
         ensures test { H.test hook.new ≡ H.test hook.old }
         ensures origin { origin_of self.new ≡ origin_of self.old }
     {

@@ -7,7 +7,7 @@ ghost use Rattle.mb_run.specs.Rising.{RisesWith};
 ghost use Rattle.mb_run.specs.Seals.{AreInTime};
 ghost use Rattle.mb_run.specs.Sights.{IsOrderly};
 ghost use Rattle.mb_turn.specs.Passes.{IsIdle, dealt};
-ghost use Rattle.mb_volume.specs.Called.{IsAnsweredWith, IsGivenUp};
+ghost use Rattle.mb_volume.specs.Called.{IsAnsweredWith, IsGivenUp, TakesFaults};
 ghost use Rattle.mb_volume.specs.Parts.{stand_in};
 ghost use Rattle.mb_volume.specs.Passing.{IsLater, IsMaking, part_in, seen_by};
 
@@ -57,7 +57,8 @@ impl<F: FileSys, D: Disk> Volume<F, D> {
 
     /// Makes one call of the pass's caller, which has none in flight and may begin one more. It may wait for other
     /// callers. The reply stands in the core's history. After `NoMemory` the call has no entry there. With each fault record
-    /// that came, the fault injector's count rose.
+    /// that came, the fault injector's count rose. Where the reply is plain and the fault injector tells its test, no fault at
+    /// the call's first fault point of a kind was passed over: where the test holds there, the count rose.
     pub fn call<H: Hook, R: Wait>(
         &self,
         rt: &R,
@@ -73,6 +74,7 @@ impl<F: FileSys, D: Disk> Volume<F, D> {
         ensures ok { IfOk result (IsAnsweredWith call.now (H.test hook.old) pass.old.caller (part_in pass.old) (part_in pass.new)) }
         ensures err { OnErr result (IsGivenUp (H.test hook.old) pass.old.caller (part_in pass.old) (part_in pass.new)) }
         ensures rises { RisesWith (H.faults hook.old) (H.faults hook.new) (part_in pass.old).struck (part_in pass.new).struck }
+        ensures taken { IfOk result (TakesFaults (H.test hook.old) pass.old.caller (part_in pass.old) (H.faults hook.old) (H.faults hook.new)) }
         ensures test { H.test hook.new ≡ H.test hook.old }
     {
         let mut attempt = self.begin(rt, alloc, pass);

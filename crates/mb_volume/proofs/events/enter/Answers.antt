@@ -1,6 +1,8 @@
+use Rattle.std.proofs.Common.{refl}
 use Rattle.mb_volume.proofs.Entered.{comes_done, comes_inside, comes_not_in, comes_shut, moves_begins, moves_done, moves_nothing}
 use Rattle.mb_volume.proofs.Standing.{may_enter}
 use Rattle.mb_volume.proofs.Rising.{done_still, nothing_still}
+use Rattle.mb_volume.proofs.Marking.{passed_done, passed_shut}
 use Rattle.mb_volume.proofs.events.enter.Goals as goal
 
 pub enter-requires-clause-may : goal.enter-requires-clause-may
@@ -41,3 +43,15 @@ returns-in-NoMemory-clause-still g c = nothing_still _ _ c.in-NoMemory.ensures.e
 
 pub returns-in-Inside-clause-still : goal.returns-in-Inside-clause-still
 returns-in-Inside-clause-still g c = c.in-Inside.ensures.enters.begins.stays.records
+
+pub returns-in-Done-clause-marks : goal.returns-in-Done-clause-marks
+returns-in-Done-clause-marks g c = record { passes = λ passed. passed_done _ _ c.args.attempt.now c.args.call.now c.in-Done.reply c.requires.outside c.in-Done.ensures.enters passed; crosses = refl }
+
+pub returns-in-Shut-clause-marks : goal.returns-in-Shut-clause-marks
+returns-in-Shut-clause-marks g c = record { passes = λ passed. passed_shut (g.C.EventCore.sight c.args.core.now) _ c.args.attempt.now _ c.requires.outside c.in-Shut.ensures.enters.1 c.in-Shut.ensures.enters.2; crosses = refl }
+
+pub returns-in-NoMemory-clause-marks : goal.returns-in-NoMemory-clause-marks
+returns-in-NoMemory-clause-marks g c = record { passes = λ passed. tt; crosses = refl }
+
+pub returns-in-Inside-clause-marks : goal.returns-in-Inside-clause-marks
+returns-in-Inside-clause-marks g c = rw c.go_in.ensures (record { passes = λ passed. (refl, refl); crosses = refl })

@@ -1,5 +1,7 @@
+use Rattle.std.proofs.Common.{refl}
 use Rattle.mb_volume.proofs.Faulted.{comes_faulted, moves_faults, struck_here, ticket_of}
 use Rattle.mb_volume.proofs.Rising.{after_fault}
+use Rattle.mb_volume.proofs.Marking.{passed_struck}
 use Rattle.mb_volume.proofs.events.fault.Goals as goal
 
 pub fault-requires-clause-ticket : goal.fault-requires-clause-ticket
@@ -16,3 +18,7 @@ returns-clause-moves g c = moves_faults _ _ _ _ _ c.requires.on.2 _ c.requires.h
 
 pub returns-clause-rises : goal.returns-clause-rises
 returns-clause-rises g c = after_fault _ _ _ c.args.ticket.now _ _ _ c.fault.ensures.faults
+
+pub returns-clause-marks : goal.returns-clause-marks
+returns-clause-marks g c =
+    rw c.back.ensures (record { passes = λ asked. passed_struck _ _ c.args.attempt.now c.args.ticket.now _ _ _ c.args.passed.now c.requires.holds c.requires.on.2.stands c.fault.ensures.faults asked; crosses = refl })

@@ -1,7 +1,9 @@
+use Rattle.std.proofs.Common.{refl}
 use Rattle.mb_core_state.specs.declared.answers.Finished.TheVariants as finished
 use Rattle.mb_volume.proofs.Entered.{comes_nothing}
 use Rattle.mb_volume.proofs.Inside.{call_at, comes_back, comes_busy, comes_sealed, comes_stale, has_ticket, lacks_inside, moves_finishes, own_ticket, ready_at}
 use Rattle.mb_volume.proofs.Rising.{finishes_still}
+use Rattle.mb_volume.proofs.Marking.{passed_back, passed_busy, passed_logged, passed_stale}
 use Rattle.mb_volume.proofs.events.finish.Goals as goal
 
 pub finish-finished-requires-clause-ticket : goal.finish-finished-requires-clause-ticket
@@ -60,3 +62,18 @@ returns-in-NoMemory-clause-still g c = finishes_still _ _ c.args.ticket.now c.ar
 
 pub returns-in-Logged-clause-still : goal.returns-in-Logged-clause-still
 returns-in-Logged-clause-still g c = finishes_still _ _ c.args.ticket.now c.args.attempt.now.pages c.args.call.now finished.Logged c.in-Logged.ensures.finishes
+
+pub returns-in-Skip-clause-marks : goal.returns-in-Skip-clause-marks
+returns-in-Skip-clause-marks g c = rw c.back.ensures (record { passes = λ asked passed. passed_back _ _ c.args.attempt.now c.in-Skip.ensures.finishes.1 (lacks_inside _ _ _ (g.C.EventCore.sight c.args.core.now) _ c.requires.on.2 _ c.requires.inside); crosses = refl })
+
+pub returns-in-Busy-clause-marks : goal.returns-in-Busy-clause-marks
+returns-in-Busy-clause-marks g c = record { passes = λ asked passed. passed_busy (g.C.EventCore.sight c.args.core.now) (g.C.EventCore.sight c.finish-finished.new.self) c.args.attempt.now _ c.requires.inside passed asked; crosses = refl }
+
+pub returns-in-Stale-clause-marks : goal.returns-in-Stale-clause-marks
+returns-in-Stale-clause-marks g c = rw c.go_in.ensures (record { passes = λ asked passed. passed_stale (g.C.EventCore.sight c.args.core.now) (g.C.EventCore.sight c.finish-finished.new.self) c.args.attempt.now _ c.requires.inside passed; crosses = refl })
+
+pub returns-in-NoMemory-clause-marks : goal.returns-in-NoMemory-clause-marks
+returns-in-NoMemory-clause-marks g c = record { passes = λ asked passed. tt; crosses = refl }
+
+pub returns-in-Logged-clause-marks : goal.returns-in-Logged-clause-marks
+returns-in-Logged-clause-marks g c = record { passes = λ asked passed. passed_logged (g.C.EventCore.sight c.args.core.now) (g.C.EventCore.sight c.finish-finished.new.self) c.args.attempt.now _ c.requires.inside passed c.requires.there asked; crosses = refl }

@@ -1,4 +1,4 @@
-use Rattle.std.proofs.Common.{ap, inl, inr, subst, sym}
+use Rattle.std.proofs.Common.{◌≡◌, true, false, refl, ap, inl, inr, subst, sym}
 use Rattle.mb_run.specs.Pages.{Grows}
 use Rattle.mb_run.proofs.UnderWay.{grows_same}
 use Rattle.mb_volume.specs.declared.attempt.Attempt.{Attempt}
@@ -6,6 +6,7 @@ use Rattle.mb_core_state.specs.declared.answers.Gathered.TheVariants as gathered
 use Rattle.mb_volume.proofs.Inside.{comes_back, comes_device, comes_gain, has_ticket, lacks_inside, moves_gathers, own_ticket}
 use Rattle.mb_volume.proofs.Entered.{comes_nothing}
 use Rattle.mb_volume.proofs.Rising.{gathers_still}
+use Rattle.mb_volume.proofs.Marking.{passed_back, passed_gained}
 use Rattle.mb_volume.proofs.events.gather.Goals as goal
 
 pub gather-requires-clause-ticket : goal.gather-requires-clause-ticket
@@ -58,3 +59,15 @@ returns-in-NoMemory-clause-grown g c = inr (λ lacks. subst (λ p. Grows c.args.
 
 pub returns-in-Done-clause-grown : goal.returns-in-Done-clause-grown
 returns-in-Done-clause-grown g c = inr c.in-Done.ensures.gathers.1.grows
+
+pub returns-in-Skip-clause-marks : goal.returns-in-Skip-clause-marks
+returns-in-Skip-clause-marks g c = rw c.back.ensures (record { passes = λ asked passed. passed_back _ _ c.args.attempt.now c.in-Skip.ensures.gathers.1 (lacks_inside _ _ _ (g.C.EventCore.sight c.args.core.now) _ c.requires.on.2 _ c.requires.inside); crosses = refl })
+
+pub returns-in-Device-clause-marks : goal.returns-in-Device-clause-marks
+returns-in-Device-clause-marks g c = rw c.back-in-Device.ensures (record { passes = λ asked passed plain. absurd (let both : false ≡ true = plain in cc); crosses = refl })
+
+pub returns-in-NoMemory-clause-marks : goal.returns-in-NoMemory-clause-marks
+returns-in-NoMemory-clause-marks g c = record { passes = λ asked passed. tt; crosses = refl }
+
+pub returns-in-Done-clause-marks : goal.returns-in-Done-clause-marks
+returns-in-Done-clause-marks g c = record { passes = λ asked passed. passed_gained (g.C.EventCore.sight c.args.core.now) (g.C.EventCore.sight c.gather.new.self) c.args.attempt.now _ c.requires.inside passed _ asked; crosses = refl }

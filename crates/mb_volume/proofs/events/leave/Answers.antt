@@ -1,7 +1,9 @@
+use Rattle.std.proofs.Common.{refl}
 use Rattle.mb_volume.proofs.Entered.{moves_nothing}
 use Rattle.mb_volume.proofs.Inside.{comes_back, comes_left, has_logged, moves_left, own_logged}
 use Rattle.mb_core_state.specs.declared.answers.Left.TheVariants as left
 use Rattle.mb_volume.proofs.Rising.{leaves_still}
+use Rattle.mb_volume.proofs.Marking.{passed_left}
 use Rattle.mb_volume.proofs.events.leave.Goals as goal
 
 pub leave-requires-clause-ticket : goal.leave-requires-clause-ticket
@@ -24,3 +26,9 @@ returns-in-Skip-clause-still g c = leaves_still _ _ c.args.ticket.now (left.Skip
 
 pub returns-in-Left-clause-still : goal.returns-in-Left-clause-still
 returns-in-Left-clause-still g c = leaves_still _ _ c.args.ticket.now (left.Left c.in-Left.reply) c.in-Left.ensures.leaves
+
+pub returns-in-Skip-clause-marks : goal.returns-in-Skip-clause-marks
+returns-in-Skip-clause-marks g c = rw c.back.ensures (record { passes = λ asked passed has. passed_left (g.C.EventCore.sight c.args.core.now) (g.C.EventCore.sight c.leave.new.self) c.args.attempt.now _ c.requires.logged passed asked; crosses = refl })
+
+pub returns-in-Left-clause-marks : goal.returns-in-Left-clause-marks
+returns-in-Left-clause-marks g c = record { passes = λ asked passed plain. passed_left (g.C.EventCore.sight c.args.core.now) (g.C.EventCore.sight c.leave.new.self) c.args.attempt.now _ c.requires.logged passed asked; crosses = refl }

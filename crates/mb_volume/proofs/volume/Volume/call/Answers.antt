@@ -1,6 +1,7 @@
 use Rattle.std.proofs.Common.{◌≡◌, true, false, refl, ap, sym, ◌∙◌, arith}
 use Rattle.mb_run.proofs.Rising.{rises_none, rises_then}
 use Rattle.mb_volume.proofs.Calling.{call_answered, call_begins, call_given_up, call_waits}
+use Rattle.mb_volume.proofs.Hearing.{heard_begins}
 use Rattle.mb_volume.proofs.Holding.{later_then}
 use Rattle.mb_volume.specs.Parts.{Part}
 use Rattle.mb_volume.specs.Passing.{part_in}
@@ -17,6 +18,8 @@ loop-init g c = record {
   caller = ap (λ (a : Attempt). a.crossings.caller) c.begin-attempt.ensures.attempt ∙ sym c.begin-attempt.ensures.later.caller;
   waits = λ wrong. absurd (let both : false ≡ true = wrong in cc);
   rises = rises_none _ _ _ _ (omega arith) (ap (λ (p : Part). p.struck) c.begin-attempt.ensures.part);
+  heard = heard_begins (g.H.Hook.test c.args.hook.now) c.args.pass.now.caller (part_in c.args.pass.now).seat.begun (g.H.Hook.faults c.args.hook.now) (part_in c.begin-attempt.new.pass).seat c.begin-attempt.result c.begin-attempt.ensures.attempt
+      (ap (λ (p : Part). p.seat.flight) c.begin-attempt.ensures.part ∙ c.requires.free);
   test = refl;
 }
 
@@ -27,6 +30,9 @@ returns-in-Answered-clause-ok g c =
 
 pub returns-in-Answered-clause-rises : goal.returns-in-Answered-clause-rises
 returns-in-Answered-clause-rises g c = rises_then _ _ _ _ _ _ c.loop.invariant.rises c.step.ensures.rises
+
+pub returns-in-Answered-clause-taken : goal.returns-in-Answered-clause-taken
+returns-in-Answered-clause-taken g c = (rw c.loop.invariant.test at c.in-Answered.ensures.hears) _ _ _ c.loop.invariant.heard
 
 pub give_up-requires-clause-waits : goal.give_up-requires-clause-waits
 give_up-requires-clause-waits g c =
@@ -54,6 +60,7 @@ loop-preserved-in-Shut g c =
       caller = c.step.ensures.same ∙ c.loop.invariant.caller ∙ sym c.step.ensures.later.caller;
       waits = λ shut. is.1;
       rises = rises_then _ _ _ _ _ _ c.loop.invariant.rises c.step.ensures.rises;
+      heard = (rw c.loop.invariant.test at c.in-Shut.ensures.hears) _ _ _ c.loop.invariant.heard;
       test = c.step.ensures.test ∙ c.loop.invariant.test;
     }
 
@@ -67,6 +74,7 @@ loop-preserved-in-Busy g c = record {
   caller = c.step.ensures.same ∙ c.loop.invariant.caller ∙ sym c.step.ensures.later.caller;
   waits = λ wrong. absurd (let both : false ≡ true = wrong in cc);
   rises = rises_then _ _ _ _ _ _ c.loop.invariant.rises c.step.ensures.rises;
+  heard = (rw c.loop.invariant.test at c.in-Busy.ensures.hears) _ _ _ c.loop.invariant.heard;
   test = c.step.ensures.test ∙ c.loop.invariant.test;
 }
 
@@ -80,6 +88,7 @@ loop-preserved-in-Inside g c = record {
   caller = c.step.ensures.same ∙ c.loop.invariant.caller ∙ sym c.step.ensures.later.caller;
   waits = λ wrong. absurd (let both : false ≡ true = wrong in cc);
   rises = rises_then _ _ _ _ _ _ c.loop.invariant.rises c.step.ensures.rises;
+  heard = (rw c.loop.invariant.test at c.in-Inside.ensures.hears) _ _ _ c.loop.invariant.heard;
   test = c.step.ensures.test ∙ c.loop.invariant.test;
 }
 
@@ -93,5 +102,6 @@ loop-preserved g c = record {
   caller = c.step.ensures.same ∙ c.loop.invariant.caller ∙ sym c.step.ensures.later.caller;
   waits = λ wrong. absurd (let both : false ≡ true = wrong in cc);
   rises = rises_then _ _ _ _ _ _ c.loop.invariant.rises c.step.ensures.rises;
+  heard = (rw c.loop.invariant.test at c.in-On.ensures.hears) _ _ _ c.loop.invariant.heard;
   test = c.step.ensures.test ∙ c.loop.invariant.test;
 }

@@ -1,8 +1,11 @@
+use Rattle.std.proofs.Common.{ap}
 use Rattle.mb_kinds.specs.declared.faults.Kind.TheVariants as kind
 use Rattle.mb_volume.specs.declared.events.Came.TheVariants as came
-use Rattle.mb_volume.proofs.Holding.{counted_on, holds_inside, inside_then, making_inside}
+use Rattle.mb_volume.proofs.Holding.{at_inside, counted_on, holds_inside, inside_then, making_inside}
 use Rattle.mb_run.proofs.Rising.{rises_then}
 use Rattle.mb_volume.proofs.Rising.{rises_unasked}
+use Rattle.mb_volume.proofs.Hearing.{hears_entered, hears_outside, hears_struck}
+use Rattle.mb_volume.specs.Passing.{part_in}
 use Rattle.mb_volume.proofs.volume.Volume.enter.Goals as goal
 
 pub hold-came-requires-clause-may : goal.hold-came-requires-clause-may
@@ -29,3 +32,19 @@ returns-in-Some-clause-rises g c = rises_then _ _ _ _ _ _ (rises_unasked _ _ _ _
 
 pub returns-in-None-clause-rises : goal.returns-in-None-clause-rises
 returns-in-None-clause-rises g c = rises_then _ _ _ _ _ _ (rises_unasked _ _ _ _ c.hold-came.ensures.rises) c.ask.ensures.rises
+
+pub returns-in-Some-clause-hears : goal.returns-in-Some-clause-hears
+returns-in-Some-clause-hears g c =
+    hears_struck (g.H.Hook.test c.args.hook.now) (part_in c.args.pass.now).seat (part_in c.hold-came.new.pass).seat (part_in c.ask.new.pass).seat c.args.attempt.now c.hold-came.new.attempt c.ask.new.attempt c.hold-came.result.0 _
+    (at_inside _ _ c.args.pass.now c.hold-came.new.pass _ _ _ _ c.requires.making c.in-Inside.is c.hold-came.ensures.leads) _ _ _ c.hold-came.ensures.grows c.hold-came.ensures.marks.crosses _ (rw c.hold-came.ensures.test at c.in-Some.ensures.struck)
+
+pub returns-in-None-clause-hears : goal.returns-in-None-clause-hears
+returns-in-None-clause-hears g c =
+    let making = making_inside _ _ c.args.pass.now c.hold-came.new.pass _ _ _ _ c.hold-came.ensures.later.caller c.hold-came.ensures.same c.requires.making c.in-Inside.is c.hold-came.ensures.leads in
+    hears_entered (g.H.Hook.test c.args.hook.now) (part_in c.args.pass.now).seat (part_in c.hold-came.new.pass).seat (part_in c.ask.new.pass).seat c.args.attempt.now c.hold-came.new.attempt c.ask.new.attempt c.hold-came.result.0 _
+    (at_inside _ _ c.args.pass.now c.hold-came.new.pass _ _ _ _ c.requires.making c.in-Inside.is c.hold-came.ensures.leads) _ _ _ c.hold-came.ensures.grows c.hold-came.ensures.marks.crosses
+    c.in-Inside.is making.underway.counts c.hold-came.ensures.marks.passes (rw c.hold-came.ensures.test at c.in-None.ensures.passed) (ap (λ p. (part_in p).seat) c.in-None.ensures.unasked.0) c.in-None.ensures.unasked.1
+
+pub returns-in_default-clause-hears : goal.returns-in_default-clause-hears
+returns-in_default-clause-hears g c =
+    hears_outside (g.H.Hook.test c.args.hook.now) (part_in c.args.pass.now).seat (part_in c.hold-came.new.pass).seat c.args.attempt.now c.hold-came.new.attempt c.hold-came.result.0 _ _ c.in_default.not-Inside c.hold-came.ensures.grows c.hold-came.ensures.marks.crosses c.hold-came.ensures.marks.passes

@@ -2,6 +2,8 @@ use Rattle.mb_kinds.specs.declared.faults.Kind.TheVariants as kind
 use Rattle.mb_volume.proofs.Holding.{counted_leads, making_counted}
 use Rattle.mb_run.proofs.Rising.{rises_then}
 use Rattle.mb_volume.proofs.Rising.{rises_unasked}
+use Rattle.mb_volume.proofs.Hearing.{asked_there, hears_asked, not_logged}
+use Rattle.mb_volume.specs.Passing.{part_in}
 use Rattle.mb_volume.proofs.volume.Volume.gather.Goals as goal
 
 pub hold-came-requires-clause-making : goal.hold-came-requires-clause-making
@@ -13,3 +15,17 @@ returns-clause-leads g c =
 
 pub returns-clause-rises : goal.returns-clause-rises
 returns-clause-rises g c = rises_then _ _ _ _ _ _ c.ask.ensures.rises (rises_unasked _ _ _ _ c.hold-came.ensures.rises)
+
+pub returns-clause-hears : goal.returns-clause-hears
+returns-clause-hears g c =
+    let mid = c.in-None.ensures.unasked.1 in
+    let there = asked_there c.args.attempt.now c.ask.new.attempt kind.Gather c.requires.making.underway.counts mid in
+    let marks = rw c.in-None.ensures.unasked.0 at c.hold-came.ensures.marks in
+    hears_asked (g.H.Hook.test c.args.hook.now) (part_in c.args.pass.now).seat (part_in c.hold-came.new.pass).seat c.args.attempt.now c.hold-came.new.attempt c.hold-came.result.0 _ _ _ kind.Gather c.ask.new.attempt c.requires.making.underway.counts mid
+    c.in-None.ensures.passed c.hold-came.ensures.grows marks.crosses (marks.passes there)
+
+pub returns-in-Some-clause-hears : goal.returns-in-Some-clause-hears
+returns-in-Some-clause-hears g c = λ caller ordinal first heard. c.in-Some.ensures.struck caller ordinal first heard.heard (not_logged c.args.attempt.now _ _ c.requires.inside)
+
+pub returns-clause-grown : goal.returns-clause-grown
+returns-clause-grown g c = rw c.in-None.ensures.unasked.1 at c.hold-came.ensures.grown

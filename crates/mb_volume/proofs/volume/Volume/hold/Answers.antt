@@ -2,7 +2,7 @@ use Rattle.std.proofs.Common.{subst, sym}
 use Rattle.mb_run.specs.CoreSight.{sight_of}
 use Rattle.mb_volume.specs.Parts.{Part}
 use Rattle.mb_volume.specs.Underway.{IsUnderway, MayCome}
-use Rattle.mb_volume.proofs.Holding.{declared_on, held_leads, later_held, others_held, taken_part}
+use Rattle.mb_volume.proofs.Holding.{declared_on, held_leads, held_marks, later_held, others_held, taken_part}
 use Rattle.mb_volume.proofs.Telling.{is_told}
 use Rattle.mb_volume.proofs.Rising.{rises_held}
 use Rattle.mb_volume.proofs.volume.Volume.hold.Goals as goal
@@ -47,3 +47,12 @@ returns-clause-rises g c =
     let same = taken_part saw c.take-shared.result.core.core saw c.args.pass.now.caller c.args.attempt.now.crossings.caller making.caller low c.take-shared.ensures.origin c.take-shared.ensures.mine c.take-shared.ensures.stand in
     rw (c.give.ensures.pass, c.take-shared.ensures.pass)
     (λ before cause. rises_held before _ (sight_of saw) (sight_of c.take-shared.result.core.core) (sight_of c.act-came.new.self.core.core) c.args.pass.now.caller c.args.attempt.now.crossings.caller making.caller same c.act-came.ensures.moves (c.act-came.ensures.rises before cause))
+
+pub returns-clause-marks : goal.returns-clause-marks
+returns-clause-marks g c =
+    let saw = c.args.pass.now.value.core.core in
+    let making = c.requires.making in
+    let low = declared_on (sight_of saw) c.args.pass.now.caller c.args.call.now _ _ c.args.attempt.now making.caller making.underway in
+    let same = taken_part saw c.take-shared.result.core.core saw c.args.pass.now.caller c.args.attempt.now.crossings.caller making.caller low c.take-shared.ensures.origin c.take-shared.ensures.mine c.take-shared.ensures.stand in
+    rw (c.give.ensures.pass, c.take-shared.ensures.pass)
+    (held_marks c.args.event (sight_of saw) (sight_of c.take-shared.result.core.core) (sight_of c.act-came.new.self.core.core) c.args.pass.now.caller c.args.attempt.now.crossings.caller c.args.attempt.now _ _ making.caller same c.act-came.ensures.marks)
