@@ -9,7 +9,11 @@ use std::sync::Wait;
 use std::test::Fail;
 use std::thread::Threads;
 
-const CALLS: u32 = 100;
+/// Of each of the eight callers.
+const CALLS: u32 = 4_000;
+
+/// A rule for every so many calls: 40 of them in a job.
+const BETWEEN_FAULTS: u32 = 800;
 
 // Runs a job of eight callers in threads: its history is the reference model's, and the image that is left is a volume.
 fn agrees<R: Threads + Wait + Sync + Abort + AllocGlobal>(
@@ -21,7 +25,7 @@ fn agrees<R: Threads + Wait + Sync + Abort + AllocGlobal>(
     let alloc: Global = rt.alloc();
     let mut text = calls_of(alloc, seed, CALLS, place)?;
     if faulty {
-        text.push_str(faults_of(alloc, 8 * CALLS, 37)?.as_str())?;
+        text.push_str(faults_of(alloc, 8 * CALLS + 1, BETWEEN_FAULTS)?.as_str())?;
     }
     let job = job_of(alloc, text.as_bytes())?;
     let left = run(rt, &job, injectors_for(alloc, &job)?)?;
