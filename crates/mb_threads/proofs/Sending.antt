@@ -13,6 +13,7 @@ use Rattle.mb_tables.proofs.tables.Tables.TheSendSync.{the_send as tables_send}
 use Rattle.mb_journal.proofs.journals.Journal.TheSendSync.{the_send as journal_send}
 use Rattle.mb_callers.proofs.blocks.Blocks.TheSendSync.{the_send as blocks_send}
 use Rattle.mb_callers.proofs.callers.Callers.TheSendSync.{the_send as callers_send}
+use Rattle.mb_callers.proofs.pages.Pages.TheSendSync.{the_send as pages_send}
 use Rattle.mb_jobs.proofs.jobs.JobCall.TheSendSync.{the_sync as call_syncs}
 use Rattle.std.specs.declared.clone.Clone.{Ghosts as CloneGhosts}
 use Rattle.mb_iface.specs.declared.systems.FileSys.{Ghosts as FileSysGhosts}
@@ -26,7 +27,7 @@ pub core_send : (F D : RattleType) (g : DiskGhosts D.Denot) → IsSend F → IsS
 core_send F D g code disk = search (sendable, crosses, fields_send) depth 60
 
 pub shared_send : (F D : RattleType) (g : DiskGhosts D.Denot) → IsSend F → IsSend D → IsSend (shared_row F D g)
-shared_send F D g code disk = search (sendable, crosses, core_send) depth 60
+shared_send F D g code disk = search (sendable, crosses, core_send, pages_send) depth 60 fits 20000
 
 pub volume_sync : (F D : RattleType) (f : FileSysGhosts F.Denot) (h : CloneGhosts F.Denot) (g : DiskGhosts D.Denot) → IsSend F → IsSend D → IsSync (volume_row F D f h g)
 volume_sync F D f h g code disk = search (sendable, crosses, turn_sync, shared_send) depth 60

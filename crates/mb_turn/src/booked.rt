@@ -16,6 +16,9 @@ pub trait Booked {
 
     ghost origin: { Self → Self.Origin };
 
+    // What its type alone says of every value.
+    ghost always: { Self → Type 0 };
+
     /// How many entries there are.
     fn entries(&self) -> u64
         ensures { result ≡ length (list self.now) };
@@ -24,4 +27,8 @@ pub trait Booked {
     fn begun(&self, caller: u8) -> u32
         requires { IsSome (stand self.now caller) }
         ensures { Begins (stand self.now caller) result };
+
+    /// It does nothing, and shows what its type says of it.
+    fn show(&self)
+        ensures { always self.now };
 }

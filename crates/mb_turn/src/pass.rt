@@ -24,7 +24,7 @@ impl<T: Booked> Model for Card<T> {
 
     ghost view = { λ card. (card.caller, card.saw.value) };
 
-    ghost invariant = { λ card. Begins (T.stand card.saw.value card.caller) card.begun };
+    ghost invariant = { λ card. Begins (T.stand card.saw.value card.caller) card.begun × T.always card.saw.value };
 }
 
 impl<T: Booked> Card<T> {
@@ -33,6 +33,7 @@ impl<T: Booked> Card<T> {
         requires { IsSome (T.stand value.now caller) }
         ensures { result ≡ (caller, value.now) }
     {
+        value.show();
         Card {
             caller,
             begun: value.begun(caller),
@@ -45,6 +46,7 @@ impl<T: Booked> Card<T> {
         requires { T.stand value.now self.old.0 ≡ T.stand self.old.1 self.old.0 }
         ensures { self.new ≡ (self.old.0, value.now) }
     {
+        value.show();
         self.saw = Snapshot::of(value);
     }
 
@@ -60,6 +62,13 @@ impl<T: Booked> Card<T> {
         ensures { Begins (T.stand self.now.1 self.now.0) result }
     {
         self.begun
+    }
+
+    /// It does nothing, and shows what the type of the value that the caller saw says of it.
+    pub fn show(&self)
+        ensures { T.always self.now.1 }
+    {
+        let _begun = self.begun;
     }
 }
 
@@ -112,5 +121,12 @@ impl<T: Booked> Pass<T> {
         ensures { Begins (stand_of T.stand self.now) result }
     {
         self.card.begun()
+    }
+
+    /// It does nothing, and shows what the type of the value that this caller saw last says of it.
+    pub fn show(&self)
+        ensures { T.always self.now.value }
+    {
+        self.card.show();
     }
 }

@@ -25,6 +25,8 @@ impl Booked for Book {
 
     ghost origin = { λ _. tt };
 
+    ghost always = { λ _. Unit {0} };
+
     fn entries(&self) -> u64 {
         self.entries.len() as u64
     }
@@ -32,6 +34,8 @@ impl Booked for Book {
     fn begun(&self, _caller: u8) -> u32 {
         self.begun
     }
+
+    fn show(&self) {}
 }
 
 // A pass, and how many entries its thread has added.

@@ -13,9 +13,18 @@ use crate::rule::{Both, Cut, Give, Law, Publish, Take};
 use crate::sight::{Key, View};
 use atomic_table::{Refused, Seat, Shared, Table};
 use std::alloc::{AllocError, Global};
+use std::hint::spin_loop;
 use std::marker::Model;
 use std::snapshot::Snapshot;
 use std::sync::Wait;
+use std::time::Duration;
+
+// How often a caller that finds the turn taken looks at it, before it sleeps: for about as long as a short hold takes.
+const LOOKS: u32 = 20;
+
+// For how many milliseconds it sleeps. A value that goes to another processor takes its memory there with it, which costs more
+// than a short hold does, so the caller that runs is let alone for some hundreds of holds.
+const NAP: u64 = 2;
 
 /// The passes of a turn.
 pub type Passes<T> = Vec<Pass<T>>;
@@ -193,7 +202,7 @@ fn cut<T: Booked>(
     Pass::new(card, one)
 }
 
-// Takes the turn as soon as it is free.
+// Takes the turn where it is free, and else looks again later.
 fn win<T: Booked, R: Wait>(
     rt: &R,
     shared: &Shared<Option<T>, View<T>, Key<T>, Law<T>>,
@@ -210,9 +219,22 @@ fn win<T: Booked, R: Wait>(
         if shared.compare_exchange::<Take<T>>(seat, 0, 0, 1) == 0 {
             return;
         }
-        shared.park(rt, 0, 1);
+        linger(rt, shared);
     }
     unreachable!()
+}
+
+// Looks at the turn for a moment, until it is free; then sleeps for a while.
+fn linger<T: Booked, R: Wait>(rt: &R, shared: &Shared<Option<T>, View<T>, Key<T>, Law<T>>)
+    requires { 0 < shared.now.table_id.words }
+{
+    for _ in 0..LOOKS {
+        if shared.peek(0) == 0 {
+            return;
+        }
+        spin_loop();
+    }
+    shared.park_timeout(rt, 0, 1, Duration::from_millis(NAP));
 }
 
 // Publishes the count of the value that lies in the seat's slot, which is the one that the card sees.
@@ -232,7 +254,7 @@ fn publish<T: Booked>(
     shared.store::<Publish>(seat, 1, count);
 }
 
-// Gives the turn up, with the value that lies in the seat's slot, and wakes one caller that waits.
+// Gives the turn up, with the value that lies in the seat's slot. Who waits for it looks for itself.
 fn give_up<T: Booked>(
     shared: &Shared<Option<T>, View<T>, Key<T>, Law<T>>,
     seat: &mut Seat<Option<T>, View<T>>,
@@ -245,7 +267,6 @@ fn give_up<T: Booked>(
 {
     let _ = card;
     shared.store::<Give>(seat, 0, 0);
-    shared.wake_one(0);
 }
 
 // One seat with the sights of all passes.

@@ -15,3 +15,4 @@ pub mod Calling
 pub mod Gathered
 pub mod Marking
 pub mod Hearing
+pub mod Emptied

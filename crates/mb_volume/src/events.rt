@@ -259,6 +259,7 @@ fn recover<C: EventCore, H: Hook>(
 }
 
 /// One event of a caller's call.
+#[inline(always)]
 pub(crate) fn act<C: EventCore, H: Hook>(
     alloc: Global,
     core: &mut C,

@@ -27,29 +27,19 @@ use std::alloc::Global;
 use std::sync::Wait;
 
 impl<F: FileSys, D: Disk> Volume<F, D> {
-    /// What the caller keeps of its next call, whose number it reads in a hold of its own: a core bounds how many there are.
-    pub(crate) fn begin<R: Wait>(
-        &self,
-        rt: &R,
-        alloc: Global,
-        pass: &mut Pass<SharedCore<F, D>>,
-    ) -> Attempt
-        requires idle { IsIdle self.now.table pass.old }
-        requires most { (part_in pass.old).seat.begun < (part_in pass.old).config.most }
-        ensures later { IsLater self.now.table pass.old pass.new }
-        ensures part { part_in pass.new ≡ part_in pass.old }
-        ensures declared { pass.old.caller < (part_in pass.old).config.callers }
-        ensures attempt { result ≡ new_attempt pass.old.caller (part_in pass.old).seat.begun }
+    /// What the caller keeps of its next call. Its number needs no hold of the turn: nobody else begins a call of this caller.
+    pub(crate) fn begin(&self, alloc: Global, pass: &Pass<SharedCore<F, D>>) -> Attempt
+        requires most { (part_in pass.now).seat.begun < (part_in pass.now).config.most }
+        ensures declared { pass.now.caller < (part_in pass.now).config.callers }
+        ensures attempt { result ≡ new_attempt pass.now.caller (part_in pass.now).seat.begun }
     {
-        let begun = pass.begun();
-        let shared = self.turn.take(rt, pass);
-        shared.in_order();
-        let attempt = Attempt::new(alloc, pass.caller(), begun);
-        self.turn.give(pass, shared);
-        attempt
+        pass.show();
+        Attempt::new(alloc, pass.caller(), pass.begun())
     }
 
     /// One event of the caller's call, in one hold of the turn. It also gives the file system's code as it is then.
+    /// It stands in each of its callers, which know the event, so that no event is copied.
+    #[inline(always)]
     fn hold<H: Hook, R: Wait>(
         &self,
         rt: &R,

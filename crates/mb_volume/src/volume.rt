@@ -49,7 +49,8 @@ impl<F: FileSys, D: Disk> Volume<F, D> {
         ensures core { IfErr result (λ back. back ≡ core) }
     {
         let callers = core.config().callers.as_slice().len() as u8;
-        match Turn::start(alloc, SharedCore::new(core), callers) {
+        let shared = SharedCore::new(alloc, core)?;
+        match Turn::start(alloc, shared, callers) {
             Ok((turn, passes)) => Ok((Volume { turn }, passes)),
             Err(shared) => Err(shared.into_core()),
         }
@@ -77,7 +78,7 @@ impl<F: FileSys, D: Disk> Volume<F, D> {
         ensures taken { IfOk result (TakesFaults (H.test hook.old) pass.old.caller (part_in pass.old) (H.faults hook.old) (H.faults hook.new)) }
         ensures test { H.test hook.new ≡ H.test hook.old }
     {
-        let mut attempt = self.begin(rt, alloc, pass);
+        let mut attempt = self.begin(alloc, pass);
         let mut code = None;
         let mut way = None;
         let mut shut = false;

@@ -2,8 +2,7 @@ use Rattle.std.proofs.Common.{◌≡◌, true, false, refl, ap, sym, ◌∙◌, 
 use Rattle.mb_run.proofs.Rising.{rises_none, rises_then}
 use Rattle.mb_volume.proofs.Calling.{call_answered, call_begins, call_given_up, call_waits}
 use Rattle.mb_volume.proofs.Hearing.{heard_begins}
-use Rattle.mb_volume.proofs.Holding.{later_then}
-use Rattle.mb_volume.specs.Parts.{Part}
+use Rattle.mb_volume.proofs.Holding.{later_same, later_then}
 use Rattle.mb_volume.specs.Passing.{part_in}
 use Rattle.mb_volume.specs.declared.attempt.Attempt.{Attempt}
 use Rattle.mb_volume.proofs.volume.Volume.call.Goals as goal
@@ -13,13 +12,12 @@ loop-init g c = record {
   can_next = tt;
   is_finite = tt;
   going = tt;
-  later = c.begin-attempt.ensures.later;
-  underway = call_begins c.args.call.now (g.H.Hook.test c.args.hook.now) c.args.pass.now c.begin-attempt.new.pass c.begin-attempt.result c.begin-attempt.ensures.part c.begin-attempt.ensures.declared c.requires.most c.requires.free c.begin-attempt.ensures.attempt;
-  caller = ap (λ (a : Attempt). a.crossings.caller) c.begin-attempt.ensures.attempt ∙ sym c.begin-attempt.ensures.later.caller;
+  later = later_same _ c.args.pass.now c.requires.idle;
+  underway = call_begins c.args.call.now (g.H.Hook.test c.args.hook.now) c.args.pass.now c.args.pass.now c.begin-attempt.result refl c.begin-attempt.ensures.declared c.requires.most c.requires.free c.begin-attempt.ensures.attempt;
+  caller = ap (λ (a : Attempt). a.crossings.caller) c.begin-attempt.ensures.attempt;
   waits = λ wrong. absurd (let both : false ≡ true = wrong in cc);
-  rises = rises_none _ _ _ _ (omega arith) (ap (λ (p : Part). p.struck) c.begin-attempt.ensures.part);
-  heard = heard_begins (g.H.Hook.test c.args.hook.now) c.args.pass.now.caller (part_in c.args.pass.now).seat.begun (g.H.Hook.faults c.args.hook.now) (part_in c.begin-attempt.new.pass).seat c.begin-attempt.result c.begin-attempt.ensures.attempt
-      (ap (λ (p : Part). p.seat.flight) c.begin-attempt.ensures.part ∙ c.requires.free);
+  rises = rises_none _ _ _ _ (omega arith) refl;
+  heard = heard_begins (g.H.Hook.test c.args.hook.now) c.args.pass.now.caller (part_in c.args.pass.now).seat.begun (g.H.Hook.faults c.args.hook.now) (part_in c.args.pass.now).seat c.begin-attempt.result c.begin-attempt.ensures.attempt c.requires.free;
   test = refl;
 }
 
