@@ -13,7 +13,8 @@ use Rattle.mb_run.specs.Firsts.{HasFirst}
 use Rattle.mb_run.specs.Letters.{AreLetters, HasBegunBy, letters_of}
 use Rattle.mb_run.specs.Runs.{FirstsRise, HasTakenTested}
 use Rattle.mb_run.specs.Served.{AreCounts, IsAfter, IsBalanced, IsRunInOrder, IsServed, Underway, calls_of, moments_in}
-use Rattle.mb_run.specs.Sights.{IsOrderly, Limits, Seat, Sight}
+use Rattle.mb_run.specs.Orders.{asked_by, asked_in}
+use Rattle.mb_run.specs.Sights.{IsOrderly, Limits, Seat, Sight, undue_in}
 use Rattle.mb_run.specs.declared.runner.Runner.{Runner}
 use Rattle.mb_run.proofs.Completing.{calls_few, each_moment}
 use Rattle.mb_run.proofs.Entered.{no_counts}
@@ -84,8 +85,8 @@ declared : (job : Job) (old new : Sight) → IsBegun job old → new.config ≡ 
 declared job old new begun config = ap (λ (l : Limits). l.callers) config ∙ begun.callers
 
 pub listed : (job : Job) (test : Option (Crossing → Bool)) (old new : Sight) (callers : ℕ) → IsBegun job old → job.order ≡ None → callers ≡ length job.callers → IsRunInOrder job.calls callers test new → new.config ≡ old.config → IsOrderly new
-    → (old.stage ≡ stage.Running → HasTakenTested test new.history new.records) → IsDriven job test old new
-listed job test old new callers begun none same ran config right taken =
+    → (old.stage ≡ stage.Running → HasTakenTested test new.history new.records) → undue_in new ≤ undue_in old → IsDriven job test old new
+listed job test old new callers begun none same ran config right taken seals =
     let start : new.config.start ≡ job.start = ap (λ (l : Limits). l.start) config ∙ begun.start in
     record {
       config = config;
@@ -97,11 +98,12 @@ listed job test old new callers begun none same ran config right taken =
       firsts = subst (λ order. RisesByOrder order job.callers new.history) (sym none) tt;
       sound = ran.sound;
       taken = λ runs. subst (λ order. TakesByOrder order test new) (sym none) (taken runs);
+      seals = subst (λ order. undue_in new ≤ undue_in old + asked_by order) (sym none) (omega (arith, seals));
     }
 
 pub ordered : (job : Job) (test : Option (Crossing → Bool)) (old new : Sight) (callers : ℕ) (order : List ℕ) → IsBegun job old → job.order ≡ Some order → callers ≡ length job.callers → IsComplete job.calls callers test new → new.config ≡ old.config → IsOrderly new
-    → (AreLetters (letters_of job.callers) → FirstsRise order (letters_of job.callers) new.history) → IsDriven job test old new
-ordered job test old new callers order begun some same done config right rises =
+    → (AreLetters (letters_of job.callers) → FirstsRise order (letters_of job.callers) new.history) → undue_in new ≤ undue_in old + asked_in order → IsDriven job test old new
+ordered job test old new callers order begun some same done config right rises seals =
     let start : new.config.start ≡ job.start = ap (λ (l : Limits). l.start) config ∙ begun.start in
     record {
       config = config;
@@ -113,6 +115,7 @@ ordered job test old new callers order begun some same done config right rises =
       firsts = subst (λ given. RisesByOrder given job.callers new.history) (sym some) rises;
       sound = done.sound;
       taken = λ runs. subst (λ given. TakesByOrder given test new) (sym some) tt;
+      seals = subst (λ given. undue_in new ≤ undue_in old + asked_by given) (sym some) seals;
     }
 
 -- ---- the callers of a job

@@ -1,5 +1,5 @@
 -- What a call that finishes was performed over, a checkpoint after it was logged, and a call that is given up.
-use Rattle.std.proofs.Common.{◌≡◌, List, ℕ, ◌<◌, Bool, true, false, if◌then◌else◌, is_some, refl, ap, sym, subst, ◌∙◌, arith, Option, None, Some, option_map}
+use Rattle.std.proofs.Common.{◌≡◌, List, ℕ, ◌<◌, ◌≤◌, Bool, true, false, if◌then◌else◌, is_some, refl, ap, sym, subst, ◌∙◌, arith, Option, None, Some, option_map}
 use Rattle.std.proofs.lemmas.Option.{same_Some}
 use Rattle.mb_edge.specs.declared.crossings.Crossing.{Crossing}
 use Rattle.mb_calls.specs.declared.performing.Performed.TheVariants as performed
@@ -15,7 +15,7 @@ use Rattle.mb_kinds.specs.declared.faults.Ticket.{Ticket}
 use Rattle.mb_run.specs.Events.{IsCallOf, IsReadyAt, SealsIf, sealed}
 use Rattle.mb_run.specs.Pages.{HasTablesFor, Performs, has}
 use Rattle.mb_run.specs.Served.{Acts, Asks, Did, IsAtBy, IsHeld, IsServed, IsStanding, MayStep, calls_in, calls_of}
-use Rattle.mb_run.specs.Sights.{HasTicket, Sight}
+use Rattle.mb_run.specs.Sights.{HasTicket, Sight, undue_in}
 use Rattle.mb_run.specs.declared.progress.Went.TheVariants as went
 use Rattle.mb_run.specs.declared.runner.At.{At}
 use Rattle.mb_run.specs.declared.runner.At.TheVariants as at
@@ -110,8 +110,8 @@ served_sealed list mid new caller runner served = record {
   counted = served.counted;
 }
 
-did_sealed : (calls : List JobCall) (test : Option (Crossing → Bool)) (old mid new : Sight) (before now : Runner) → Did calls test old mid before now went.On → Did calls test old (sealed mid new) before now went.On
-did_sealed calls test old mid new before now did = record {
+did_sealed : (calls : List JobCall) (test : Option (Crossing → Bool)) (old mid new : Sight) (before now : Runner) → Did calls test old mid before now went.On → undue_in (sealed mid new) ≤ undue_in old → Did calls test old (sealed mid new) before now went.On
+did_sealed calls test old mid new before now did seals = record {
   nears = record {
     same = did.nears.same;
     counts = did.nears.counts;
@@ -120,11 +120,13 @@ did_sealed calls test old mid new before now did = record {
     balanced = did.nears.balanced;
     served = served_sealed (calls_of calls before.crossings.caller) mid new before.crossings.caller now did.nears.served;
     sound = did.nears.sound;
+    seals = seals;
   };
   goes = did.goes;
 }
 
 -- a checkpoint, where one is due, changes nothing of what a step said
-pub did_seals : (calls : List JobCall) (test : Option (Crossing → Bool)) (old mid new : Sight) (before now : Runner) (due : Bool) → Did calls test old mid before now went.On → SealsIf due mid new → Did calls test old new before now went.On
-did_seals calls test old mid new before now true did seals = subst (λ (s : Sight). Did calls test old s before now went.On) (sym seals) (did_sealed calls test old mid new before now did)
-did_seals calls test old mid new before now false did seals = subst (λ (s : Sight). Did calls test old s before now went.On) (sym seals) did
+pub did_seals : (calls : List JobCall) (test : Option (Crossing → Bool)) (old mid new : Sight) (before now : Runner) (due : Bool) → Did calls test old mid before now went.On → SealsIf due mid new → undue_in new ≤ undue_in old → Did calls test old new before now went.On
+did_seals calls test old mid new before now true did seals low =
+    subst (λ (s : Sight). Did calls test old s before now went.On) (sym seals) (did_sealed calls test old mid new before now did (let same = ap undue_in seals in omega (arith, same, low)))
+did_seals calls test old mid new before now false did seals low = subst (λ (s : Sight). Did calls test old s before now went.On) (sym seals) did

@@ -11,7 +11,7 @@ use Rattle.mb_run.specs.declared.runner.Runner.{Runner}
 use Rattle.mb_run.proofs.Acting.{acts_same, acts_then}
 
 pub nears_same : (calls : List JobCall) (test : Option (Crossing → Bool)) (old : Sight) (runner : Runner) (call : Call) → MayStep calls test old runner call → Nears calls test old old runner runner
-nears_same calls test old runner call may = record { same = refl; counts = may.counts; acts = acts_same runner.crossings.caller old; lined = λ line. line; balanced = λ even. even; served = may.served; sound = may.sound }
+nears_same calls test old runner call may = record { same = refl; counts = may.counts; acts = acts_same runner.crossings.caller old; lined = λ line. line; balanced = λ even. even; served = may.served; sound = may.sound; seals = omega arith }
 
 pub nears_then : (calls : List JobCall) (test : Option (Crossing → Bool)) (a b d : Sight) (r s t : Runner) → Nears calls test a b r s → Nears calls test b d s t → Nears calls test a d r t
 nears_then calls test a b d r s t one two = record {
@@ -22,6 +22,7 @@ nears_then calls test a b d r s t one two = record {
   balanced = λ even. two.balanced (one.balanced even);
   served = subst (λ n. IsServed (calls_of calls n) d n t) one.same two.served;
   sound = two.sound;
+  seals = omega (arith, one.seals, two.seals);
 }
 
 pub nears_may : (calls : List JobCall) (test : Option (Crossing → Bool)) (old new : Sight) (before now : Runner) (call : Call) → MayStep calls test old before call → Nears calls test old new before now → now.done ≡ before.done → IsOrderly new

@@ -35,6 +35,7 @@ use Rattle.mb_run.proofs.Places.{at_logs}
 use Rattle.mb_run.proofs.Entered.{did_answer, did_leave}
 use Rattle.mb_run.proofs.Openings.{line_open}
 use Rattle.mb_run.proofs.Struck.{IsIn, Stands, did_asked, did_back, may_counted}
+use Rattle.mb_run.proofs.Undue.{logs_undue, still_undue}
 
 -- ---- the hook let the call go on
 
@@ -56,7 +57,7 @@ pub asked_did : (calls : List JobCall) (test : Option (Crossing → Bool)) (old 
 asked_did calls test old mid new before m now ticket kind came asks did =
     let moved = subst (λ (r : Runner). Did calls test old new r now came) asks.1 (subst (λ (s : Sight). Did calls test s new m now came) asks.0 did) in
     record {
-      nears = record { same = moved.nears.same; counts = moved.nears.counts; acts = moved.nears.acts; lined = moved.nears.lined; balanced = moved.nears.balanced; served = moved.nears.served; sound = moved.nears.sound };
+      nears = record { same = moved.nears.same; counts = moved.nears.counts; acts = moved.nears.acts; lined = moved.nears.lined; balanced = moved.nears.balanced; served = moved.nears.served; sound = moved.nears.sound; seals = moved.nears.seals };
       goes = goes_on old new before now kind came moved.goes;
     }
 
@@ -100,7 +101,7 @@ module _ (calls : List JobCall) (test : Option (Crossing → Bool)) (old : Sight
     -- nothing changed, for want of memory
     pub did_nothing : Did calls test old old runner runner went.NoMemory
     did_nothing = record {
-      nears = record { same = refl; counts = may.counts; acts = acts_same runner.crossings.caller old; lined = λ line. line; balanced = λ even. even; served = may.served; sound = may.sound };
+      nears = record { same = refl; counts = may.counts; acts = acts_same runner.crossings.caller old; lined = λ line. line; balanced = λ even. even; served = may.served; sound = may.sound; seals = omega arith };
       goes = (refl, marked_here runner.answered (old.seats runner.crossings.caller).flight stood.0.flight stood.0.here stood.0.answered may.served.marked);
     }
 
@@ -140,6 +141,7 @@ module _ (calls : List JobCall) (test : Option (Crossing → Bool)) (old : Sight
               counted = rw gains.stays.records may.served.counted;
             };
             sound = rw gains.stays.records may.sound;
+            seals = still_undue old new gains.stays.config gains.log gains.counts.history;
           };
           goes = (refl, omega (arith, same.0, same.1, same.2, floor, is, rank_was present, fewer));
         }
@@ -162,6 +164,7 @@ module _ (calls : List JobCall) (test : Option (Crossing → Bool)) (old : Sight
         balanced = λ even. even;
         served = record { caller_is = refl; ordinal = may.served.ordinal; calls = may.served.calls; marked = may.served.marked; stands = may.served.stands; counted = may.served.counted };
         sound = may.sound;
+        seals = omega arith;
       };
       goes = (refl, omega arith, refl, finishes.1, (λ same. finishes.2 (same ∙ sym own_ticket)), stood.1.runs finishes.0);
     })
@@ -202,6 +205,7 @@ module _ (calls : List JobCall) (test : Option (Crossing → Bool)) (old : Sight
               counted = rw stale.stays.records may.served.counted;
             };
             sound = rw stale.stays.records may.sound;
+            seals = still_undue old new stale.stays.config stale.log stale.counts.history;
           };
           goes = (refl, omega (arith, same.0, same.1, same.2, free, is, rank_was present, few, missing_most (has no_pages) 262144));
         }
@@ -245,6 +249,7 @@ module _ (calls : List JobCall) (test : Option (Crossing → Bool)) (old : Sight
               counted = rw logs.stays.records may.served.counted;
             };
             sound = rw logs.stays.records may.sound;
+            seals = logs_undue runner.crossings.caller old new ticket logs;
           };
           goes = (refl, omega (arith, same.0, same.1, same.2, free, is, rank_was present));
         }
@@ -286,7 +291,7 @@ pub in_on : (calls : List JobCall) (test : Option (Crossing → Bool)) (old mid 
 in_on calls test old mid before m call ticket kind may asks =
     let counted_may = may_counted calls test old before call may kind in
     subst (λ (s : Sight). GoesIn calls test old s before m went.On) (sym asks.0) (subst (λ (r : Runner). GoesIn calls test old old before r went.On) (sym asks.1) (record {
-      nears = record { same = refl; counts = counted_may.counts; acts = acts_same before.crossings.caller old; lined = λ line. line; balanced = λ even. even; served = counted_may.served; sound = may.sound };
+      nears = record { same = refl; counts = counted_may.counts; acts = acts_same before.crossings.caller old; lined = λ line. line; balanced = λ even. even; served = counted_may.served; sound = may.sound; seals = omega arith };
       done = refl;
       goes = inl refl;
       less = omega arith;

@@ -7,6 +7,8 @@ pub mod TallyRolls
 pub mod Firsts
 pub mod Acting
 pub mod InTime
+pub mod Sealings
+pub mod Undue
 pub mod Places
 pub mod Missing
 pub mod Balance
@@ -22,6 +24,7 @@ pub mod GivingUp
 pub mod Lines
 pub mod Openings
 pub mod Moving
+pub mod Asked
 pub mod RunningOut
 pub mod Quiet
 pub mod Waiting

@@ -72,25 +72,27 @@ grows_put runners caller d now low more other = elim (same_or_not other caller) 
 ]
 
 pub moved_whole : (calls : List JobCall) (test : Option (Crossing → Bool)) (old new : Sight) (runners : List Runner) (caller : ℕ) (d now : Runner) → Underway calls test old runners → caller < length runners
-    → Moves calls test old new (get_or runners caller d) now → IsOrderly new → IsWhole calls test old new runners (slice_set runners caller now)
+    → Moves calls test old new (get_or runners caller d) now → IsOrderly new → IsWhole calls test 0 old new runners (slice_set runners caller now)
 moved_whole calls test old new runners caller d now underway low moves right = record {
   underway = put_underway calls test old new runners caller d now underway low moves.nears right;
   grows = grows_put runners caller d now low (elim moves.done [ inl same ↦ (omega (arith, same)) | inr more ↦ (omega (arith, more)) ]);
   balanced = moves.nears.balanced;
   config = moves.nears.acts.config;
   firsts = moves.nears.acts.firsts;
+  seals = (let low = moves.nears.seals in omega (arith, low));
 }
 
-pub whole_same : (calls : List JobCall) (test : Option (Crossing → Bool)) (sight : Sight) (runners : List Runner) → Underway calls test sight runners → IsWhole calls test sight sight runners runners
-whole_same calls test sight runners underway = record { underway = underway; grows = grows_same runners; balanced = λ even. even; config = refl; firsts = firsts_same sight }
+pub whole_same : (calls : List JobCall) (test : Option (Crossing → Bool)) (sight : Sight) (runners : List Runner) → Underway calls test sight runners → IsWhole calls test 0 sight sight runners runners
+whole_same calls test sight runners underway = record { underway = underway; grows = grows_same runners; balanced = λ even. even; config = refl; firsts = firsts_same sight; seals = omega arith }
 
-pub whole_then : (calls : List JobCall) (test : Option (Crossing → Bool)) (a b d : Sight) (r s t : List Runner) → IsWhole calls test a b r s → IsWhole calls test b d s t → IsWhole calls test a d r t
-whole_then calls test a b d r s t one two = record {
+pub whole_then : (calls : List JobCall) (test : Option (Crossing → Bool)) (m n : ℕ) (a b d : Sight) (r s t : List Runner) → IsWhole calls test m a b r s → IsWhole calls test n b d s t → IsWhole calls test (m + n) a d r t
+whole_then calls test m n a b d r s t one two = record {
   underway = two.underway;
   grows = grows_then r s t one.grows two.grows;
   balanced = λ even. two.balanced (one.balanced even);
   config = two.config ∙ one.config;
   firsts = firsts_then a b d one.config one.firsts two.firsts;
+  seals = omega (arith, one.seals, two.seals);
 }
 
 no_yes : false ≡ true → ⊥

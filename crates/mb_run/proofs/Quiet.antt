@@ -1,5 +1,5 @@
 -- What leaves all calls as they are.
-use Rattle.std.proofs.Common.{◌≡◌, List, [], ℕ, ◌<◌, Bool, true, inl, inr, refl, ap, sym, subst, ◌∙◌, arith, Option, None, Some, length}
+use Rattle.std.proofs.Common.{◌≡◌, List, [], ℕ, ◌+◌, ◌<◌, ◌≤◌, Bool, true, inl, inr, refl, ap, sym, subst, ◌∙◌, arith, Option, None, Some, length}
 use Rattle.std.proofs.lemmas.List.{append-nil}
 use Rattle.std.proofs.lemmas.Option.{slice_get_within}
 use Rattle.mb_cache.specs.declared.answers.Flushed.{Flushed}
@@ -12,7 +12,7 @@ use Rattle.mb_run.specs.Events.{FlushesWith, sealed}
 use Rattle.mb_run.specs.Orders.{IsQuiet, IsWhole}
 use Rattle.mb_run.specs.Recovering.{GoOn, Steps, Waits}
 use Rattle.mb_run.specs.Served.{Acts, Underway, calls_of}
-use Rattle.mb_run.specs.Sights.{IsOrderly, Limits, Sight, recovers}
+use Rattle.mb_run.specs.Sights.{IsOrderly, Limits, Sight, recovers, undue_in}
 use Rattle.mb_run.specs.declared.answers.Stepped.{Stepped}
 use Rattle.mb_run.specs.declared.answers.Stepped.TheVariants as stepped
 use Rattle.mb_run.specs.declared.runner.Runner.{Runner}
@@ -41,8 +41,8 @@ quiet_acts caller old new quiet = record {
   firsts = firsts_still old new quiet.counts.history quiet.counts.begun quiet.seats;
 }
 
-pub quiet_whole : (calls : List JobCall) (test : Option (Crossing → Bool)) (old new : Sight) (runners : List Runner) → Underway calls test old runners → IsQuiet old new → IsOrderly new → IsWhole calls test old new runners runners
-quiet_whole calls test old new runners underway quiet right = record {
+pub quiet_whole : (calls : List JobCall) (test : Option (Crossing → Bool)) (asked : ℕ) (old new : Sight) (runners : List Runner) → Underway calls test old runners → IsQuiet old new → undue_in new ≤ undue_in old + asked → IsOrderly new → IsWhole calls test asked old new runners runners
+quiet_whole calls test asked old new runners underway quiet seals right = record {
   underway = record {
     served = λ caller runner here. other_served (calls_of calls caller) (length runners) caller old new runner
         (λ same. (let low : caller < length runners = slice_get_within runners caller runner here in omega (arith, low, same)))
@@ -58,6 +58,7 @@ quiet_whole calls test old new runners underway quiet right = record {
   balanced = balanced_same old new quiet.counts;
   config = quiet.config;
   firsts = firsts_still old new quiet.counts.history quiet.counts.begun quiet.seats;
+  seals = seals;
 }
 
 pub quiet_same : (old new : Sight) → new ≡ old → IsQuiet old new

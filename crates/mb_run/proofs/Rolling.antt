@@ -32,6 +32,7 @@ use Rattle.mb_run.proofs.Lines.{line_same}
 use Rattle.mb_run.proofs.Firsts.{firsts_still}
 use Rattle.mb_run.proofs.Lists.{all_map, all_both}
 use Rattle.mb_run.proofs.Struck.{one_most, rank_old}
+use Rattle.mb_run.proofs.Undue.{waits_undue}
 
 pub not_running : (s : Sight) → recovers s.stage ≡ true → s.stage ≡ stage.Running → ⊥
 not_running s recovered runs = let stopped : recovers s.stage ≡ false = ap recovers runs in let both : true ≡ false = sym recovered ∙ stopped in cc
@@ -106,6 +107,7 @@ module _ (calls : List JobCall) (test : Option (Crossing → Bool)) (old : Sight
     balanced = balanced_same old new rolls.waits.counts;
     served = waited new crossings on rolls.waits (rw rolls.records (counted_on runner.crossings crossings old.records on may.served.counted));
     sound = rw rolls.records may.sound;
+    seals = waits_undue old new rolls.waits;
   }
 
   -- the hook's fault in a recovery
@@ -119,6 +121,7 @@ module _ (calls : List JobCall) (test : Option (Crossing → Bool)) (old : Sight
     served = waited new crossings on strikes.waits (subst (AllByRecursion (IsCounted crossings)) (sym strikes.records)
         (counted_push test runner.crossings crossings old.records strikes.fault on strikes.taken may.served.counted));
     sound = subst (AreSound test) (sym strikes.records) (sound_push test runner.crossings crossings old.records strikes.fault strikes.taken may.served.counted may.sound);
+    seals = waits_undue old new strikes.waits;
   }
 
   ranks : (new : Sight) → Waits old new → rank new.incarnation (new.stales runner.crossings.caller) runner.pages runner.at ≡ rank old.incarnation (old.stales runner.crossings.caller) runner.pages runner.at
@@ -189,6 +192,7 @@ module _ (calls : List JobCall) (test : Option (Crossing → Bool)) (old : Sight
           balanced = balanced_same old new waits.counts;
           served = waited new crossings on waits (rw records (counted_on runner.crossings crossings old.records on may.served.counted));
           sound = rw records may.sound;
+          seals = waits_undue old new waits;
         };
         goes = (refl, refl, (omega (arith, same, limits new waits, now, was, busy_less new waits, ranks new waits)));
       }
@@ -291,7 +295,7 @@ module _ (calls : List JobCall) (test : Option (Crossing → Bool)) (old : Sight
 
   pub rolled_nothing : (new : Sight) → new ≡ old → Rolled calls test old new runner runner went.NoMemory
   rolled_nothing new same = subst (λ (s : Sight). Rolled calls test old s runner runner went.NoMemory) (sym same) (record {
-    nears = record { same = refl; counts = may.counts; acts = acts_same runner.crossings.caller old; lined = λ line. line; balanced = λ even. even; served = may.served; sound = may.sound };
+    nears = record { same = refl; counts = may.counts; acts = acts_same runner.crossings.caller old; lined = λ line. line; balanced = λ even. even; served = may.served; sound = may.sound; seals = omega arith };
     goes = (refl, marked_here runner.answered (old.seats runner.crossings.caller).flight waiting.0 waiting.1 waiting.2 may.served.marked);
   })
 

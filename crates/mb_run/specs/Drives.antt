@@ -9,9 +9,10 @@ use Rattle.mb_jobs.specs.declared.jobs.Job.{Job}
 use Rattle.mb_jobs.specs.declared.jobs.JobCall.{JobCall}
 use Rattle.mb_kinds.specs.declared.entries.Entry.{Entry}
 use Rattle.mb_run.specs.Letters.{AreLetters, letters_of}
+use Rattle.mb_run.specs.Orders.{asked_by}
 use Rattle.mb_run.specs.Runs.{FirstsRise, HasTakenTested}
 use Rattle.mb_run.specs.Served.{AreSound, AreSoundBy, IsListed, calls_in, calls_of, moments_in}
-use Rattle.mb_run.specs.Sights.{AreApart, IsOrderly, Sight}
+use Rattle.mb_run.specs.Sights.{AreApart, IsOrderly, Sight, undue_in}
 use Rattle.mb_core_spec.specs.Copies.{no_pages}
 use Rattle.mb_run.specs.declared.runner.At.TheVariants as at
 use Rattle.mb_run.specs.declared.runner.Runner.{Runner}
@@ -76,6 +77,8 @@ pub record IsDriven (job : Job) (test : Option (Crossing → Bool)) (old new : S
   pub firsts : RisesByOrder job.order job.callers new.history
   pub sound : AreSound test new.records
   pub taken : old.stage ≡ stage.Running → TakesByOrder job.order test new
+  -- of the checkpoints no more were taken where none was due than the order asks for
+  pub seals : undue_in new ≤ undue_in old + asked_by job.order
 
 -- the end tells whether the volume failed
 abbrev pub Ends : Stage → DriveEnd → Type 0
@@ -98,12 +101,13 @@ pub record AreNew (runners : List Runner) (callers : ℕ) : Type 0 where
   pub size : length runners ≡ callers
   pub each : (caller : ℕ) (runner : Runner) → slice_get runners caller ≡ Some runner → runner ≡ new_runner caller
 
--- what a job leaves of a core that was begun for it, whichever of its callers went first; of each caller's faults its own
--- injector's test holds
-pub record IsDrivenApart (job : Job) (tests : ℕ → Option (Crossing → Bool)) (old new : Sight) : Type 0 where
+-- what a job leaves of a core that was begun for it, whichever of its callers went first, where so many checkpoints were asked
+-- for; of each caller's faults its own injector's test holds
+pub record IsDrivenApart (job : Job) (asked : ℕ) (tests : ℕ → Option (Crossing → Bool)) (old new : Sight) : Type 0 where
   pub config : new.config ≡ old.config
   pub free : (caller : ℕ) → caller < new.config.callers → (new.seats caller).flight ≡ None
   pub own_calls : (caller : ℕ) → caller < length job.callers → calls_in new.history caller ≡ calls_of job.calls caller
   pub begun : new.begun ≡ length new.history
   pub moments : HasEachMoment job.start new.history
   pub sound : AreSoundBy tests new.records
+  pub seals : undue_in new ≤ undue_in old + asked

@@ -11,7 +11,7 @@ use Rattle.mb_kinds.specs.declared.replies.Reply.TheVariants as reply
 use Rattle.mb_edge.specs.Causes.{Rose}
 use Rattle.mb_core_spec.specs.Copies.{PagesState, no_pages, shown}
 use Rattle.mb_run.specs.Pages.{Grows, HasTablesFor, LacksAll, Performs, has}
-use Rattle.mb_run.specs.Seals.{is_due}
+use Rattle.mb_run.specs.Seals.{Marks, is_due}
 use Rattle.mb_run.specs.Sights.{Seat, Sight, one_if, recovers, flight_of, is_new, IsOld}
 use Rattle.mb_calls.specs.declared.performing.Ready.{Ready}
 use Rattle.mb_calls.specs.declared.performing.Performed.{Performed}
@@ -49,10 +49,11 @@ pub record Counts (old new : Sight) : Type 0 where
   pub begun : new.begun ≡ old.begun
   pub open_calls : new.open_calls ≡ old.open_calls
 
--- no checkpoint is taken, and no operation is logged; the log of a recovery may have been folded
+-- no checkpoint is taken, and no call is logged; the log of a recovery may have been folded
 pub record KeepsLog (old new : Sight) : Type 0 where
   pub sealed_at : new.sealed_at ≡ old.sealed_at
   pub ops : new.ops ≤ old.ops
+  pub trail : Marks old.trail new.trail
 
 -- the call is in flight and waits
 pub record Begins (caller : ℕ) (flight : Flight) (old new : Sight) : Type 0 where
@@ -171,6 +172,7 @@ pub record Logs (caller : ℕ) (old new : Sight) (ticket : Ticket) : Type 0 wher
   pub begun : new.begun ≡ old.begun
   pub open_calls : new.open_calls + 1 ≡ old.open_calls
   pub sealed_at : new.sealed_at ≡ old.sealed_at
+  pub ops : new.ops ≤ old.ops + 1
   pub floor : new.floor ≡ None
   pub trail : new.trail ≡ old.trail ++ step.Logged ticket ∷ []
 

@@ -1,5 +1,6 @@
 -- Worked examples: the definitions of a run, evaluated.
 use Rattle.std.specs.Prelude.{List, [], ◌∷◌, ℕ, ◌+◌, ◌≡◌, true, false, None}
+use Rattle.mb_core_spec.specs.declared.steps.Step.{Step}
 use Rattle.mb_core_spec.specs.declared.steps.Step.TheVariants as step
 use Rattle.mb_jobs.specs.declared.jobs.JobCall.{JobCall}
 use Rattle.mb_kinds.specs.declared.calls.Call.TheVariants.{Sync, Exit}
@@ -9,7 +10,7 @@ use Rattle.mb_kinds.specs.declared.faults.Kind.TheVariants.{Finish, Gather}
 use Rattle.mb_kinds.specs.declared.faults.Ticket.{Ticket}
 use Rattle.mb_kinds.specs.declared.replies.Reply.TheVariants as reply
 use Rattle.mb_run.specs.Runs.{AreNear, EntersFirst, begun_from, calm_prefix, is_near, is_struck_first, pair_rises}
-use Rattle.mb_run.specs.Seals.{AreInTime, is_due, is_synced}
+use Rattle.mb_run.specs.Seals.{AreInTime, is_due, is_synced, undue}
 
 -- callers a and b
 abbrev pub letters : List ℕ
@@ -81,3 +82,23 @@ WorkedCheckpoints =
     (is_due 2 2 Exit ≡ true) × (is_due 2 1 Exit ≡ false) × (is_due 2 0 Sync ≡ true)
     × (is_synced (entry 0 1 1) ≡ true) × (is_synced ended ≡ false) × (is_synced given_up ≡ false)
     × AreInTime 2 1 1 (entry 0 1 1 ∷ ended ∷ [])
+
+-- two calls that are no sync(2), and their tickets
+abbrev pub two : List Entry
+two = record (entry 0 1 1) { call = Exit } ∷ ended ∷ []
+
+abbrev pub first : Step
+first = step.Logged (ticket 0 1)
+
+abbrev pub second : Step
+second = step.Logged (record (ticket 0 2) { ordinal = 2 })
+
+-- with a threshold of 2 a checkpoint is due right behind the second call, and behind a sync(2); one behind the first call is not due,
+-- nor one that comes after another step, nor a second one
+abbrev pub WorkedUndue : Type 0
+WorkedUndue =
+    (undue 2 two (first ∷ second ∷ step.Sealed 2 ∷ []) ≡ 0)
+    × (undue 2 two (first ∷ step.Sealed 1 ∷ second ∷ []) ≡ 1)
+    × (undue 2 two (first ∷ second ∷ step.Struck 1 ∷ step.Sealed 2 ∷ []) ≡ 1)
+    × (undue 2 two (first ∷ second ∷ step.Sealed 2 ∷ step.Sealed 2 ∷ []) ≡ 1)
+    × (undue 2 (entry 0 1 1 ∷ []) (first ∷ step.Sealed 1 ∷ []) ≡ 0)

@@ -1,5 +1,5 @@
 -- What the steps of an order make of the callers of a job.
-use Rattle.std.specs.Prelude.{ℕ, ◌+◌, ◌<◌, ◌≤◌, ◌≡◌, ◌≢◌, ◌⊎◌, List, Bool, true, false, Option, Some, None, length, slice_get, slice_index, take}
+use Rattle.std.specs.Prelude.{ℕ, ◌+◌, ◌<◌, ◌≤◌, ◌≡◌, ◌≢◌, ◌⊎◌, List, Bool, true, false, Option, Some, None, count_by, length, nat_eq, slice_get, slice_index, take}
 use Rattle.mb_edge.specs.declared.crossings.Crossing.{Crossing}
 use Rattle.mb_core_spec.specs.declared.stages.Stage.TheVariants as stage
 use Rattle.mb_jobs.specs.declared.jobs.Caller.{Caller}
@@ -8,7 +8,7 @@ use Rattle.mb_run.specs.Events.{Counts, sealed}
 use Rattle.mb_run.specs.Firsts.{KeepsFirsts}
 use Rattle.mb_run.specs.Pages.{HasTablesFor}
 use Rattle.mb_run.specs.Served.{IsBalanced, Nears, Underway, calls_of}
-use Rattle.mb_run.specs.Sights.{Sight}
+use Rattle.mb_run.specs.Sights.{Sight, undue_in}
 use Rattle.mb_run.specs.declared.progress.Next.{Next}
 use Rattle.mb_run.specs.declared.progress.Next.TheVariants as next
 use Rattle.mb_run.specs.declared.runner.At.{At}
@@ -54,13 +54,27 @@ done_at runners caller = done_by (slice_get runners caller)
 abbrev pub Grows : List Runner → List Runner → Type 0
 Grows old new = (caller : ℕ) → done_at old caller ≤ done_at new caller
 
--- a job is still under way, later on
-pub record IsWhole (calls : List JobCall) (test : Option (Crossing → Bool)) (old new : Sight) (before now : List Runner) : Type 0 where
+-- a character of an order asks for a checkpoint: `=`
+abbrev pub asks : ℕ → Bool
+asks character = nat_eq character 61
+
+-- how many checkpoints an order asks for; none is asked for without one
+abbrev pub asked_in : List ℕ → ℕ
+asked_in order = count_by asks order
+
+abbrev pub asked_by : Option (List ℕ) → ℕ
+asked_by None = 0
+asked_by (Some order) = asked_in order
+
+-- a job is still under way, later on; so many checkpoints were asked for
+pub record IsWhole (calls : List JobCall) (test : Option (Crossing → Bool)) (asked : ℕ) (old new : Sight) (before now : List Runner) : Type 0 where
   pub underway : Underway calls test new now
   pub grows : Grows before now
   pub balanced : IsBalanced old → IsBalanced new
   pub config : new.config ≡ old.config
   pub firsts : KeepsFirsts old new
+  -- no more were taken where none was due
+  pub seals : undue_in new ≤ undue_in old + asked
 
 -- nobody's call did anything: calls, entries and records stay, and while the volume runs, so does what calls gathered
 pub record IsQuiet (old new : Sight) : Type 0 where

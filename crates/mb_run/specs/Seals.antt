@@ -1,9 +1,12 @@
 -- When checkpoints are taken.
-use Rattle.std.specs.Prelude.{ℕ, ◌<◌, ◌≡◌, List, drop, nat_le, ◌&&◌, ◌||◌, Bool, true, false}
-use Rattle.std.specs.List.{AllByRecursion}
+use Rattle.std.specs.Prelude.{ℕ, ◌+◌, ◌<◌, ◌≤◌, ◌≡◌, ◌⊎◌, List, [], ◌∷◌, ◌++◌, length, drop, nat_eq, nat_le, ◌&&◌, ◌||◌, Bool, true, false, if◌then◌else◌}
+use Rattle.std.specs.List.{AllByRecursion, list_any}
+use Rattle.mb_core_spec.specs.declared.steps.Step.{Step}
+use Rattle.mb_core_spec.specs.declared.steps.Step.TheVariants as step
 use Rattle.mb_kinds.specs.declared.calls.Call.{Call}
 use Rattle.mb_kinds.specs.declared.calls.Call.TheVariants as call
 use Rattle.mb_kinds.specs.declared.entries.Entry.{Entry}
+use Rattle.mb_kinds.specs.declared.faults.Ticket.{Ticket}
 use Rattle.mb_kinds.specs.declared.replies.Reply.{Reply}
 use Rattle.mb_kinds.specs.declared.replies.Reply.TheVariants as reply
 
@@ -30,3 +33,57 @@ is_due threshold ops made = nat_le threshold ops || is_sync made
 pub record AreInTime (threshold ops sealed_at : ℕ) (history : List Entry) : Type 0 where
   pub few : ops < threshold
   pub synced : AllByRecursion (λ (entry : Entry). is_synced entry ≡ false) (drop sealed_at history)
+
+-- ---- where a trace has them
+
+-- a step with which no call is logged and no checkpoint is taken
+abbrev pub is_other : Step → Bool
+is_other (step.Logged ticket) = false
+is_other (step.Sealed count) = false
+is_other _ = true
+
+-- the trace goes on by such steps alone
+pub record Marks (before now : List Step) : Type 0 where
+  pub steps : List Step
+  pub whole : now ≡ before ++ steps
+  pub others : AllByRecursion (λ (one : Step). is_other one ≡ true) steps
+
+-- the call with that ticket was sync(2), as its entry tells
+abbrev pub is_sync_of : List Entry → Ticket → Bool
+is_sync_of history ticket = list_any (λ (entry : Entry). (nat_eq entry.caller ticket.caller && nat_eq entry.ordinal ticket.ordinal) && is_sync entry.call) history
+
+-- what a trace tells of its checkpoints: how many calls were logged since the last one, whether one is due right behind the last
+-- step, and how many were taken where none was due
+pub record Sealing : Type 0 where
+  pub since : ℕ
+  pub due : Bool
+  pub undue : ℕ
+
+abbrev pub unsealed : Sealing
+unsealed = record { since = 0; due = false; undue = 0 }
+
+-- one is due right behind a call that was logged, if that was sync(2), or if with it as many were logged since the last one as the
+-- threshold says. Each operation of the log is a logged call's, so that the log has no more than these
+abbrev pub sealing_next : ℕ → List Entry → Sealing → Step → Sealing
+sealing_next threshold history was (step.Logged ticket) =
+    record { since = was.since + 1; due = nat_le threshold (was.since + 1) || is_sync_of history ticket; undue = was.undue }
+sealing_next threshold history was (step.Sealed count) = record { since = 0; due = false; undue = was.undue + (if was.due then 0 else 1) }
+sealing_next threshold history was _ = record was { due = false }
+
+-- a trace, step after step
+abbrev pub sealing_after : ℕ → List Entry → Sealing → List Step → Sealing
+sealing_after threshold history was [] = was
+sealing_after threshold history was (one ∷ steps) = sealing_after threshold history (sealing_next threshold history was one) steps
+
+-- how many calls a trace logged since its last checkpoint, and how many checkpoints it has where none was due
+unfoldable pub logged_since : ℕ → List Entry → List Step → ℕ
+logged_since threshold history trail = (sealing_after threshold history unsealed trail).since
+
+unfoldable pub undue : ℕ → List Entry → List Step → ℕ
+undue threshold history trail = (sealing_after threshold history unsealed trail).undue
+
+-- of the checkpoints of a trace, but for one that ends it, no more were taken where none was due than were asked for
+pub record AreAskedFor (threshold asked : ℕ) (history : List Entry) (trail : List Step) : Type 0 where
+  pub run : List Step
+  pub few : undue threshold history run ≤ asked
+  pub ends : (trail ≡ run) ⊎ (trail ≡ run ++ step.Sealed (length history) ∷ [])

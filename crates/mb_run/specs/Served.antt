@@ -15,7 +15,7 @@ use Rattle.mb_core_spec.specs.Copies.{PagesState, no_pages}
 use Rattle.mb_run.specs.Pages.{HasTablesFor, has}
 pub use Rattle.mb_run.specs.Recovering.{counted}
 use Rattle.mb_run.specs.Recovering.{crossing_of, next_of}
-use Rattle.mb_run.specs.Sights.{Sight, Seat, HasTicket, IsOld, IsOrderly, IsWaiting, one_if, recovers}
+use Rattle.mb_run.specs.Sights.{Sight, Seat, HasTicket, IsOld, IsOrderly, IsWaiting, one_if, recovers, undue_in}
 use Rattle.mb_run.specs.Events.{Strikes}
 use Rattle.mb_run.specs.Firsts.{KeepsFirsts}
 use Rattle.mb_jobs.specs.declared.jobs.JobCall.{JobCall}
@@ -205,6 +205,8 @@ pub record Nears (calls : List JobCall) (test : Option (Crossing → Bool)) (old
   pub balanced : IsBalanced old → IsBalanced new
   pub served : IsServed (calls_of calls before.crossings.caller) new before.crossings.caller now
   pub sound : AreSound test new.records
+  -- no checkpoint was taken but where one was due
+  pub seals : undue_in new ≤ undue_in old
 
 pub record Did (calls : List JobCall) (test : Option (Crossing → Bool)) (old new : Sight) (before now : Runner) (went : Went) : Type 0 where
   pub nears : Nears calls test old new before now

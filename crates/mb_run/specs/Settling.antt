@@ -1,7 +1,8 @@
 -- What the end of a run leaves.
 use Rattle.std.specs.Prelude.{ℕ, ◌<◌, ◌≡◌, false, length, Option, None, Some}
+use Rattle.mb_run.specs.Seals.{AreAskedFor}
 use Rattle.mb_core_spec.specs.declared.stages.Stage.TheVariants as stage
-use Rattle.mb_run.specs.Sights.{Sight, recovers}
+use Rattle.mb_run.specs.Sights.{Sight, recovers, undue_in}
 use Rattle.mb_run.specs.declared.settles.SettleEnd.{SettleEnd}
 use Rattle.mb_run.specs.declared.settles.SettleEnd.TheVariants as end
 
@@ -30,3 +31,7 @@ pub record IsSettled (old new : Sight) : Type 0 where
   pub current : new.current ≡ 0
   pub sealed : new.sealed ≡ 0
   pub sealed_at : new.stage ≡ stage.Running → new.sealed_at ≡ length new.history
+
+-- no checkpoint was taken where none was due, but for one that ends the trace
+abbrev pub SealsAtEnd : Sight → Sight → Type 0
+SealsAtEnd old new = AreAskedFor new.config.threshold (undue_in old) new.history new.trail

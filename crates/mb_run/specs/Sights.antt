@@ -11,7 +11,7 @@ use Rattle.mb_core_spec.specs.declared.config.Config.{Config}
 use Rattle.mb_core_spec.specs.declared.stages.Stage.{Stage}
 use Rattle.mb_core_spec.specs.declared.stages.Stage.TheVariants as stage
 use Rattle.mb_core_spec.specs.declared.steps.Step.{Step}
-use Rattle.mb_run.specs.Seals.{AreInTime}
+use Rattle.mb_run.specs.Seals.{AreInTime, logged_since, undue}
 
 -- of one caller: how many calls it began, and its call in flight
 pub record Seat : Type 0 where
@@ -55,6 +55,13 @@ pub record Sight : Type 0 where
   pub current : ℕ
   pub sealed : ℕ
   pub config : Limits
+
+-- how many calls the trace logged since its last checkpoint, and how many checkpoints it has where none was due
+abbrev pub since_in : Sight → ℕ
+since_in sight = logged_since sight.config.threshold sight.history sight.trail
+
+abbrev pub undue_in : Sight → ℕ
+undue_in sight = undue sight.config.threshold sight.history sight.trail
 
 abbrev pub one_if : Bool → ℕ
 one_if true = 1
@@ -142,5 +149,7 @@ pub record IsOrderly (sight : Sight) : Type 0 where
   pub open_calls : ((caller : ℕ) → caller < sight.config.callers → (sight.seats caller).flight ≡ None) → sight.open_calls ≡ 0
   -- checkpoints are taken in time
   pub seals : AreInTime sight.config.threshold sight.ops sight.sealed_at sight.history
+  -- each operation of the log is one of a call that was logged since the last checkpoint
+  pub covers : sight.ops ≤ since_in sight
   -- a failed volume has no dirty page
   pub dropped : sight.stage ≡ stage.Failed → sight.current ≡ 0

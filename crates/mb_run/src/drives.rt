@@ -1,13 +1,13 @@
-ghost use Rattle.std.specs.Prelude.{[], ◌≡◌, ◌≢◌, ◌<◌, ◌≤◌, true, length};
+ghost use Rattle.std.specs.Prelude.{[], ◌+◌, ◌≡◌, ◌≢◌, ◌<◌, ◌≤◌, true, length};
 ghost use Rattle.std.specs.List.{AllByRecursion};
 ghost use Rattle.mb_jobs.specs.declared.jobs.JobCall.{JobCall};
 ghost use Rattle.mb_run.specs.Drives.{AreNew, Ends, IsBegun, IsComplete, IsDriven, IsRunnable};
 ghost use Rattle.mb_run.specs.Indexes.{IsIndexOf};
 ghost use Rattle.mb_run.specs.Letters.{AreLetters, HasBegunBy, letters_of};
-ghost use Rattle.mb_run.specs.Orders.{AreRunOut, IsReached, IsWhole};
+ghost use Rattle.mb_run.specs.Orders.{AreRunOut, IsReached, IsWhole, asked_in};
 ghost use Rattle.mb_run.specs.Runs.{FirstsRise};
 ghost use Rattle.mb_run.specs.Served.{IsBalanced, Underway};
-ghost use Rattle.mb_run.specs.Sights.{IsOrderly};
+ghost use Rattle.mb_run.specs.Sights.{IsOrderly, undue_in};
 ghost use Rattle.mb_run.specs.declared.drives.DriveEnd.TheVariants as end;
 
 use crate::call_index::CallIndex;
@@ -51,7 +51,7 @@ fn run_up_to<C: EventCore, H: Hook>(
     requires index { IsIndexOf calls.now index.now.places }
     requires underway { Underway calls.now (H.test hook.old) (C.sight core.old) runners.old }
     requires within { caller < length runners.old }
-    ensures whole { result ≡ true → IsWhole calls.now (H.test hook.old) (C.sight core.old) (C.sight core.new) runners.old runners.new }
+    ensures whole { result ≡ true → IsWhole calls.now (H.test hook.old) 0 (C.sight core.old) (C.sight core.new) runners.old runners.new }
     ensures reached { result ≡ true → IsReached calls.now caller count runners.old runners.new }
     ensures length { length runners.new ≡ length runners.old }
     ensures test { H.test hook.new ≡ H.test hook.old }
@@ -78,7 +78,7 @@ fn run_out<C: EventCore, H: Hook>(
     requires callers { AllByRecursion (λ (made : JobCall). made.caller < length runners.old) calls.now }
     requires few { length runners.old ≤ 8 }
     requires small { length calls.now < 4294967290 }
-    ensures whole { result ≡ true → IsWhole calls.now (H.test hook.old) (C.sight core.old) (C.sight core.new) runners.old runners.new }
+    ensures whole { result ≡ true → IsWhole calls.now (H.test hook.old) 0 (C.sight core.old) (C.sight core.new) runners.old runners.new }
     ensures out { result ≡ true → AreRunOut calls.now runners.new (length calls.now) }
     ensures length { length runners.new ≡ length runners.old }
     ensures test { H.test hook.new ≡ H.test hook.old }
@@ -116,6 +116,7 @@ fn run_by_order<C: EventCore, H: Hook>(
     ensures complete { result ≡ true → IsComplete calls.now (length runners.old) (H.test hook.old) (C.sight core.new) }
     ensures firsts { result ≡ true → AreLetters (letters_of callers.now) → HasBegunBy (letters_of callers.now) calls.now [] (C.sight core.old) → FirstsRise order.now (letters_of callers.now) (C.sight core.new).history }
     ensures config { result ≡ true → (C.sight core.new).config ≡ (C.sight core.old).config }
+    ensures seals { result ≡ true → undue_in (C.sight core.new) ≤ undue_in (C.sight core.old) + asked_in order.now }
     ensures origin { C.origin core.new ≡ C.origin core.old }
     ensures right { IsOrderly (C.sight core.new) }
 {

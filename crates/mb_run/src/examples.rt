@@ -1,4 +1,4 @@
-ghost use Rattle.mb_run.specs.Examples.{WorkedCheckpoints, WorkedEntering, WorkedFaults, WorkedMoments, WorkedOrders};
+ghost use Rattle.mb_run.specs.Examples.{WorkedCheckpoints, WorkedEntering, WorkedFaults, WorkedMoments, WorkedOrders, WorkedUndue};
 
 /// Whose first moment is lower under an order.
 pub fn worked_moments()
@@ -23,4 +23,9 @@ pub fn worked_faults()
 /// When a checkpoint is due, and what stands behind one that was taken in time.
 pub fn worked_checkpoints()
     ensures { WorkedCheckpoints }
+{}
+
+/// Which checkpoints of a trace were taken where none was due.
+pub fn worked_undue()
+    ensures { WorkedUndue }
 {}

@@ -35,7 +35,7 @@ pub use call_index::{CallIndex, find_call};
 pub use drives::{DriveEnd, Driven, drive};
 pub use event_core::EventCore;
 pub use examples::{
-    worked_checkpoints, worked_entering, worked_faults, worked_moments, worked_orders,
+    worked_checkpoints, worked_entering, worked_faults, worked_moments, worked_orders, worked_undue,
 };
 pub use laws::{planned_faults, recovers_soon, stands_on};
 pub use orders::run_order;

@@ -1,9 +1,9 @@
-ghost use Rattle.std.specs.Prelude.{[], ◌≡◌, ◌≢◌, ◌<◌, ◌≤◌, IfSome, None, Some, true, length};
+ghost use Rattle.std.specs.Prelude.{[], ◌∷◌, ◌≡◌, ◌≢◌, ◌<◌, ◌≤◌, IfSome, None, Some, true, length};
 ghost use Rattle.mb_run.specs.Indexes.{IsIndexOf};
 ghost use Rattle.mb_run.specs.Letters.{AreLetters, BeginsAlone, BeginsByLetter, HasBegun, HasBegunBy, LacksLetter, letters_of};
-ghost use Rattle.mb_run.specs.Orders.{Ahead, HasLetter, IsOpenAt, IsQuiet, IsSealedNow, IsWhole, MayLook, Moved};
+ghost use Rattle.mb_run.specs.Orders.{asked_in, Ahead, HasLetter, IsOpenAt, IsQuiet, IsSealedNow, IsWhole, MayLook, Moved};
 ghost use Rattle.mb_run.specs.Served.{MayStep, Underway};
-ghost use Rattle.mb_run.specs.Sights.{IsOrderly, recovers};
+ghost use Rattle.mb_run.specs.Sights.{IsOrderly, recovers, undue_in};
 
 use crate::answers::Stepped;
 use crate::call_index::{CallIndex, find_call};
@@ -127,7 +127,7 @@ fn step_letter<C: EventCore, H: Hook>(
     requires index { IsIndexOf calls.now index.now.places }
     requires underway { Underway calls.now (H.test hook.old) (C.sight core.old) runners.old }
     requires within { caller < length runners.old }
-    ensures whole { result ≡ true → IsWhole calls.now (H.test hook.old) (C.sight core.old) (C.sight core.new) runners.old runners.new }
+    ensures whole { result ≡ true → IsWhole calls.now (H.test hook.old) 0 (C.sight core.old) (C.sight core.new) runners.old runners.new }
     ensures begins { result ≡ true → HasBegun calls.now caller (C.sight core.new) }
     ensures alone { result ≡ true → BeginsAlone (Some caller) (C.sight core.old) (C.sight core.new) }
     ensures length { length runners.new ≡ length runners.old }
@@ -191,6 +191,7 @@ fn first_waiting<C: EventCore>(core: &C, runners: &[Runner]) -> Option<u8>
 fn recover_alone<C: EventCore, H: Hook>(alloc: Global, core: &mut C, hook: &mut H) -> bool
     requires right { IsOrderly (C.sight core.old) }
     ensures quiet { IsQuiet (C.sight core.old) (C.sight core.new) }
+    ensures seals { undue_in (C.sight core.new) ≤ undue_in (C.sight core.old) }
     ensures test { H.test hook.new ≡ H.test hook.old }
     ensures origin { C.origin core.new ≡ C.origin core.old }
     ensures right { IsOrderly (C.sight core.new) }
@@ -214,7 +215,7 @@ fn recover_once<C: EventCore, H: Hook>(
 ) -> bool
     requires index { IsIndexOf calls.now index.now.places }
     requires underway { Underway calls.now (H.test hook.old) (C.sight core.old) runners.old }
-    ensures whole { result ≡ true → IsWhole calls.now (H.test hook.old) (C.sight core.old) (C.sight core.new) runners.old runners.new }
+    ensures whole { result ≡ true → IsWhole calls.now (H.test hook.old) 0 (C.sight core.old) (C.sight core.new) runners.old runners.new }
     ensures alone { result ≡ true → BeginsAlone None (C.sight core.old) (C.sight core.new) }
     ensures length { length runners.new ≡ length runners.old }
     ensures test { H.test hook.new ≡ H.test hook.old }
@@ -269,6 +270,7 @@ pub(crate) fn seal_now<C: EventCore>(core: &mut C) -> bool
 fn flush<C: EventCore>(core: &mut C)
     requires right { IsOrderly (C.sight core.old) }
     ensures quiet { IsQuiet (C.sight core.old) (C.sight core.new) }
+    ensures seals { undue_in (C.sight core.new) ≤ undue_in (C.sight core.old) }
     ensures origin { C.origin core.new ≡ C.origin core.old }
     ensures right { IsOrderly (C.sight core.new) }
 {
@@ -305,7 +307,7 @@ fn step_character<C: EventCore, H: Hook>(
     requires index { IsIndexOf calls.now index.now.places }
     requires underway { Underway calls.now (H.test hook.old) (C.sight core.old) runners.old }
     requires callers { length callers.now ≡ length runners.old }
-    ensures whole { result ≡ true → IsWhole calls.now (H.test hook.old) (C.sight core.old) (C.sight core.new) runners.old runners.new }
+    ensures whole { result ≡ true → IsWhole calls.now (H.test hook.old) (asked_in (character ∷ [])) (C.sight core.old) (C.sight core.new) runners.old runners.new }
     ensures letters { result ≡ true → AreLetters (letters_of callers.now) → BeginsByLetter (letters_of callers.now) calls.now character (C.sight core.old) (C.sight core.new) }
     ensures length { length runners.new ≡ length runners.old }
     ensures test { H.test hook.new ≡ H.test hook.old }
@@ -347,7 +349,7 @@ pub fn run_order<C: EventCore, H: Hook>(
     requires index { IsIndexOf calls.now index.now.places }
     requires underway { Underway calls.now (H.test hook.old) (C.sight core.old) runners.old }
     requires callers { length callers.now ≡ length runners.old }
-    ensures whole { result ≡ true → IsWhole calls.now (H.test hook.old) (C.sight core.old) (C.sight core.new) runners.old runners.new }
+    ensures whole { result ≡ true → IsWhole calls.now (H.test hook.old) (asked_in order.now) (C.sight core.old) (C.sight core.new) runners.old runners.new }
     ensures firsts { result ≡ true → AreLetters (letters_of callers.now) → HasBegunBy (letters_of callers.now) calls.now [] (C.sight core.old) → HasBegunBy (letters_of callers.now) calls.now order.now (C.sight core.new) }
     ensures length { length runners.new ≡ length runners.old }
     ensures test { H.test hook.new ≡ H.test hook.old }

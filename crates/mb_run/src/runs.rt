@@ -1,4 +1,4 @@
-ghost use Rattle.std.specs.Prelude.{◌≡◌, ◌<◌, Some, true, length, option_map, slice_get};
+ghost use Rattle.std.specs.Prelude.{◌≡◌, ◌<◌, ◌≤◌, Some, true, length, option_map, slice_get};
 ghost use Rattle.std.specs.List.{AllByRecursion};
 ghost use Rattle.mb_edge.specs.declared.crossings.Crossings.{Crossings};
 ghost use Rattle.mb_run.specs.Indexes.{IsIndexOf};
@@ -7,7 +7,7 @@ ghost use Rattle.mb_run.specs.Orders.{IsAnswered, IsWhole};
 ghost use Rattle.mb_run.specs.Recovering.{GoOn};
 ghost use Rattle.mb_run.specs.Runs.{HasTakenTested};
 ghost use Rattle.mb_run.specs.Served.{IsAfter, IsMine, IsResting, IsRunInOrder, Keeps, MayGiveUp, MayStep, Ran, Recovers, Rolled, Turns, Underway, calls_of};
-ghost use Rattle.mb_run.specs.Sights.{IsOrderly, IsWaiting, recovers};
+ghost use Rattle.mb_run.specs.Sights.{IsOrderly, IsWaiting, recovers, undue_in};
 ghost use Rattle.mb_run.specs.Tallies.{AreRested, IsBetween, IsTallied, Tallies};
 ghost use Rattle.mb_run.specs.declared.runner.At.TheVariants as at;
 ghost use Rattle.mb_jobs.specs.declared.jobs.JobCall.{JobCall};
@@ -231,7 +231,7 @@ pub fn run_call<C: EventCore, H: Hook>(
     requires index { IsIndexOf calls.now index.now.places }
     requires underway { Underway calls.now (H.test hook.old) (C.sight core.old) runners.old }
     requires within { caller < length runners.old }
-    ensures whole { result ≡ true → IsWhole calls.now (H.test hook.old) (C.sight core.old) (C.sight core.new) runners.old runners.new }
+    ensures whole { result ≡ true → IsWhole calls.now (H.test hook.old) 0 (C.sight core.old) (C.sight core.new) runners.old runners.new }
     ensures answered { result ≡ true → IsAnswered calls.now caller runners.old runners.new }
     ensures length { length runners.new ≡ length runners.old }
     ensures test { H.test hook.new ≡ H.test hook.old }
@@ -290,6 +290,7 @@ pub fn run_in_order<C: EventCore, H: Hook>(
     ensures done { result ≡ true → IsRunInOrder calls.now (length runners.old) (H.test hook.old) (C.sight core.new) }
     ensures taken { result ≡ true → AreRested (H.test hook.old) (C.sight core.old) runners.old → HasTakenTested (H.test hook.old) (C.sight core.new).history (C.sight core.new).records }
     ensures config { result ≡ true → (C.sight core.new).config ≡ (C.sight core.old).config }
+    ensures seals { result ≡ true → undue_in (C.sight core.new) ≤ undue_in (C.sight core.old) }
     ensures test { H.test hook.new ≡ H.test hook.old }
     ensures origin { C.origin core.new ≡ C.origin core.old }
     ensures right { IsOrderly (C.sight core.new) }

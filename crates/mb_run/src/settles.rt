@@ -1,9 +1,9 @@
-ghost use Rattle.std.specs.Prelude.{◌≡◌, ◌≤◌, ◌⊎◌, true, false};
+ghost use Rattle.std.specs.Prelude.{◌≡◌, ◌≢◌, ◌≤◌, ◌⊎◌, true, false};
 ghost use Rattle.mb_core_spec.specs.declared.stages.Stage.TheVariants as stage;
 ghost use Rattle.mb_edge.specs.Causes.{Rose};
 ghost use Rattle.mb_run.specs.Lengths.{CalmsForward, GoesForward};
-ghost use Rattle.mb_run.specs.Settling.{Calms, IsFlushed, IsSettled, Keeps};
-ghost use Rattle.mb_run.specs.Sights.{IsOrderly, recovers};
+ghost use Rattle.mb_run.specs.Settling.{Calms, IsFlushed, IsSettled, Keeps, SealsAtEnd};
+ghost use Rattle.mb_run.specs.Sights.{IsOrderly, recovers, undue_in};
 ghost use Rattle.mb_run.specs.declared.settles.SettleEnd.TheVariants as end;
 ghost use Rattle.std.specs.Prelude.{Some};
 
@@ -37,6 +37,7 @@ fn calm_step<C: EventCore>(alloc: Global, core: &mut C) -> Option<SettleEnd>
     ensures keeps { Keeps (C.sight core.old) (C.sight core.new) }
     ensures calms { Calms (C.sight core.old) (C.sight core.new) result }
     ensures forward { CalmsForward (C.sight core.old) (C.sight core.new) result }
+    ensures seals { undue_in (C.sight core.new) ≤ undue_in (C.sight core.old) }
     ensures device { result ≡ Some end.Device → Rose (C.faults core.old) (C.faults core.new) }
     ensures later { C.faults core.old ≤ C.faults core.new }
     ensures origin { C.origin core.new ≡ C.origin core.old }
@@ -65,6 +66,7 @@ fn recover_calmly<C: EventCore>(alloc: Global, core: &mut C) -> SettleEnd
     ensures keeps { Keeps (C.sight core.old) (C.sight core.new) }
     ensures over { result ≡ end.Clean → recovers (C.sight core.new).stage ≡ false }
     ensures forward { ((C.sight core.new).stage ≡ stage.Failed) ⊎ GoesForward (C.sight core.old) (C.sight core.new) }
+    ensures seals { undue_in (C.sight core.new) ≤ undue_in (C.sight core.old) }
     ensures device { result ≡ end.Device → Rose (C.faults core.old) (C.faults core.new) }
     ensures later { C.faults core.old ≤ C.faults core.new }
     ensures origin { C.origin core.new ≡ C.origin core.old }
@@ -99,6 +101,7 @@ fn settle_core<C: EventCore>(alloc: Global, core: &mut C) -> SettleEnd
     requires right { IsOrderly (C.sight core.old) }
     ensures settled { result ≡ end.Clean → IsSettled (C.sight core.old) (C.sight core.new) }
     ensures keeps { Keeps (C.sight core.old) (C.sight core.new) }
+    ensures seals { result ≢ end.NoMemory → SealsAtEnd (C.sight core.old) (C.sight core.new) }
     ensures device { result ≡ end.Device → Rose (C.faults core.old) (C.faults core.new) }
     ensures origin { C.origin core.new ≡ C.origin core.old }
     ensures right { IsOrderly (C.sight core.new) }
@@ -115,11 +118,13 @@ fn settle_core<C: EventCore>(alloc: Global, core: &mut C) -> SettleEnd
 }
 
 /// Ends a run: a recovery in progress is made without a fault injector, a running volume gets a checkpoint, and the
-/// checkpointed pages are written back. The first fault of the disk ends this. History and fault records stay.
+/// checkpointed pages are written back. The first fault of the disk ends this. History and fault records stay, and that
+/// checkpoint is the only one that is taken where none is due.
 pub fn settle<C: EventCore>(alloc: Global, core: C) -> Settled<C>
     requires right { IsOrderly (C.sight core) }
     ensures settled { result.end ≡ end.Clean → IsSettled (C.sight core) (C.sight result.core) }
     ensures keeps { Keeps (C.sight core) (C.sight result.core) }
+    ensures seals { result.end ≢ end.NoMemory → SealsAtEnd (C.sight core) (C.sight result.core) }
     ensures device { result.end ≡ end.Device → Rose (C.faults core) (C.faults result.core) }
     ensures origin { C.origin result.core ≡ C.origin core }
     ensures right { IsOrderly (C.sight result.core) }

@@ -9,7 +9,7 @@ pub run_in_order-requires-clause-callers : goal.run_in_order-requires-clause-cal
 run_in_order-requires-clause-callers g c = rw c.as_slice-calls.ensures (named_below _ _ c.requires.runnable c.requires.runners)
 
 pub returns-in-None-clause-driven : goal.returns-in-None-clause-driven
-returns-in-None-clause-driven g c = λ so. listed _ _ _ _ _ c.requires.begun c.in-None.is c.requires.runners.size (rw c.as_slice-calls.ensures at c.run_in_order.ensures.done so) (c.run_in_order.ensures.config so) c.run_in_order.ensures.right (λ runs. c.run_in_order.ensures.taken so (rested_begin _ _ _ _ c.requires.begun c.requires.runners runs))
+returns-in-None-clause-driven g c = λ so. listed _ _ _ _ _ c.requires.begun c.in-None.is c.requires.runners.size (rw c.as_slice-calls.ensures at c.run_in_order.ensures.done so) (c.run_in_order.ensures.config so) c.run_in_order.ensures.right (λ runs. c.run_in_order.ensures.taken so (rested_begin _ _ _ _ c.requires.begun c.requires.runners runs)) (c.run_in_order.ensures.seals so)
 
 pub run_by_order-requires-clause-underway : goal.run_by_order-requires-clause-underway
 run_by_order-requires-clause-underway g c = rw c.as_slice-calls.ensures (begins_underway _ _ _ _ c.requires.runnable c.requires.begun c.requires.runners)
@@ -18,4 +18,4 @@ pub run_by_order-requires-clause-named : goal.run_by_order-requires-clause-named
 run_by_order-requires-clause-named g c = rw c.as_slice-calls.ensures (named_below _ _ c.requires.runnable c.requires.runners)
 
 pub returns-in-Some-clause-driven : goal.returns-in-Some-clause-driven
-returns-in-Some-clause-driven g c = λ so. ordered _ _ _ _ _ _ c.requires.begun c.in-Some.is c.requires.runners.size (rw c.as_slice-calls.ensures at c.run_by_order.ensures.complete so) (c.run_by_order.ensures.config so) c.run_by_order.ensures.right (λ letters. (rw (c.as_slice-callers.ensures, c.as_slice-steps.ensures, c.as_slice-calls.ensures) at c.run_by_order.ensures.firsts so) letters (begins_firsts _ _ _ c.requires.begun))
+returns-in-Some-clause-driven g c = λ so. ordered _ _ _ _ _ _ c.requires.begun c.in-Some.is c.requires.runners.size (rw c.as_slice-calls.ensures at c.run_by_order.ensures.complete so) (c.run_by_order.ensures.config so) c.run_by_order.ensures.right (λ letters. (rw (c.as_slice-callers.ensures, c.as_slice-steps.ensures, c.as_slice-calls.ensures) at c.run_by_order.ensures.firsts so) letters (begins_firsts _ _ _ c.requires.begun)) (rw c.as_slice-steps.ensures at c.run_by_order.ensures.seals so)

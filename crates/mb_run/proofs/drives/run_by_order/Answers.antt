@@ -1,4 +1,4 @@
-use Rattle.std.proofs.Common.{◌∙◌, refl, subst, sym}
+use Rattle.std.proofs.Common.{◌∙◌, arith, refl, subst, sym}
 use Rattle.mb_run.specs.Drives.{IsComplete}
 use Rattle.mb_run.proofs.Completing.{complete}
 use Rattle.mb_run.proofs.Letters.{order_rises}
@@ -20,3 +20,9 @@ returns-clause-firsts g c = λ so letters fresh.
     let two = rw c.run_order.ensures.test at c.run_out.ensures.whole so in
     order_rises _ _ _ _ _ _ _ _ (c.if-not-run_order.ensures.firsts refl letters fresh) two.firsts one.underway.callers (c.requires.callers ∙ sym c.run_order.ensures.length)
     (complete _ _ _ _ two.underway (two.balanced (one.balanced c.requires.balanced)) (c.run_out.ensures.out so)) c.run_out.ensures.length
+
+pub returns-clause-seals : goal.returns-clause-seals
+returns-clause-seals g c = λ so.
+    let one = (c.if-not-run_order.ensures.whole refl).seals in
+    let two = (c.run_out.ensures.whole so).seals in
+    omega (arith, one, two)

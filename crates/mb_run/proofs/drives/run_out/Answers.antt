@@ -22,7 +22,7 @@ loop-made-preserved g c =
     let eight : c.made-item.result.caller < 8 = omega (arith, few, c.requires.few) in
     let whole = rw c.loop-made.invariant.test at c.if-not-run_up_to.ensures.whole refl in
     record {
-      whole = whole_then _ _ _ _ _ _ _ _ c.loop-made.invariant.whole whole;
+      whole = whole_then _ _ 0 0 _ _ _ _ _ _ c.loop-made.invariant.whole whole;
       out = out_reached c.args.calls.now c.loop-made.made-index c.made-item.result here _ _ _ low whole.grows c.run_up_to.ensures.length (ap (λ n. n + 1) (c.loop-made.invariant.counted c.made-item.result.caller eight)) (c.if-not-run_up_to.ensures.reached refl) c.loop-made.invariant.out;
       counted = counted_next c.args.calls.now c.loop-made.made-index c.made-item.result here _ _ c.loop-made.invariant.eight eight refl c.loop-made.invariant.counted;
       eight = length-set c.loop-made.passed c.made-item.result.caller _ ∙ c.loop-made.invariant.eight;

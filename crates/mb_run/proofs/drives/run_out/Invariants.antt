@@ -4,7 +4,7 @@ use Rattle.mb_run.proofs.drives.run_out.Given as goal
 
 abbrev pub invariant-loop-made : goal.invariant-loop-made
 invariant-loop-made g l = record {
-  whole : IsWhole l.calls (g.H.Hook.test l.fn.hook) (g.C.EventCore.sight l.fn.core) (g.C.EventCore.sight l.core) l.fn.runners l.runners;
+  whole : IsWhole l.calls (g.H.Hook.test l.fn.hook) 0 (g.C.EventCore.sight l.fn.core) (g.C.EventCore.sight l.core) l.fn.runners l.runners;
   out : AreRunOut l.calls l.runners l.made-index;
   counted : AreCounted l.calls l.passed l.made-index;
   eight : length l.passed ≡ 8;

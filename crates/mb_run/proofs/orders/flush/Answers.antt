@@ -1,5 +1,9 @@
 use Rattle.mb_run.proofs.Quiet.{quiet_flush}
+use Rattle.mb_run.proofs.Undue.{flushes_undue}
 use Rattle.mb_run.proofs.orders.flush.Goals as goal
 
 pub returns-clause-quiet : goal.returns-clause-quiet
 returns-clause-quiet g c = quiet_flush _ _ _ c.flush_one.ensures.flushes
+
+pub returns-clause-seals : goal.returns-clause-seals
+returns-clause-seals g c = flushes_undue _ _ _ c.flush_one.ensures.flushes

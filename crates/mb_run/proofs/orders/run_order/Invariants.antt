@@ -1,11 +1,11 @@
 use Rattle.std.proofs.Common.{[], ◌≡◌, length, take}
 use Rattle.mb_run.specs.Letters.{AreLetters, HasBegunBy, letters_of}
-use Rattle.mb_run.specs.Orders.{IsWhole}
+use Rattle.mb_run.specs.Orders.{IsWhole, asked_in}
 use Rattle.mb_run.proofs.orders.run_order.Given as goal
 
 abbrev pub invariant-loop-character : goal.invariant-loop-character
 invariant-loop-character g l = record {
-  whole : IsWhole l.calls (g.H.Hook.test l.fn.hook) (g.C.EventCore.sight l.fn.core) (g.C.EventCore.sight l.core) l.fn.runners l.runners;
+  whole : IsWhole l.calls (g.H.Hook.test l.fn.hook) (asked_in (take l.character-index l.order)) (g.C.EventCore.sight l.fn.core) (g.C.EventCore.sight l.core) l.fn.runners l.runners;
   firsts : AreLetters (letters_of l.callers) → HasBegunBy (letters_of l.callers) l.calls [] (g.C.EventCore.sight l.fn.core) → HasBegunBy (letters_of l.callers) l.calls (take l.character-index l.order) (g.C.EventCore.sight l.core);
   size : length l.runners ≡ length l.fn.runners;
   origin : g.C.EventCore.origin l.core ≡ g.C.EventCore.origin l.fn.core;

@@ -1,15 +1,17 @@
 use Rattle.std.proofs.Common.{◌<◌, arith, length}
 use Rattle.std.proofs.lemmas.Option.{slice_get_within}
+use Rattle.mb_run.proofs.Asked.{asked_seals, whole_asks}
+use Rattle.mb_run.proofs.Moving.{whole_same}
 use Rattle.mb_run.proofs.Quiet.{quiet_whole}
 use Rattle.std.proofs.Common.{refl}
 use Rattle.mb_run.proofs.Starting.{lacked_begins, letter_begins, no_letter_begins, no_letter_is, quiet_alone, same_alone}
 use Rattle.mb_run.proofs.orders.step_character.Goals as goal
 
 pub returns-then-character-eq61-clause-whole : goal.returns-then-character-eq61-clause-whole
-returns-then-character-eq61-clause-whole g c = λ so. quiet_whole _ _ _ _ _ c.requires.underway c.seal_now.ensures.quiet c.seal_now.ensures.right
+returns-then-character-eq61-clause-whole g c = λ so. quiet_whole _ _ _ _ _ _ c.requires.underway c.seal_now.ensures.quiet (asked_seals c.args.character (g.C.EventCore.sight c.args.core.now) (g.C.EventCore.sight c.seal_now.new.core) c.if-character-eq61.true (c.seal_now.ensures.sealed so)) c.seal_now.ensures.right
 
 pub returns-then-character-eq62-clause-whole : goal.returns-then-character-eq62-clause-whole
-returns-then-character-eq62-clause-whole g c = λ so. quiet_whole _ _ _ _ _ c.requires.underway c.flush.ensures.quiet c.flush.ensures.right
+returns-then-character-eq62-clause-whole g c = λ so. quiet_whole _ _ _ _ _ _ c.requires.underway c.flush.ensures.quiet (let low = c.flush.ensures.seals in omega (arith, low)) c.flush.ensures.right
 
 pub step_letter-requires-clause-within : goal.step_letter-requires-clause-within
 step_letter-requires-clause-within g c =
@@ -33,3 +35,15 @@ returns-in_default-clause-letters g c = λ so letters. lacked_begins _ _ (g.C.Ev
 
 pub returns-clause-letters : goal.returns-clause-letters
 returns-clause-letters g c = λ so letters. letter_begins _ _ _ _ letters _ _ (rw c.to_ascii_lowercase-letter.ensures.value at c.in-Some.ensures.found) (c.step_letter.ensures.begins so) (c.step_letter.ensures.alone so)
+
+pub returns-then-character-eq32-clause-whole : goal.returns-then-character-eq32-clause-whole
+returns-then-character-eq32-clause-whole g c = λ so. whole_asks _ _ _ _ _ _ _ (whole_same _ _ _ _ c.requires.underway)
+
+pub returns-then-character-eq42-clause-whole : goal.returns-then-character-eq42-clause-whole
+returns-then-character-eq42-clause-whole g c = λ so. whole_asks _ _ _ _ _ _ _ (c.recover_once.ensures.whole so)
+
+pub returns-in_default-clause-whole : goal.returns-in_default-clause-whole
+returns-in_default-clause-whole g c = λ so. whole_asks _ _ _ _ _ _ _ (whole_same _ _ _ _ c.requires.underway)
+
+pub returns-clause-whole : goal.returns-clause-whole
+returns-clause-whole g c = λ so. whole_asks _ _ _ _ _ _ _ (c.step_letter.ensures.whole so)

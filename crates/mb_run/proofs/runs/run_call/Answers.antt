@@ -8,13 +8,13 @@ use Rattle.mb_run.proofs.Waiting.{letter_may}
 use Rattle.mb_run.proofs.runs.run_call.Goals as goal
 
 pub returns-in-Ended-clause-whole : goal.returns-in-Ended-clause-whole
-returns-in-Ended-clause-whole g c = λ so. whole_then _ _ _ _ _ _ _ _ c.turns.invariant.whole (moved_whole _ _ _ _ _ _ _ _ c.turns.invariant.whole.underway (let low : c.args.caller < length c.turns.runners = omega (arith, c.requires.within, c.turns.invariant.size) in low) (ended_moves _ _ _ _ _ _ (rw c.turns.invariant.test at c.in-Ended.ensures.turns)) c.turn.ensures.right)
+returns-in-Ended-clause-whole g c = λ so. whole_then _ _ 0 0 _ _ _ _ _ _ c.turns.invariant.whole (moved_whole _ _ _ _ _ _ _ _ c.turns.invariant.whole.underway (let low : c.args.caller < length c.turns.runners = omega (arith, c.requires.within, c.turns.invariant.size) in low) (ended_moves _ _ _ _ _ _ (rw c.turns.invariant.test at c.in-Ended.ensures.turns)) c.turn.ensures.right)
 
 pub turns-smaller-in-Again : goal.turns-smaller-in-Again
 turns-smaller-in-Again g c = turned_less _ _ _ _ _ _ _ _ c.turns.invariant.whole.underway (let low : c.args.caller < length c.turns.runners = omega (arith, c.requires.within, c.turns.invariant.size) in low) (rw c.turns.invariant.test at c.in-Again.ensures.turns)
 
 pub turns-preserved-in-Again : goal.turns-preserved-in-Again
-turns-preserved-in-Again g c = record { whole = whole_then _ _ _ _ _ _ _ _ c.turns.invariant.whole (moved_whole _ _ _ _ _ _ _ _ c.turns.invariant.whole.underway (let low : c.args.caller < length c.turns.runners = omega (arith, c.requires.within, c.turns.invariant.size) in low) (again_moves _ _ _ _ _ _ (rw c.turns.invariant.test at c.in-Again.ensures.turns)) c.turn.ensures.right); size = length-set c.turns.runners c.args.caller c.turn.new.runner ∙ c.turns.invariant.size; origin = c.turn.ensures.origin ∙ c.turns.invariant.origin; test = c.turn.ensures.test ∙ c.turns.invariant.test }
+turns-preserved-in-Again g c = record { whole = whole_then _ _ 0 0 _ _ _ _ _ _ c.turns.invariant.whole (moved_whole _ _ _ _ _ _ _ _ c.turns.invariant.whole.underway (let low : c.args.caller < length c.turns.runners = omega (arith, c.requires.within, c.turns.invariant.size) in low) (again_moves _ _ _ _ _ _ (rw c.turns.invariant.test at c.in-Again.ensures.turns)) c.turn.ensures.right); size = length-set c.turns.runners c.args.caller c.turn.new.runner ∙ c.turns.invariant.size; origin = c.turn.ensures.origin ∙ c.turns.invariant.origin; test = c.turn.ensures.test ∙ c.turns.invariant.test }
 
 pub unreachable-requires : goal.unreachable-requires
 unreachable-requires g c = holder_has _ _ _ _ _ _ _ _ c.turns.invariant.whole.underway (let low : c.args.caller < length c.turns.runners = omega (arith, c.requires.within, c.turns.invariant.size) in low) c.in-Busy.holder (rw c.turns.invariant.test at c.in-Busy.ensures.turns) c.turn.ensures.right c.index-runners-holder.result (sym c.in_default-find_call.ensures)
@@ -29,7 +29,7 @@ pub turns-smaller : goal.turns-smaller
 turns-smaller g c = held_less _ _ _ _ _ _ _ _ c.turns.invariant.whole.underway (let low : c.args.caller < length c.turns.runners = omega (arith, c.requires.within, c.turns.invariant.size) in low) c.in-Busy.holder (rw c.turns.invariant.test at c.in-Busy.ensures.turns) c.turn.ensures.right _ _ _ (rw (c.turn.ensures.test ∙ c.turns.invariant.test) at c.if-not-run_holder.ensures.ran) c.run_holder.ensures.right
 
 pub turns-preserved : goal.turns-preserved
-turns-preserved g c = record { whole = (let one = whole_then _ _ _ _ _ _ _ _ c.turns.invariant.whole (moved_whole _ _ _ _ _ _ _ _ c.turns.invariant.whole.underway (let low : c.args.caller < length c.turns.runners = omega (arith, c.requires.within, c.turns.invariant.size) in low) (busy_moves _ _ _ _ _ _ _ (rw c.turns.invariant.test at c.in-Busy.ensures.turns)) c.turn.ensures.right) in whole_then _ _ _ _ _ _ _ _ one (moved_whole _ _ _ _ _ _ _ _ one.underway (holder_low _ _ _ _ _ _ _ _ c.turns.invariant.whole.underway (let low : c.args.caller < length c.turns.runners = omega (arith, c.requires.within, c.turns.invariant.size) in low) c.in-Busy.holder (rw c.turns.invariant.test at c.in-Busy.ensures.turns) c.turn.ensures.right) (ran_moves _ _ _ _ _ _ (rw (c.turn.ensures.test ∙ c.turns.invariant.test) at c.if-not-run_holder.ensures.ran)) c.run_holder.ensures.right)); size = length-set _ _ _ ∙ length-set c.turns.runners c.args.caller c.turn.new.runner ∙ c.turns.invariant.size; origin = c.run_holder.ensures.origin ∙ c.turn.ensures.origin ∙ c.turns.invariant.origin; test = c.run_holder.ensures.test ∙ c.turn.ensures.test ∙ c.turns.invariant.test }
+turns-preserved g c = record { whole = (let one = whole_then _ _ 0 0 _ _ _ _ _ _ c.turns.invariant.whole (moved_whole _ _ _ _ _ _ _ _ c.turns.invariant.whole.underway (let low : c.args.caller < length c.turns.runners = omega (arith, c.requires.within, c.turns.invariant.size) in low) (busy_moves _ _ _ _ _ _ _ (rw c.turns.invariant.test at c.in-Busy.ensures.turns)) c.turn.ensures.right) in whole_then _ _ 0 0 _ _ _ _ _ _ one (moved_whole _ _ _ _ _ _ _ _ one.underway (holder_low _ _ _ _ _ _ _ _ c.turns.invariant.whole.underway (let low : c.args.caller < length c.turns.runners = omega (arith, c.requires.within, c.turns.invariant.size) in low) c.in-Busy.holder (rw c.turns.invariant.test at c.in-Busy.ensures.turns) c.turn.ensures.right) (ran_moves _ _ _ _ _ _ (rw (c.turn.ensures.test ∙ c.turns.invariant.test) at c.if-not-run_holder.ensures.ran)) c.run_holder.ensures.right)); size = length-set _ _ _ ∙ length-set c.turns.runners c.args.caller c.turn.new.runner ∙ c.turns.invariant.size; origin = c.run_holder.ensures.origin ∙ c.turn.ensures.origin ∙ c.turns.invariant.origin; test = c.run_holder.ensures.test ∙ c.turn.ensures.test ∙ c.turns.invariant.test }
 
 pub give_up-requires : goal.give_up-requires
 give_up-requires g c = turn_gives_up _ _ _ _ _ _ _ _ _ c.turns.invariant.whole.underway (let low : c.args.caller < length c.turns.runners = omega (arith, c.requires.within, c.turns.invariant.size) in low) (rw c.turns.invariant.test at c.in-NoMemory.ensures.turns) c.turn.ensures.right

@@ -5,7 +5,7 @@ use Rattle.mb_run.proofs.runs.run_call.Given as goal
 
 abbrev pub invariant-turns : goal.invariant-turns
 invariant-turns g l = record {
-  whole : IsWhole l.calls (g.H.Hook.test l.fn.hook) (g.C.EventCore.sight l.fn.core) (g.C.EventCore.sight l.core) l.fn.runners l.runners;
+  whole : IsWhole l.calls (g.H.Hook.test l.fn.hook) 0 (g.C.EventCore.sight l.fn.core) (g.C.EventCore.sight l.core) l.fn.runners l.runners;
   size : length l.runners ≡ length l.fn.runners;
   origin : g.C.EventCore.origin l.core ≡ g.C.EventCore.origin l.fn.core;
   test : g.H.Hook.test l.hook ≡ g.H.Hook.test l.fn.hook;

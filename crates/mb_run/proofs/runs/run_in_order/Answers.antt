@@ -34,6 +34,7 @@ loop-made-preserved g c =
       size = length-set c.loop-made.runners c.made-item.result.caller c.run_holder.new.runner ∙ c.loop-made.invariant.size;
       rested = λ rested. rested_after _ _ _ _ _ c.loop-made.invariant.after c.made-item.result here _ low _ _ (rw c.loop-made.invariant.test at c.if-not-run_holder.ensures.ran).nears (c.loop-made.invariant.rested rested) ((rw c.loop-made.invariant.test at c.if-not-run_holder.ensures.tallied) refl);
       config = c.if-not-run_holder.ensures.ran.nears.acts.config ∙ c.loop-made.invariant.config;
+      seals = (let low = c.loop-made.invariant.seals in let fewer = c.if-not-run_holder.ensures.ran.nears.seals in omega (arith, low, fewer));
       origin = c.run_holder.ensures.origin ∙ c.loop-made.invariant.origin;
       test = c.run_holder.ensures.test ∙ c.loop-made.invariant.test;
     }
@@ -43,3 +44,6 @@ returns-clause-right g c = c.loop-made.invariant.after.underway.right
 
 pub returns-clause-taken : goal.returns-clause-taken
 returns-clause-taken g c = λ so rested. rested_end _ _ _ (c.loop-made.invariant.rested rested)
+
+pub returns-clause-seals : goal.returns-clause-seals
+returns-clause-seals g c = λ so. c.loop-made.invariant.seals

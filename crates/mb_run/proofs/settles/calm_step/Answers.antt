@@ -3,6 +3,7 @@ use Rattle.mb_edge.specs.Hooks.{nowhere}
 use Rattle.mb_run.specs.declared.answers.Stepped.TheVariants as stepped
 use Rattle.mb_run.proofs.Ending.{alone_keeps}
 use Rattle.mb_run.proofs.Lengthening.{no_step, one_step, stands_still}
+use Rattle.mb_run.proofs.Undue.{alone_undue}
 use Rattle.mb_run.proofs.settles.calm_step.Goals as goal
 
 pub returns-in-Idle-clause-keeps : goal.returns-in-Idle-clause-keeps
@@ -64,3 +65,33 @@ returns-in-Device-clause-forward g c = inr (no_step _ _ (c.in-Device.ensures.sta
 
 pub returns-in-NoMemory-clause-forward : goal.returns-in-NoMemory-clause-forward
 returns-in-NoMemory-clause-forward g c = inr (no_step _ _ (stands_still _ _ c.in-NoMemory.ensures.steps))
+
+pub returns-in-Idle-clause-seals : goal.returns-in-Idle-clause-seals
+returns-in-Idle-clause-seals g c = alone_undue (Some nowhere) _ _ c.recover_step.new.by stepped.Idle c.in-Idle.ensures.steps
+
+pub returns-in-Failed-clause-seals : goal.returns-in-Failed-clause-seals
+returns-in-Failed-clause-seals g c = alone_undue (Some nowhere) _ _ c.recover_step.new.by (stepped.Failed c.in-Failed.faults) c.in-Failed.ensures.steps
+
+pub returns-in-Resumed-clause-seals : goal.returns-in-Resumed-clause-seals
+returns-in-Resumed-clause-seals g c = alone_undue (Some nowhere) _ _ c.recover_step.new.by stepped.Resumed c.in-Resumed.ensures.steps
+
+pub returns-in-Device-clause-seals : goal.returns-in-Device-clause-seals
+returns-in-Device-clause-seals g c = alone_undue (Some nowhere) _ _ c.recover_step.new.by stepped.Device c.in-Device.ensures.steps
+
+pub returns-in-NoMemory-clause-seals : goal.returns-in-NoMemory-clause-seals
+returns-in-NoMemory-clause-seals g c = alone_undue (Some nowhere) _ _ c.recover_step.new.by stepped.NoMemory c.in-NoMemory.ensures.steps
+
+pub returns-in-Unwound-clause-seals : goal.returns-in-Unwound-clause-seals
+returns-in-Unwound-clause-seals g c = alone_undue (Some nowhere) _ _ c.recover_step.new.by (stepped.Unwound c.in-Unwound.field-0) c.in-Unwound.ensures.steps
+
+pub returns-in-Dropped-clause-seals : goal.returns-in-Dropped-clause-seals
+returns-in-Dropped-clause-seals g c = alone_undue (Some nowhere) _ _ c.recover_step.new.by stepped.Dropped c.in-Dropped.ensures.steps
+
+pub returns-in-Remounted-clause-seals : goal.returns-in-Remounted-clause-seals
+returns-in-Remounted-clause-seals g c = alone_undue (Some nowhere) _ _ c.recover_step.new.by stepped.Remounted c.in-Remounted.ensures.steps
+
+pub returns-in-Reopened-clause-seals : goal.returns-in-Reopened-clause-seals
+returns-in-Reopened-clause-seals g c = alone_undue (Some nowhere) _ _ c.recover_step.new.by stepped.Reopened c.in-Reopened.ensures.steps
+
+pub returns-in-Replayed-clause-seals : goal.returns-in-Replayed-clause-seals
+returns-in-Replayed-clause-seals g c = alone_undue (Some nowhere) _ _ c.recover_step.new.by (stepped.Replayed c.in-Replayed.field-0) c.in-Replayed.ensures.steps

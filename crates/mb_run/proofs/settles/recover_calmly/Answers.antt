@@ -10,7 +10,11 @@ pub steps-preserved : goal.steps-preserved
 steps-preserved g c = record {
   keeps = keeps_then _ _ _ c.steps.invariant.keeps c.calm_step.ensures.keeps;
   forward = forward_then _ _ _ c.steps.invariant.forward c.in_default.ensures.forward;
+  seals = (let low = c.steps.invariant.seals in let fewer = c.calm_step.ensures.seals in omega (arith, low, fewer));
   later = (let low = c.steps.invariant.later in let more = c.calm_step.ensures.later in omega (arith, low, more));
   origin = c.calm_step.ensures.origin ∙ c.steps.invariant.origin;
   right = c.calm_step.ensures.right;
 }
+
+pub returns-in-Some-clause-seals : goal.returns-in-Some-clause-seals
+returns-in-Some-clause-seals g c = let low = c.steps.invariant.seals in let fewer = c.calm_step.ensures.seals in omega (arith, low, fewer)
