@@ -10,7 +10,7 @@ use Rattle.mb_core_spec.specs.State.{CallerState, CoreState}
 use Rattle.mb_run.specs.CoreSight.{seat_of, sight_of}
 use Rattle.mb_run.specs.Events.{Answers}
 use Rattle.mb_run.specs.Sights.{Seat, is_new, one_if as one_more_if}
-use Rattle.mb_volume_core.proofs.Staying.{begun_now, floor_without, keeps_log, open_now, seat_now, stays_at}
+use Rattle.mb_volume_core.proofs.Staying.{begun_now, floor_without, keeps_log, marks_none, open_now, seat_now, stays_at}
 
 -- a call in flight without an entry is open
 pub open_is : (flying : Option Flight) (flight : Flight) → flying ≡ Some flight → flight.answered ≡ false → open_flight flying ≡ Some flight
@@ -41,6 +41,6 @@ module _ {F D : Type 0} (core new : CoreState F D) (caller : ℕ) (mine : Caller
         history = ap (λ (c : CoreState F D). c.journal.history) event;
         begun = omega (arith, begun_is, old_call);
         open_calls = omega (arith, opened, was, old_call);
-        log = keeps_log core new (ap (λ (c : CoreState F D). c.journal.sealed_at) event) (ap (λ (c : CoreState F D). c.journal.oplog) event);
+        log = keeps_log core new (ap (λ (c : CoreState F D). c.journal.sealed_at) event) (ap (λ (c : CoreState F D). c.journal.oplog) event) (marks_none core.journal.trail new.journal.trail (ap (λ (c : CoreState F D). c.journal.trail) event));
         floor = elim (floor_without caller core.floor) [ inl none ↦ inl (ap (λ (c : CoreState F D). c.floor) event ∙ none) | inr same ↦ inr (ap (λ (c : CoreState F D). c.floor) event ∙ same) ];
       }

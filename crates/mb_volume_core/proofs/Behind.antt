@@ -35,7 +35,7 @@ leaves_on caller flight old mid new flushed.One leaves written = subst (Leaves c
   answered = leaves.answered;
   mine = leaves.mine;
   counts = record { history = leaves.counts.history; begun = leaves.counts.begun; open_calls = leaves.counts.open_calls };
-  log = record { sealed_at = leaves.log.sealed_at; ops = leaves.log.ops };
+  log = record { sealed_at = leaves.log.sealed_at; ops = leaves.log.ops; trail = leaves.log.trail };
   floor = leaves.floor;
 })
 leaves_on caller flight old mid new flushed.Clean leaves written = subst (Leaves caller flight old) (sym written.1) leaves

@@ -15,6 +15,7 @@ use Rattle.mb_core_spec.specs.Right.{Right}
 use Rattle.mb_core_spec.specs.State.{CallerState, CoreState}
 use Rattle.mb_core_spec.specs.declared.stages.Stage.{Stage}
 use Rattle.mb_core_spec.specs.declared.stages.Stage.TheVariants as stage
+use Rattle.mb_core_spec.specs.declared.steps.Step.TheVariants as step
 use Rattle.mb_core_order.proofs.Readings.{flying_inside}
 use Rattle.mb_core_state.specs.Entering.{Enters as CoreEnters, GoesIn, HasEntry, HasTicketNow, IsCause, IsHandedOut, IsShut, LacksEntry, LacksTicket, begun_if, flight_if, reserved_by, waiting_if}
 use Rattle.mb_core_state.specs.declared.answers.Enter.{Enter as Entered}
@@ -27,7 +28,7 @@ use Rattle.mb_run.specs.Sights.{IsOld, Seat, flight_of, is_new, one_if as one_wh
 use Rattle.mb_volume_core.specs.Answers.{entered_as}
 use Rattle.mb_volume_core.proofs.Leaving.{gone, leaves_at, reply_of}
 use Rattle.mb_volume_core.proofs.Origins.{origin_of}
-use Rattle.mb_volume_core.proofs.Staying.{begun_now, floor_without, keeps_log, open_now, own_now, seat_now, set_same, set_twice, stays_at}
+use Rattle.mb_volume_core.proofs.Staying.{begun_now, floor_without, keeps_log, marks_none, marks_one, open_now, own_now, seat_now, set_same, set_twice, stays_at}
 
 -- the driver's call is one that the core takes
 pub may_call : {F D : Type 0} (core : CoreState F D) (caller : ℕ) (call : Call) → MayEnter (sight_of core) caller call → MayCall core caller call
@@ -163,7 +164,7 @@ module _ {F D : Type 0} (told : D → Option Image) (faults : D → ℕ) (core :
   handed_out new answer out None flies has = absurd has
   handed_out new answer out (Some flight) flies has =
       let made : CoreState F D = with_room (ended core caller mine new.cache.pins) new in
-      let leaves = leaves_at core caller mine here made flight flies has refl (stays_at core made caller (gone mine) refl refl refl refl refl) refl (keeps_log core made refl refl) (floor_without caller core.floor) in
+      let leaves = leaves_at core caller mine here made flight flies has refl (stays_at core made caller (gone mine) refl refl refl refl refl) refl (keeps_log core made refl refl (marks_none core.journal.trail core.journal.trail refl)) (floor_without caller core.floor) in
       (flight, subst (λ (c : CoreState F D). Leaves caller flight (sight_of core) (sight_of c)) (sym out.event) leaves, reply_of caller core.journal.history mine flight answer (r.orderly.answers caller mine here) flies has out.answer_is)
 
   given_up_if : (new : CoreState F D) (answer : Reply) (o : Option Flight) → mine.flight ≡ o → LacksEntry o
@@ -172,22 +173,22 @@ module _ {F D : Type 0} (told : D → Option Image) (faults : D → ℕ) (core :
       let made : CoreState F D = with_room (answered_by (beginning core caller mine given) caller (state None) (the_flight None) answer new.cache.pins) new in
       let stored = set_twice core.callers caller (state None) (gone (state None)) in
       subst (λ (c : CoreState F D). Answers caller (the_flight None) answer (sight_of core) (sight_of c)) (sym event)
-      (answers_at made (gone (state None)) stored None flies lacks refl (stays_at core made caller (gone (state None)) stored refl refl refl refl) answer refl refl (keeps_log core made refl refl) (floor_without caller core.floor))
+      (answers_at made (gone (state None)) stored None flies lacks refl (stays_at core made caller (gone (state None)) stored refl refl refl refl) answer refl refl (keeps_log core made refl refl (marks_none core.journal.trail core.journal.trail refl)) (floor_without caller core.floor))
   given_up_if new answer (Some flight) flies lacks event =
       let made : CoreState F D = with_room (answered_by core caller mine flight answer new.cache.pins) new in
       subst (λ (c : CoreState F D). Answers caller flight answer (sight_of core) (sight_of c)) (sym event)
-      (answers_at made (gone mine) refl (Some flight) flies lacks refl (stays_at core made caller (gone mine) refl refl refl refl refl) answer refl refl (keeps_log core made refl refl) (floor_without caller core.floor))
+      (answers_at made (gone mine) refl (Some flight) flies lacks refl (stays_at core made caller (gone mine) refl refl refl refl refl) answer refl refl (keeps_log core made refl refl (marks_none core.journal.trail core.journal.trail refl)) (floor_without caller core.floor))
 
   shut_if : (new : CoreState F D) (o : Option Flight) → mine.flight ≡ o → LacksEntry o → new ≡ with_room (waiting_if core caller mine given o) new → Begins caller (the_flight o) (sight_of core) (sight_of new)
   shut_if new None flies lacks event =
       let made : CoreState F D = with_room (beginning core caller mine given) new in
       subst (λ (c : CoreState F D). Begins caller (the_flight None) (sight_of core) (sight_of c)) (sym event)
-      (begins_at made (state None) refl None flies lacks refl (stays_at core made caller (state None) refl refl refl refl refl) (the_flight None) refl refl refl refl (keeps_log core made refl refl) refl)
+      (begins_at made (state None) refl None flies lacks refl (stays_at core made caller (state None) refl refl refl refl refl) (the_flight None) refl refl refl refl (keeps_log core made refl refl (marks_none core.journal.trail core.journal.trail refl)) refl)
   shut_if new (Some flight) flies lacks event =
       let made : CoreState F D = with_room core new in
       let stored = sym (set_same core.callers caller mine here) in
       subst (λ (c : CoreState F D). Begins caller flight (sight_of core) (sight_of c)) (sym event)
-      (begins_at made mine stored (Some flight) flies lacks refl (stays_at core made caller mine stored refl refl refl refl) flight flies refl lacks refl (keeps_log core made refl refl) refl)
+      (begins_at made mine stored (Some flight) flies lacks refl (stays_at core made caller mine stored refl refl refl refl) flight flies refl lacks refl (keeps_log core made refl refl (marks_none core.journal.trail core.journal.trail refl)) refl)
 
   -- the call is inside already
   stays_inside : (ticket : Ticket) → core.stage ≡ stage.Running → LacksEntry mine.flight → HasTicketNow core.incarnation mine.flight ticket → EntersInside (sight_of core) (sight_of core) caller given ticket
@@ -201,7 +202,7 @@ module _ {F D : Type 0} (told : D → Option Image) (faults : D → ℕ) (core :
       let with_ticket : Flight = record flight { ticket = Some ticket } in
       let has : mine.flight ≡ Some with_ticket = now.flies ∙ (let ticketed : Option Ticket → Option Flight = λ t. Some (record flight { ticket = t }) in ap ticketed now.held) in
       let begins : Begins caller with_ticket (sight_of core) (sight_of core) =
-      begins_at core mine stored (Some flight) now.flies unanswered refl (stays_at core core caller mine stored refl refl refl refl) with_ticket has refl unanswered refl (keeps_log core core refl refl) refl in
+      begins_at core mine stored (Some flight) now.flies unanswered refl (stays_at core core caller mine stored refl refl refl refl) with_ticket has refl unanswered refl (keeps_log core core refl refl (marks_none core.journal.trail core.journal.trail refl)) refl in
       let never : IsOld core.incarnation ((sight_of core).seats caller).flight → ⊥ = λ old.
       (let earlier : IfSome flight.ticket (λ (t : Ticket). t.incarnation < core.incarnation) = subst (IsOld core.incarnation) (ap (λ (s : Seat). s.flight) seat_is ∙ now.flies) old in
       let low : ticket.incarnation < core.incarnation = subst (λ (t : Option Ticket). IfSome t (λ (x : Ticket). x.incarnation < core.incarnation)) now.held earlier in
@@ -248,7 +249,8 @@ module _ {F D : Type 0} (told : D → Option Image) (faults : D → ℕ) (core :
       let made : CoreState F D = with_room (entering core caller (state mine.flight) flight ticket reserved) new in
       let is = anew.inside.ticket_is in
       let begins : Begins caller (record flight { ticket = Some ticket }) (sight_of core) (sight_of made) =
-      begins_at made now refl mine.flight refl lacks refl (stays_at core made caller now refl refl refl refl refl) (record flight { ticket = Some ticket }) refl refl (lacks_is mine.flight lacks) refl (keeps_log core made refl refl) refl in
+      begins_at made now refl mine.flight refl lacks refl (stays_at core made caller now refl refl refl refl refl) (record flight { ticket = Some ticket }) refl refl (lacks_is mine.flight lacks) refl
+      (keeps_log core made refl refl (marks_one core.journal.trail made.journal.trail (step.Entered ticket) refl refl)) refl in
       let kept = (r.orderly.undoable caller mine here).outside (outside running without) in
       let none : mine.pages ≡ no_pages = no_pages_of mine.pages kept.2 kept.3 in
       let pages_if : (o : Option Flight) → (state o).pages ≡ mine.pages = λ o. elim o as (λ x. (state x).pages ≡ mine.pages) [ None ↦ refl | Some f ↦ refl ] in

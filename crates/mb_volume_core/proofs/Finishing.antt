@@ -1,5 +1,5 @@
 -- A call that finishes.
-use Rattle.std.proofs.Common.{◌≡◌, ◌⊎◌, ◌∙◌, ◌+◌, inl, inr, ℕ, Bool, true, false, if◌then◌else◌, is_some, Option, None, Some, IfSome, List, length, slice_get, refl, ap, sym, subst, arith}
+use Rattle.std.proofs.Common.{◌≡◌, ◌⊎◌, ◌∙◌, ◌+◌, ◌++◌, ◌≤◌, inl, inr, ℕ, Bool, true, false, if◌then◌else◌, is_some, Option, None, Some, IfSome, List, length, slice_get, refl, ap, sym, subst, arith, length-append}
 use Rattle.std.proofs.lemmas.Bool.{cases_lt}
 use Rattle.std.proofs.lemmas.Option.{slice_get_within}
 use Rattle.std.specs.Prelude.{min, nat_le}
@@ -10,7 +10,9 @@ use Rattle.mb_kinds.specs.declared.faults.Ticket.{Ticket}
 use Rattle.mb_kinds.specs.declared.replies.Reply.{Reply}
 use Rattle.mb_kinds.specs.declared.replies.Reply.TheVariants as reply
 use Rattle.mb_edge.specs.Damage.{OpenCounts}
+use Rattle.mb_oplog.specs.declared.oplogs.Logged.{Logged}
 use Rattle.mb_tree.specs.declared.machines.Machine.{Machine}
+use Rattle.mb_tree.specs.declared.operations.FsOp.{FsOp}
 use Rattle.mb_tree.specs.declared.seats.Seat.{Seat as Session}
 use Rattle.mb_calls.specs.Performed.{AreAlike, IsAnsweredBy as WasAnswered, IsPlainReply, IsReadyFor as WasReady}
 use Rattle.mb_calls.specs.declared.performing.Ready.{Ready as PerformedReady}
@@ -18,7 +20,7 @@ use Rattle.mb_callers.specs.CallerLaws.{FloorMeetsNoStale}
 use Rattle.mb_callers.specs.Stale.{AllFresh, IsLeastStale}
 use Rattle.mb_core_spec.specs.Callers.{one_if}
 use Rattle.mb_core_spec.specs.Copies.{HoldsFloor, PagesState, TableCopy, shown}
-use Rattle.mb_core_spec.specs.Events.{floor_after, gathers_anew, staling, taken_back, with_room}
+use Rattle.mb_core_spec.specs.Events.{floor_after, gathers_anew, logged_op, staling, taken_back, with_room}
 use Rattle.mb_core_spec.specs.Flights.{IsMine}
 use Rattle.mb_core_spec.specs.Numbers.{is_open, open_flight}
 use Rattle.mb_core_spec.specs.Owed.{IsPlain}
@@ -27,6 +29,7 @@ use Rattle.mb_core_spec.specs.Right.{Right}
 use Rattle.mb_core_spec.specs.State.{CallerState, CoreState}
 use Rattle.mb_core_spec.specs.declared.ready.Ready.{Ready}
 use Rattle.mb_core_spec.specs.declared.stages.Stage.TheVariants as stage
+use Rattle.mb_core_spec.specs.declared.steps.Step.TheVariants as step
 use Rattle.mb_core_order.proofs.Keepings.{without_mine}
 use Rattle.mb_core_state.specs.Answers.{IsPresent}
 use Rattle.mb_core_state.specs.Finishing.{Finishes as EndsBy, IsLogged}
@@ -44,7 +47,7 @@ use Rattle.mb_volume_core.proofs.Answering.{open_is}
 use Rattle.mb_volume_core.proofs.Freshness.{holds_fresh}
 use Rattle.mb_volume_core.proofs.Gathering.{holds_ticket, last_begun, skipped}
 use Rattle.mb_volume_core.proofs.Origins.{origin_of}
-use Rattle.mb_volume_core.proofs.Staying.{begun_now, keeps_log, open_now, own_now, seat_now, some_at, stays_at}
+use Rattle.mb_volume_core.proofs.Staying.{begun_now, keeps_log, marks_one, open_now, own_now, seat_now, some_at, stays_at}
 
 -- ---- what was performed, as the core takes it
 
@@ -75,6 +78,12 @@ plain_as (reply.Refused e) is = tt
 plain_as (reply.Restart first second) is = absurd is
 plain_as reply.Device is = absurd is
 plain_as (reply.Failed count) is = absurd is
+
+-- ---- the log has one operation more at most
+
+one_more : (old new : List Logged) (op : Option FsOp) (pick : Option ℕ) → new ≡ old ++ logged_op op pick → length new ≤ length old + 1
+one_more old new None pick grown = let is = ap length grown in let all = length-append old (logged_op None pick) in omega (arith, is, all)
+one_more old new (Some op) pick grown = let is = ap length grown in let all = length-append old (logged_op (Some op) pick) in omega (arith, is, all)
 
 -- ---- it may finish
 
@@ -145,7 +154,8 @@ module _ {F D : Type 0} (told : D → Option Image) (faults : D → ℕ) (core :
           stays = stays_at core new caller anew stored (ap (λ (c : CoreState F D). c.config) event) (ap (λ (c : CoreState F D). c.journal.records) event) (ap (λ (c : CoreState F D). c.stage) event) (ap (λ (c : CoreState F D). c.incarnation) event);
           mine = seat_now core new caller anew stored of.mine of.here ∙ sym (ap seat_of of.here);
           counts = record { history = ap (λ (c : CoreState F D). c.journal.history) event; begun = omega (arith, begun_is); open_calls = omega (arith, opened) };
-          log = keeps_log core new (ap (λ (c : CoreState F D). c.journal.sealed_at) event) (ap (λ (c : CoreState F D). c.journal.oplog) event);
+          log = keeps_log core new (ap (λ (c : CoreState F D). c.journal.sealed_at) event) (ap (λ (c : CoreState F D). c.journal.oplog) event)
+              (marks_one core.journal.trail new.journal.trail (step.Stale ticket block) refl (ap (λ (c : CoreState F D). c.journal.trail) event));
           was = mine;
           floor = elim (taken_or of.mine.stales core.floor mine) [ inl none ↦ inl (ap (λ (c : CoreState F D). c.floor) event ∙ none) | inr taken ↦ inr (ap (λ (c : CoreState F D). c.floor) event ∙ taken) ];
           empty = ap pages_kept own;
@@ -186,6 +196,7 @@ module _ {F D : Type 0} (told : D → Option Image) (faults : D → ℕ) (core :
           begun = omega (arith, begun_is);
           open_calls = omega (arith, opened, was);
           sealed_at = ap (λ (c : CoreState F D). c.journal.sealed_at) event;
+          ops = one_more core.journal.oplog new.journal.oplog ready.op ready.pick (ap (λ (c : CoreState F D). c.journal.oplog) event);
           floor = ap (λ (c : CoreState F D). c.floor) event ∙ without_mine caller core.floor mine;
           trail = ap (λ (c : CoreState F D). c.journal.trail) event;
         }

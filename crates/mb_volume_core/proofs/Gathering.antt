@@ -27,7 +27,7 @@ use Rattle.mb_volume_core.proofs.Growing.{blocks_grow, tables_grow}
 use Rattle.mb_volume_core.proofs.Origins.{origin_of}
 use Rattle.mb_volume_core.proofs.Answering.{answered, open_is}
 use Rattle.mb_volume_core.proofs.Freshness.{holds_fresh, tests_fresh}
-use Rattle.mb_volume_core.proofs.Staying.{begun_now, keeps_log, open_now, own_now, seat_now, seated, stays_at}
+use Rattle.mb_volume_core.proofs.Staying.{begun_now, keeps_log, marks_none, open_now, own_now, seat_now, seated, stays_at}
 
 -- ---- what pages have
 
@@ -102,7 +102,7 @@ module _ {F D : Type 0} (told : D → Option Image) (faults : D → ℕ) (core :
           stays = stays_at core new ticket.caller grown stored (ap (λ (c : CoreState F D). c.config) event) (ap (λ (c : CoreState F D). c.journal.records) event) (ap (λ (c : CoreState F D). c.stage) event) (ap (λ (c : CoreState F D). c.incarnation) event);
           mine = seat_now core new ticket.caller grown stored mine here ∙ sym (ap seat_of here);
           counts = record { history = ap (λ (c : CoreState F D). c.journal.history) event; begun = omega (arith, begun_is); open_calls = omega (arith, opened) };
-          log = keeps_log core new (ap (λ (c : CoreState F D). c.journal.sealed_at) event) (ap (λ (c : CoreState F D). c.journal.oplog) event);
+          log = keeps_log core new (ap (λ (c : CoreState F D). c.journal.sealed_at) event) (ap (λ (c : CoreState F D). c.journal.oplog) event) (marks_none core.journal.trail new.journal.trail (ap (λ (c : CoreState F D). c.journal.trail) event));
           floor = ap (λ (c : CoreState F D). c.floor) event;
           same = λ was. ap pages_kept own ∙ sym (got.alike (sym was ∙ ap pages_kept here));
           stales = ap stales_of own ∙ sym (ap stales_of here);

@@ -10,6 +10,7 @@ use Rattle.mb_core_spec.specs.Events.{ended, leaving, taken_back, with_room}
 use Rattle.mb_core_spec.specs.Flights.{IsAnswered}
 use Rattle.mb_core_spec.specs.Numbers.{is_open, open_calls, open_flight}
 use Rattle.mb_core_spec.specs.State.{CallerState, CoreState}
+use Rattle.mb_core_spec.specs.declared.steps.Step.TheVariants as step
 use Rattle.mb_core_state.specs.Answers.{Leaving}
 use Rattle.mb_core_state.specs.declared.answers.Left.{Left}
 use Rattle.mb_core_state.specs.declared.answers.Left.TheVariants as left
@@ -18,7 +19,7 @@ use Rattle.mb_run.specs.CoreSight.{seat_of, sight_of}
 use Rattle.mb_run.specs.Events.{IsReplyOf, KeepsLog, Leaves, LeavesWith, Quits, Stays}
 use Rattle.mb_run.specs.Sights.{HasTicket, IsWaiting, Seat}
 use Rattle.mb_volume_core.proofs.Origins.{origin_of}
-use Rattle.mb_volume_core.proofs.Staying.{begun_now, floor_without, keeps_log, open_now, seat_now, seated, stays_at}
+use Rattle.mb_volume_core.proofs.Staying.{begun_now, floor_without, keeps_log, marks_none, marks_one, open_now, seat_now, seated, stays_at}
 
 -- the caller once its call ended
 abbrev pub gone : CallerState → CallerState
@@ -68,7 +69,7 @@ module _ {F D : Type 0} (core : CoreState F D) (caller : ℕ) (mine : CallerStat
         stays = stays_at core made caller (gone mine) refl refl refl refl refl;
         mine = ap (λ (s : Seat). s.flight) (seat_now core made caller (gone mine) refl mine here);
         history = refl;
-        log = keeps_log core made refl refl;
+        log = keeps_log core made refl refl (marks_none core.journal.trail core.journal.trail refl);
         trail = refl;
       } in
       subst (λ (c : CoreState F D). Quits caller (sight_of core) (sight_of c)) (sym event) quits
@@ -83,7 +84,8 @@ module _ {F D : Type 0} (core new : CoreState F D) (ticket : Ticket) (mine : Cal
   leaves_by answers here flight (left.Left answer) flies answered by =
       let made : CoreState F D = with_room (leaving core ticket.caller mine ticket new.cache.pins) new in
       let stays = stays_at core made ticket.caller (gone mine) refl refl refl refl refl in
-      let leaves = leaves_at core ticket.caller mine here made flight flies answered refl stays refl (keeps_log core made refl refl) (floor_without ticket.caller core.floor) in
+      let leaves = leaves_at core ticket.caller mine here made flight flies answered refl stays refl
+      (keeps_log core made refl refl (marks_one core.journal.trail made.journal.trail (step.Left ticket) refl refl)) (floor_without ticket.caller core.floor) in
       (by.0, (flight, subst (λ (c : CoreState F D). Leaves ticket.caller flight (sight_of core) (sight_of c)) (sym by.2) leaves, reply_of ticket.caller core.journal.history mine flight answer answers flies answered by.1))
 
   pub left_origin : (answer : Left) → Leaving core new ticket mine answer → origin_of new ≡ origin_of core

@@ -1,3 +1,4 @@
+pub mod Watching
 pub mod Orderly
 pub mod Origins
 pub mod Staying

@@ -22,6 +22,7 @@ use Rattle.mb_core_order.proofs.Readings.{flying_inside}
 use Rattle.mb_run.specs.CoreSight.{are_blocks_fresh, are_tables_fresh, is_block_fresh, is_fresh, pages_kept, seat_of, sight_of}
 use Rattle.mb_run.specs.Sights.{AreApart, IsOrderly, steps_left}
 use Rattle.mb_run.proofs.InTime.{InTime}
+use Rattle.mb_volume_core.proofs.Watching.{watched_since}
 
 -- ---- the moments of the entries
 
@@ -128,6 +129,7 @@ module _ {F D : Type 0} (told : D → Option Image) (faults : D → ℕ) (core :
   pub orderly : InTime (sight_of core) → IsOrderly (sight_of core)
   orderly seals = record {
     seals = seals;
+    covers = (let most = r.orderly.trailed.covers in let is = watched_since (length core.callers) core.config.threshold core.journal.history r.orderly.trailed.watch core.journal.trail r.orderly.trailed.folded in omega (arith, most, is));
     above = all_of (IsEntry core.config.start (core.config.start + (sight_of core).begun) (length core.config.callers)) (λ (entry : Entry). core.config.start < entry.moment) (λ entry is. is.above) core.journal.history r.orderly.numbered.entries;
     below = all_of (IsEntry core.config.start (core.config.start + (sight_of core).begun) (length core.config.callers)) (λ (entry : Entry). entry.moment ≤ core.config.start + (sight_of core).begun) (λ entry is. is.below) core.journal.history r.orderly.numbered.entries;
     apart = moments_apart core.journal.history r.orderly.numbered.pairs;

@@ -23,6 +23,7 @@ use Rattle.mb_core_spec.specs.Right.{Right}
 use Rattle.mb_core_spec.specs.State.{CallerState, CoreState}
 use Rattle.mb_core_spec.specs.declared.stages.Stage.{Stage}
 use Rattle.mb_core_spec.specs.declared.stages.Stage.TheVariants as stage
+use Rattle.mb_core_spec.specs.declared.steps.Step.TheVariants as step
 use Rattle.mb_tree.proofs.FiniteMaps.{one_or_not}
 use Rattle.mb_core_order.proofs.Beginning.{set_there}
 use Rattle.mb_core_order.proofs.Keepings.{insiders_set, no_floor}
@@ -41,6 +42,7 @@ use Rattle.mb_run.specs.Events.{Answers}
 use Rattle.mb_run.specs.Lengths.{Stands}
 use Rattle.mb_run.specs.Recovering.{EndsByDevice, GoOn, IsAtNone, IsPassed, IsTaken, Rolls, RunsFor, Steps, StrikesBy, Waits, awaits_remount}
 use Rattle.mb_run.specs.Served.{AreCounts, counted}
+use Rattle.mb_run.specs.Seals.{Marks}
 use Rattle.mb_run.specs.Sights.{recovers, steps_left}
 use Rattle.mb_run.specs.declared.answers.Stepped.TheVariants as stepped
 use Rattle.mb_run.proofs.Counting.{counted_goes, counted_taken}
@@ -50,7 +52,7 @@ use Rattle.mb_volume_core.proofs.Answering.{answered, open_is}
 use Rattle.mb_volume_core.proofs.Gathering.{last_begun}
 use Rattle.mb_volume_core.proofs.Origins.{origin_of}
 use Rattle.mb_volume_core.proofs.Standing.{ended_stands}
-use Rattle.mb_volume_core.proofs.Staying.{begun_now, floor_without, keeps_log, open_now, own_now, seated, some_at}
+use Rattle.mb_volume_core.proofs.Staying.{begun_now, floor_without, keeps_log, marks_one, marks_two, open_now, own_now, seated, some_at}
 
 -- ---- the crossings of the call that runs the step
 
@@ -149,7 +151,7 @@ module _ {F D : Type 0} (told : D → Option Image) (faults : D → ℕ) (core :
   -- ---- an event that touches no call
 
   module _ (event : CoreState F D) (is : new ≡ with_room event new) (config : event.config ≡ core.config) (incarnation : event.incarnation ≡ core.incarnation) (callers : event.callers ≡ core.callers) (floor : event.floor ≡ core.floor)
-      (history : event.journal.history ≡ core.journal.history) where
+      (history : event.journal.history ≡ core.journal.history) (trail : Marks core.journal.trail event.journal.trail) where
     callers_are : new.callers ≡ core.callers
     callers_are = ap (λ (c : CoreState F D). c.callers) is ∙ callers
 
@@ -163,7 +165,7 @@ module _ {F D : Type 0} (told : D → Option Image) (faults : D → ℕ) (core :
         begun = ap (λ (all : List CallerState). (sight_of (record core { callers = all })).begun) callers_are;
         open_calls = ap (λ (all : List CallerState). (sight_of (record core { callers = all })).open_calls) callers_are;
       };
-      log = record { sealed_at = ap (λ (c : CoreState F D). c.journal.sealed_at) is ∙ sealed_at; ops = subst (λ (c : CoreState F D). (sight_of c).ops ≤ ops) (sym is) shorter };
+      log = record { sealed_at = ap (λ (c : CoreState F D). c.journal.sealed_at) is ∙ sealed_at; ops = subst (λ (c : CoreState F D). (sight_of c).ops ≤ ops) (sym is) shorter; trail = subst (λ (c : CoreState F D). Marks core.journal.trail c.journal.trail) (sym is) trail };
       floor = inr (ap (λ (c : CoreState F D). c.floor) is ∙ floor);
     }
 
@@ -201,7 +203,8 @@ module _ {F D : Type 0} (told : D → Option Image) (faults : D → ℕ) (core :
             incarnation = ap (λ (c : CoreState F D). c.incarnation) event;
             seats = seats_kept ticket.caller mine now here stored refl;
             counts = record { history = ap (λ (c : CoreState F D). c.journal.history) event; begun = omega (arith, begun_is); open_calls = omega (arith, opened) };
-            log = keeps_log core new (ap (λ (c : CoreState F D). c.journal.sealed_at) event) (ap (λ (c : CoreState F D). c.journal.oplog) event);
+            log = keeps_log core new (ap (λ (c : CoreState F D). c.journal.sealed_at) event) (ap (λ (c : CoreState F D). c.journal.oplog) event)
+                (marks_one core.journal.trail new.journal.trail (step.Unwound ticket) refl (ap (λ (c : CoreState F D). c.journal.trail) event));
             floor = elim (floor_without ticket.caller core.floor) [ inl none ↦ inl (ap (λ (c : CoreState F D). c.floor) event ∙ none) | inr same ↦ inr (ap (λ (c : CoreState F D). c.floor) event ∙ same) ];
           };
           records = ap (λ (c : CoreState F D). c.journal.records) event;
@@ -241,7 +244,7 @@ module _ {F D : Type 0} (told : D → Option Image) (faults : D → ℕ) (core :
         let now = reopens_at core.stage _ _ is.0 in (
           (
             ap (λ (c : CoreState F D). recovers c.stage) is.1,
-            rolls (reopening core new.tables.opens) is.1 refl refl refl refl refl refl (recovers_at stage.Remounted now refl) refl refl (fewer_at stage.Remounted _ now (omega arith)),
+            rolls (reopening core new.tables.opens) is.1 refl refl refl refl refl (marks_one _ _ step.Reopened refl refl) refl (recovers_at stage.Remounted now refl) refl refl (fewer_at stage.Remounted _ now (omega arith)),
             ap (λ (c : CoreState F D). awaits_remount c.stage) is.1 ∙ sym (ap awaits_remount now),
             none_at phase.Reopen is.0 (λ still. still),
           ),
@@ -253,7 +256,7 @@ module _ {F D : Type 0} (told : D → Option Image) (faults : D → ℕ) (core :
           (
             ap (λ (c : CoreState F D). c.stage) is.1,
             ap (λ (c : CoreState F D). c.floor) is.1 ∙ floor_free now.0 now.1,
-            rolls (resuming core) is.1 refl refl refl refl refl refl (recovers_at (stage.Restored now.0) now.1 refl) refl refl (fewer_at (stage.Restored now.0) _ now.1 (omega (arith, most))),
+            rolls (resuming core) is.1 refl refl refl refl refl (marks_one _ _ step.Resumed refl refl) refl (recovers_at (stage.Restored now.0) now.1 refl) refl refl (fewer_at (stage.Restored now.0) _ now.1 (omega (arith, most))),
             ap awaits_remount now.1,
             none_at phase.Resume is.0 (λ still. still),
           ),
@@ -279,10 +282,10 @@ module _ {F D : Type 0} (told : D → Option Image) (faults : D → ℕ) (core :
     drop_comes : (answer : Recovered) → Drops core new answer → Comes answer
     drop_comes recovered.Dropped is =
         let now = drops_by (ops + 3) (omega arith) is.0 in
-        ((ap (λ (c : CoreState F D). recovers c.stage) is.2, rolls (dropping core) is.2 refl refl refl refl refl refl now.0 refl refl now.1, ap (λ (c : CoreState F D). awaits_remount c.stage) is.2 ∙ sym (drops_awaits is.0), none_at phase.Drop is.0 (λ still. still)), ap origin_of is.2)
+        ((ap (λ (c : CoreState F D). recovers c.stage) is.2, rolls (dropping core) is.2 refl refl refl refl refl (marks_one _ _ step.Dropped refl refl) refl now.0 refl refl now.1, ap (λ (c : CoreState F D). awaits_remount c.stage) is.2 ∙ sym (drops_awaits is.0), none_at phase.Drop is.0 (λ still. still)), ap origin_of is.2)
     drop_comes (recovered.Failed count) is =
         let now = drops_by 0 (omega arith) is.0 in
-        ((ap (λ (c : CoreState F D). c.stage) is.3, inl (ap (λ (c : CoreState F D). c.journal.records) is.3, waits (failing core) is.3 refl refl refl refl refl refl (omega arith), now.0, none_at phase.Drop is.0 (λ still. still))), ap origin_of is.3)
+        ((ap (λ (c : CoreState F D). c.stage) is.3, inl (ap (λ (c : CoreState F D). c.journal.records) is.3, waits (failing core) is.3 refl refl refl refl refl (marks_one _ _ (step.Failed (length core.journal.records)) refl refl) refl (omega arith), now.0, none_at phase.Drop is.0 (λ still. still))), ap origin_of is.3)
     drop_comes recovered.Idle is = absurd is
     drop_comes (recovered.Unwound ticket) is = absurd is
     drop_comes recovered.Remounted is = absurd is
@@ -320,7 +323,7 @@ module _ {F D : Type 0} (told : D → Option Image) (faults : D → ℕ) (core :
             (
               now,
               ap (λ (c : CoreState F D). c.stage) is.1.event,
-              rolls_shorter (remounting core new.cache.disk new.journal.oplog) is.1.event refl refl refl refl refl refl (recovers_at stage.Dropped now refl) refl (folds_short core.journal.oplog new.journal.oplog is.1.folds) (omega (arith, low)),
+              rolls_shorter (remounting core new.cache.disk new.journal.oplog) is.1.event refl refl refl refl refl (marks_one _ _ step.Remounted refl refl) refl (recovers_at stage.Dropped now refl) refl (folds_short core.journal.oplog new.journal.oplog is.1.folds) (omega (arith, low)),
               passed_at test Remount by after (subst (λ (p : Phase). CountsAt p by after) is.0 counts) (unfired_remount test struck by heard),
             ),
             ap origin_of is.1.event,
@@ -344,7 +347,7 @@ module _ {F D : Type 0} (told : D → Option Image) (faults : D → ℕ) (core :
           let low = now.3 in (
             (
               ap (λ (c : CoreState F D). recovers c.stage) again.event,
-              rolls (redoing (with_disk core new.cache.disk) logged.0 again.changes now.0) again.event refl refl refl refl refl refl (recovers_at (stage.Restored now.0) now.1 refl) refl refl (fewer_at (stage.Restored now.0) _ now.1 (omega (arith, low))),
+              rolls (redoing (with_disk core new.cache.disk) logged.0 again.changes now.0) again.event refl refl refl refl refl (marks_one _ _ (step.Replayed (now.0 + 1)) refl refl) refl (recovers_at (stage.Restored now.0) now.1 refl) refl refl (fewer_at (stage.Restored now.0) _ now.1 (omega (arith, low))),
               ap (λ (c : CoreState F D). awaits_remount c.stage) again.event ∙ sym (ap awaits_remount now.1),
               passed_at test Replay by after (subst (λ (p : Phase). CountsAt p by after) is.0 counts) (unfired_replay test struck by number heard),
             ),
@@ -389,7 +392,7 @@ module _ {F D : Type 0} (told : D → Option Image) (faults : D → ℕ) (core :
             let event = met.struck.2 in (
               (
                 ap (λ (c : CoreState F D). c.stage) event,
-                strikes (striking_at core at strokes) event (waits (striking_at core at strokes) event refl refl refl refl refl refl (omega arith)) at (ap (λ (c : CoreState F D). c.journal.records) event) met.point by are met.next met.tested counts,
+                strikes (striking_at core at strokes) event (waits (striking_at core at strokes) event refl refl refl refl refl (marks_one _ _ (step.Struck (length core.journal.records + 1)) refl refl) refl (omega arith)) at (ap (λ (c : CoreState F D). c.journal.records) event) met.point by are met.next met.tested counts,
               ),
               ap origin_of event,
             )
@@ -398,7 +401,8 @@ module _ {F D : Type 0} (told : D → Option Image) (faults : D → ℕ) (core :
             let event = met.struck.2 in (
               (
                 ap (λ (c : CoreState F D). c.stage) event,
-                inr (strikes (failing (striking_at core at strokes)) event (waits (failing (striking_at core at strokes)) event refl refl refl refl refl refl (omega arith)) at (ap (λ (c : CoreState F D). c.journal.records) event) met.point by are met.next met.tested counts),
+                inr (strikes (failing (striking_at core at strokes)) event (waits (failing (striking_at core at strokes)) event refl refl refl refl refl
+                    (marks_two _ _ (step.Struck (length core.journal.records + 1)) (step.Failed (length (striking_at core at strokes).journal.records)) refl refl refl) refl (omega arith)) at (ap (λ (c : CoreState F D). c.journal.records) event) met.point by are met.next met.tested counts),
               ),
               ap origin_of event,
             )

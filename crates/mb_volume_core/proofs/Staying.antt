@@ -1,5 +1,6 @@
 -- An event of one caller leaves the others as they are.
-use Rattle.std.proofs.Common.{◌≡◌, ◌≢◌, ◌⊎◌, inl, inr, ◌∙◌, List, [], ◌∷◌, ℕ, zero, suc, ◌+◌, ◌<◌, Option, None, Some, true, false, if◌then◌else◌, nat_eq, length, slice_get, slice_set, refl, ap, sym, arith}
+use Rattle.std.proofs.Common.{◌≡◌, ◌≢◌, ◌⊎◌, inl, inr, ◌∙◌, List, [], ◌∷◌, ◌++◌, ℕ, zero, suc, ◌+◌, ◌<◌, Option, None, Some, true, false, if◌then◌else◌, nat_eq, length, slice_get, slice_set, refl, ap, sym, arith, append_assoc}
+use Rattle.std.proofs.lemmas.List.{append-nil}
 use Rattle.std.proofs.lemmas.Option.{same_Some}
 use Rattle.mb_kinds.specs.declared.entries.Flight.{Flight}
 use Rattle.mb_core_spec.specs.Callers.{begun, one_if}
@@ -9,7 +10,9 @@ use Rattle.mb_core_spec.specs.State.{CallerState, CoreState}
 use Rattle.mb_core_order.proofs.Beginning.{set_here, set_there}
 use Rattle.mb_core_order.proofs.Overlays.{total_set}
 use Rattle.mb_run.specs.CoreSight.{pages_kept, seat_of, sight_of, stales_of}
+use Rattle.mb_core_spec.specs.declared.steps.Step.{Step}
 use Rattle.mb_run.specs.Events.{KeepsLog, Stays}
+use Rattle.mb_run.specs.Seals.{Marks, is_other}
 use Rattle.mb_run.specs.Sights.{limits_of}
 
 -- ---- a list of callers
@@ -75,7 +78,17 @@ module _ {F D : Type 0} (core after : CoreState F D) (caller : ℕ) (now : Calle
         ap (λ (callers : List CallerState). open_calls callers + one_if (is_open (open_flight mine.flight))) stored
         ∙ total_set (λ (one : CallerState). one_if (is_open (open_flight one.flight))) core.callers caller mine now here
 
--- ---- the operation log stays
+-- ---- the operation log stays, and the trace goes on
 
-pub keeps_log : {F D : Type 0} (core new : CoreState F D) → new.journal.sealed_at ≡ core.journal.sealed_at → new.journal.oplog ≡ core.journal.oplog → KeepsLog (sight_of core) (sight_of new)
-keeps_log core new sealed_at oplog = record { sealed_at = sealed_at; ops = let same : length new.journal.oplog ≡ length core.journal.oplog = ap length oplog in omega (arith, same) }
+pub keeps_log : {F D : Type 0} (core new : CoreState F D) → new.journal.sealed_at ≡ core.journal.sealed_at → new.journal.oplog ≡ core.journal.oplog → Marks core.journal.trail new.journal.trail → KeepsLog (sight_of core) (sight_of new)
+keeps_log core new sealed_at oplog trail = record { sealed_at = sealed_at; ops = (let same : length new.journal.oplog ≡ length core.journal.oplog = ap length oplog in omega (arith, same)); trail = trail }
+
+-- the trace stays, or has one step more
+pub marks_none : (old new : List Step) → new ≡ old → Marks old new
+marks_none old new same = record { steps = []; whole = same ∙ sym (append-nil old); others = tt }
+
+pub marks_one : (old new : List Step) (one : Step) → is_other one ≡ true → new ≡ old ++ one ∷ [] → Marks old new
+marks_one old new one is more = record { steps = one ∷ []; whole = more; others = (is, tt) }
+
+pub marks_two : (old new : List Step) (one other : Step) → is_other one ≡ true → is_other other ≡ true → new ≡ (old ++ one ∷ []) ++ other ∷ [] → Marks old new
+marks_two old new one other first last more = record { steps = one ∷ other ∷ []; whole = more ∙ append_assoc old (one ∷ []) (other ∷ []); others = (first, (last, tt)) }

@@ -1,11 +1,12 @@
 -- A call is struck.
-use Rattle.std.proofs.Common.{◌≡◌, ◌∙◌, List, ℕ, slice_get, refl, ap, sym, subst}
+use Rattle.std.proofs.Common.{◌≡◌, ◌∙◌, List, ℕ, ◌+◌, length, slice_get, refl, ap, sym, subst}
 use Rattle.mb_kinds.specs.declared.faults.Kind.{Kind}
 use Rattle.mb_kinds.specs.declared.faults.Ticket.{Ticket}
 use Rattle.mb_edge.specs.declared.strokes.Stroke.{Stroke}
 use Rattle.mb_core_spec.specs.Events.{with_room}
 use Rattle.mb_core_spec.specs.Recovery.{striking}
 use Rattle.mb_core_spec.specs.State.{CoreState}
+use Rattle.mb_core_spec.specs.declared.steps.Step.TheVariants as step
 use Rattle.mb_core_state.specs.Answers.{Strikes}
 use Rattle.mb_core_state.specs.declared.answers.Fault.{Fault}
 use Rattle.mb_core_state.specs.declared.answers.Fault.TheVariants as fault
@@ -14,7 +15,7 @@ use Rattle.mb_run.specs.CoreSight.{sight_of}
 use Rattle.mb_run.specs.Events.{FaultsWith, Strikes as StrikesSight}
 use Rattle.mb_run.specs.Sights.{IsTicketOf}
 use Rattle.mb_volume_core.proofs.Origins.{origin_of}
-use Rattle.mb_volume_core.proofs.Staying.{keeps_log, seated}
+use Rattle.mb_volume_core.proofs.Staying.{keeps_log, marks_one, seated}
 
 pub holds_ticket : {F D : Type 0} (core : CoreState F D) (ticket : Ticket) → IsTicketOf ((sight_of core).seats ticket.caller) ticket → HoldsTicket core ticket
 holds_ticket core ticket has =
@@ -30,7 +31,8 @@ module _ {F D : Type 0} (core new : CoreState F D) (ticket : Ticket) (kind : Kin
     incarnation = refl;
     seats = λ other. refl;
     counts = record { history = refl; begun = refl; open_calls = refl };
-    log = keeps_log core (with_room (striking core ticket kind nth strokes) new) refl refl;
+    log = keeps_log core (with_room (striking core ticket kind nth strokes) new) refl refl
+        (marks_one core.journal.trail (with_room (striking core ticket kind nth strokes) new).journal.trail (step.Struck (length core.journal.records + 1)) refl refl);
     floor = refl;
   }
 
