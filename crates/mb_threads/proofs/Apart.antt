@@ -21,7 +21,7 @@ use Rattle.mb_run.specs.CoreSight.{seat_of, sight_of}
 use Rattle.mb_run.specs.Drives.{HasEachMoment, IsBegun, IsDrivenApart}
 use Rattle.mb_run.specs.Recovering.{crossing_of}
 use Rattle.mb_run.specs.Served.{AreApart, AreSound, calls_of}
-use Rattle.mb_run.specs.Sights.{Limits, Seat, limits_of}
+use Rattle.mb_run.specs.Sights.{Limits, Seat, limits_of, undue_in}
 use Rattle.mb_turn.specs.Passes.{known}
 use Rattle.mb_run.proofs.InTime.{InTime}
 use Rattle.mb_volume_core.proofs.Orderly.{orderly}
@@ -84,8 +84,8 @@ module _ {F D : Type 0} (told : D → Option Image) (faults : D → ℕ) (core o
     | inr past ↦ subst AreApart (sym (none_other core.journal.records (length job.callers) caller recorded (omega (arith, past.1)))) tt
   ]
 
-  pub driven_apart : IsDrivenApart job (test_of tests) (sight_of old) (sight_of core)
-  driven_apart = record {
+  pub driven_apart : undue_in (sight_of core) ≤ undue_in (sight_of old) → IsDrivenApart job 0 (test_of tests) (sight_of old) (sight_of core)
+  driven_apart low = record {
     config = ap limits_of same;
     free = λ caller low. ap (λ (s : Seat). s.flight) (made caller (omega (arith, low, size))).seat;
     own_calls = λ caller low. (made caller low).calls;
@@ -97,4 +97,5 @@ module _ {F D : Type 0} (told : D → Option Image) (faults : D → ℕ) (core o
           (λ f is holds. subst (λ n. IfSome (test_of tests n) (λ fires. fires (crossing_of f) ≡ true)) (sym is) holds) (records_callers core.journal.records caller) (made caller low).sound.holds) recorded;
       apart = apart_by core.journal.records each_apart;
     };
+    seals = omega (arith, low);
   }

@@ -23,7 +23,8 @@ use std::thread::Threads;
 
 /// Runs the calls of a job over a core that was begun for it, each caller in a thread of its own with a fault injector
 /// of its own; `hooks` has one for each caller, in their order. Where memory suffices every call of the job has its
-/// entry, each caller's in its order, and none is in flight. It may wait for its threads.
+/// entry, each caller's in its order, and none is in flight. No checkpoint is taken but where one is due. It may wait for its
+/// threads.
 pub fn drive_threads<
     F: FileSys + Send,
     D: Disk + Send,
@@ -39,7 +40,7 @@ pub fn drive_threads<
     requires runnable { IsRunnable job.now }
     requires begun { IsBegun job.now (sight_of core.core) }
     requires hooks { length hooks.items ≡ length job.now.callers }
-    ensures driven { result.end ≢ end.NoMemory → IsDrivenApart job.now (test_of (map H.test hooks.items)) (sight_of core.core) (sight_of result.core.core) }
+    ensures driven { result.end ≢ end.NoMemory → IsDrivenApart job.now 0 (test_of (map H.test hooks.items)) (sight_of core.core) (sight_of result.core.core) }
     ensures ends { Ends (sight_of result.core.core).stage result.end }
     ensures first { result.core.core.first ≡ core.core.first }
     ensures config { result.core.core.config ≡ core.core.config }

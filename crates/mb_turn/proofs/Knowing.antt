@@ -1,5 +1,5 @@
 -- What follows what: a value after what a caller saw, and after what another caller gave.
-use Rattle.std.proofs.Common.{◌≡◌, ◌≢◌, ℕ, List, [], ◌++◌, sym, ap, refl, ◌∙◌}
+use Rattle.std.proofs.Common.{◌≡◌, ◌≢◌, ℕ, List, [], ◌++◌, sym, ap, refl, ◌∙◌, arith}
 use Rattle.std.specs.Prelude.{Option}
 use Rattle.std.proofs.lemmas.List.Elements.{filter-append}
 use Rattle.std.proofs.lemmas.List.{append-nil}
@@ -30,23 +30,25 @@ pub own_grows : (took now new : List Entry) (caller : ℕ) → Continues caller 
 own_grows took now new caller c e =
     ap (λ l. own l caller) c.whole ∙ own_added took c.new caller c.all_own ∙ ap (λ l. own took caller ++ l) (append_cancel took c.new new (sym c.whole ∙ e))
 
-module _ {T Origin : Type 0} (list : T → List Entry) (stand : T → ℕ → Option Stand) (origin : T → Origin) where
-  pub follows_itself : (caller : ℕ) (saw : T) → Follows list stand origin caller saw saw
-  follows_itself caller saw = record { same = refl; goes_on = ([], append-nil (list saw)); keeps_own = refl; stands = refl }
+module _ {T Origin : Type 0} (list : T → List Entry) (stand : T → ℕ → Option Stand) (origin : T → Origin) (tally : T → ℕ) where
+  pub follows_itself : (caller : ℕ) (saw : T) → Follows list stand origin tally caller saw saw
+  follows_itself caller saw = record { same = refl; goes_on = ([], append-nil (list saw)); keeps_own = refl; stands = refl; fewer = omega arith }
 
-  pub follows_trans : (caller : ℕ) (first then last : T) → Follows list stand origin caller first then → Follows list stand origin caller then last → Follows list stand origin caller first last
+  pub follows_trans : (caller : ℕ) (first then last : T) → Follows list stand origin tally caller first then → Follows list stand origin tally caller then last → Follows list stand origin tally caller first last
   follows_trans caller first then last f g = record {
     same = g.same ∙ f.same;
     goes_on = prefix_trans (list first) (list then) (list last) f.goes_on g.goes_on;
     keeps_own = g.keeps_own ∙ f.keeps_own;
     stands = g.stands ∙ f.stands;
+    fewer = omega (arith, f.fewer, g.fewer);
   }
 
   -- what one caller gives follows, for every other caller, what that one took
-  pub adds_follows : (caller other : ℕ) (took now : T) → other ≢ caller → Adds list stand origin caller took now → Follows list stand origin other took now
+  pub adds_follows : (caller other : ℕ) (took now : T) → other ≢ caller → Adds list stand origin tally caller took now → Follows list stand origin tally other took now
   adds_follows caller other took now apart a = record {
     same = a.same;
     goes_on = (a.entries.new, sym a.entries.whole);
     keeps_own = own_others (list took) (list now) caller other (λ e. apart (sym e)) a.entries;
     stands = a.others other apart;
+    fewer = a.fewer;
   }

@@ -74,10 +74,10 @@ module _ {T : Type 0} where
   head_each P [] p = tt
   head_each P (x ∷ xs) p = (p.0, tt)
 
-module _ {T Origin : Type 0} (list : T → List Entry) (stand : T → ℕ → Option Stand) (origin : T → Origin) where
-  from_follow : (a n : ℕ) (value : T) → Each (λ (x : Sight T). Follows list stand origin x.caller x.value value) (sights_from a n value)
+module _ {T Origin : Type 0} (list : T → List Entry) (stand : T → ℕ → Option Stand) (origin : T → Origin) (tally : T → ℕ) where
+  from_follow : (a n : ℕ) (value : T) → Each (λ (x : Sight T). Follows list stand origin tally x.caller x.value value) (sights_from a n value)
   from_follow a zero value = tt
-  from_follow a (suc n) value = (follows_itself list stand origin a value, from_follow (a + 1) n value)
+  from_follow a (suc n) value = (follows_itself list stand origin tally a value, from_follow (a + 1) n value)
 
   only : {A : Type 0} (x v : A) (i : ℕ) → get_elem? (x ∷ []) i ≡ some v → x ≡ v
   only x v zero at = some-injective x v at
@@ -85,7 +85,7 @@ module _ {T Origin : Type 0} (list : T → List Entry) (stand : T → ℕ → Op
 
   -- a new table, with the value at home and one seat that has seen it for each caller
   pub opens : (key : Key T) (value : T) (count : ℕ) → count ≡ length (list value) → key.first.value ≡ value
-      → Kept list stand origin key (opening (0 ∷ count ∷ []) (Some value ∷ []) (first_view key))
+      → Kept list stand origin tally key (opening (0 ∷ count ∷ []) (Some value ∷ []) (first_view key))
   opens key value count is first = record {
     now = value;
     words = refl;
@@ -96,14 +96,14 @@ module _ {T Origin : Type 0} (list : T → List Entry) (stand : T → ℕ → Op
     apart = (λ c. let e = from_once c 0 key.callers key.first.value in omega arith);
     home = λ z. refl;
     fits = (λ id v at.
-        subst (Fits list stand origin key.callers value) (only (first_view key) v id at) (record {
-          sights = (let P : T → Type 0 = λ t. Each (λ (x : Sight T). Follows list stand origin x.caller x.value t) (sights_from 0 key.callers key.first.value) in subst P first (from_follow 0 key.callers key.first.value));
+        subst (Fits list stand origin tally key.callers value) (only (first_view key) v id at) (record {
+          sights = (let P : T → Type 0 = λ t. Each (λ (x : Sight T). Follows list stand origin tally x.caller x.value t) (sights_from 0 key.callers key.first.value) in subst P first (from_follow 0 key.callers key.first.value));
           numbers = from_below key.callers 0 key.callers key.first.value (omega arith);
           held_is = λ h. cc;
         }));
   }
 
-  pub splits : (key : Key T) (id : ℕ) (v : View T) → v.holds ≡ false → Splits (Kept list stand origin key) id v (tail_of v) (head_of v)
+  pub splits : (key : Key T) (id : ℕ) (v : View T) → v.holds ≡ false → Splits (Kept list stand origin tally key) id v (tail_of v) (head_of v)
   splits key id v idle s k at =
       let z : holding v ≡ 0 = ap one_if idle in
       let f = k.fits id v at in
@@ -119,14 +119,14 @@ module _ {T Origin : Type 0} (list : T → List Entry) (stand : T → ℕ → Op
         fits = (λ j u at'.
             ⊎_elim
             (λ old. ⊎_elim
-            (λ p. subst (Fits list stand origin key.callers k.now) p.1 (record { sights = tail_each _ v.sights f.sights; numbers = tail_each _ v.sights f.numbers; held_is = λ h. cc }))
+            (λ p. subst (Fits list stand origin tally key.callers k.now) p.1 (record { sights = tail_each _ v.sights f.sights; numbers = tail_each _ v.sights f.numbers; held_is = λ h. cc }))
             (λ p. k.fits j u p.1)
             (at_set s.views id j (tail_of v) u old))
-            (λ new. subst (Fits list stand origin key.callers k.now) new (record { sights = head_each _ v.sights f.sights; numbers = head_each _ v.sights f.numbers; held_is = λ h. cc }))
+            (λ new. subst (Fits list stand origin tally key.callers k.now) new (record { sights = head_each _ v.sights f.sights; numbers = head_each _ v.sights f.numbers; held_is = λ h. cc }))
             (at_snoc (set s.views id (tail_of v)) (head_of v) u j at'));
       }
 
-  pub joins : (key : Key T) (id : ℕ) (v : View T) (other : ℕ) (w : View T) → v.holds ≡ false → w.holds ≡ false → Joins (Kept list stand origin key) id v other w (both_of v w) blank
+  pub joins : (key : Key T) (id : ℕ) (v : View T) (other : ℕ) (w : View T) → v.holds ≡ false → w.holds ≡ false → Joins (Kept list stand origin tally key) id v other w (both_of v w) blank
   joins key id v other w idle idle' s k at apart at' =
       let z : holding v ≡ 0 = ap one_if idle in
       let z' : holding w ≡ 0 = ap one_if idle' in
@@ -144,16 +144,16 @@ module _ {T Origin : Type 0} (list : T → List Entry) (stand : T → ℕ → Op
         home = k.home;
         fits = (λ j u at''.
             ⊎_elim
-            (λ p. subst (Fits list stand origin key.callers k.now) p.1 (record { sights = tt; numbers = tt; held_is = λ h. cc }))
+            (λ p. subst (Fits list stand origin tally key.callers k.now) p.1 (record { sights = tt; numbers = tt; held_is = λ h. cc }))
             (λ p. ⊎_elim
-            (λ q. subst (Fits list stand origin key.callers k.now) q.1 (record { sights = each_append _ v.sights w.sights f.sights g.sights; numbers = each_append _ v.sights w.sights f.numbers g.numbers; held_is = λ h. cc }))
+            (λ q. subst (Fits list stand origin tally key.callers k.now) q.1 (record { sights = each_append _ v.sights w.sights f.sights g.sights; numbers = each_append _ v.sights w.sights f.numbers g.numbers; held_is = λ h. cc }))
             (λ q. k.fits j u q.1)
             (at_set s.views id j (both_of v w) u p.1))
             (at_set (set s.views id (both_of v w)) other j blank u at''));
       }
 
   -- a seat with a sight of every caller leaves none that could have the turn
-  all_idle : (key : Key T) (s : State (Option T) (View T)) (k : Kept list stand origin key s) (id : ℕ) (v : View T) → get_elem? s.views id ≡ some v → v.holds ≡ false → width v ≡ key.callers
+  all_idle : (key : Key T) (s : State (Option T) (View T)) (k : Kept list stand origin tally key s) (id : ℕ) (v : View T) → get_elem? s.views id ≡ some v → v.holds ≡ false → width v ≡ key.callers
       → 0 < total holding s.views → ⊥
   all_idle key s k id v at idle all some_holds =
       let t = total_some holding s.views some_holds in
@@ -165,8 +165,8 @@ module _ {T Origin : Type 0} (list : T → List Entry) (stand : T → ℕ → Op
       omega arith
 
   pub closes : (key : Key T) (id : ℕ) (v : View T) (words : List ℕ) (slots : List (Option T)) → v.holds ≡ false → width v ≡ key.callers
-      → Final (Seen (Kept list stand origin key) id v) words slots
-      → (value : T) × (get_elem? slots 0 ≡ some (Some value)) × Each (λ (x : Sight T). Follows list stand origin x.caller x.value value) v.sights
+      → Final (Seen (Kept list stand origin tally key) id v) words slots
+      → (value : T) × (get_elem? slots 0 ≡ some (Some value)) × Each (λ (x : Sight T). Follows list stand origin tally x.caller x.value value) v.sights
   closes key id v words slots idle all end =
       let s = end.0 in
       let k = end.1.0 in

@@ -1,5 +1,5 @@
 -- What a seat knows between the steps of one call, and what a pass's clauses say of its card and its seat.
-use Rattle.std.proofs.Common.{◌≡◌, ℕ, zero, suc, ◌+◌, Bool, true, false, List, [], ◌∷◌, ◌++◌, map, length, sym, ap, refl, ◌∙◌, subst, arith}
+use Rattle.std.proofs.Common.{◌≡◌, ◌≤◌, ℕ, zero, suc, ◌+◌, Bool, true, false, List, [], ◌∷◌, ◌++◌, map, length, sym, ap, refl, ◌∙◌, subst, arith}
 use Rattle.std.specs.Prelude.{Option, Some, None}
 use Rattle.std.proofs.lemmas.List.{length-map}
 use Rattle.std.proofs.lemmas.List.FromFn.{map-range_with_len_more}
@@ -32,14 +32,14 @@ module _ {A B : Type 0} (f : A → B) where
   each_mapped P [] p = tt
   each_mapped P (x ∷ xs) p = (p.0, each_mapped P xs p.1)
 
-module _ {T Origin : Type 0} (list : T → List Entry) (stand : T → ℕ → Option Stand) (origin : T → Origin) where
+module _ {T Origin : Type 0} (list : T → List Entry) (stand : T → ℕ → Option Stand) (origin : T → Origin) (tally : T → ℕ) where
   -- what `give` asks, of the card and of the seat
   pub adds_known : (table : TableId) (caller : ℕ) (saw value : T) (holds : Bool) (pass : Known T) → known table caller saw holds ≡ pass
-      → origin value ≡ origin pass.value → Continues pass.caller (list pass.value) (list value) → OthersStand stand pass.caller pass.value value
-      → Adds list stand origin caller saw value
-  adds_known table caller saw value holds pass is same entries others =
-      let P : Known T → Type 0 = λ p. Adds list stand origin p.caller p.value value in
-      subst P (sym is) (record { same = same; entries = entries; others = others })
+      → origin value ≡ origin pass.value → Continues pass.caller (list pass.value) (list value) → OthersStand stand pass.caller pass.value value → tally value ≤ tally pass.value
+      → Adds list stand origin tally caller saw value
+  adds_known table caller saw value holds pass is same entries others fewer =
+      let P : Known T → Type 0 = λ p. Adds list stand origin tally p.caller p.value value in
+      subst P (sym is) (record { same = same; entries = entries; others = others; fewer = fewer })
 
 module _ {T : Type 0} where
   pub has_slot : (me : Me (Option T) (View T)) (v : View T) (x : Option T) → me ≡ (v, (0, x) ∷ []) → me.1 ≡ (0, x) ∷ rest me.1
@@ -65,23 +65,23 @@ module _ {T : Type 0} where
       → Continues pass.caller (list pass.value) (list value) → list value ≡ list pass.value ++ new → own (list card.1) card.0 ≡ own (list pass.value) pass.caller ++ new
   grown list card value pass new is entries e = ap (λ (x : ℕ × T). own (list x.1) x.0) is ∙ own_grows (list pass.value) (list value) new pass.caller entries e
 
-module _ {T Origin : Type 0} (list : T → List Entry) (stand : T → ℕ → Option Stand) (origin : T → Origin) where
+module _ {T Origin : Type 0} (list : T → List Entry) (stand : T → ℕ → Option Stand) (origin : T → Origin) (tally : T → ℕ) where
   pub closed_with : (key : Key T) (id : ℕ) (me : Me (Option T) (View T)) (passes : List (Known T)) (words : List ℕ) (slots : List (Option T)) (x : Option T)
-      → me ≡ (idle (map sight_of_pass passes), []) → length passes ≡ key.callers → Final (Seen (Kept list stand origin key) id me.0) words slots → get_elem? slots 0 ≡ some x
-      → (value : T) × (x ≡ Some value) × Each (λ (pass : Known T). Follows list stand origin pass.caller pass.value value) passes
+      → me ≡ (idle (map sight_of_pass passes), []) → length passes ≡ key.callers → Final (Seen (Kept list stand origin tally key) id me.0) words slots → get_elem? slots 0 ≡ some x
+      → (value : T) × (x ≡ Some value) × Each (λ (pass : Known T). Follows list stand origin tally pass.caller pass.value value) passes
   closed_with key id me passes words slots x is all end at =
-      let P : Me (Option T) (View T) → Type 0 = λ m. Final (Seen (Kept list stand origin key) id m.0) words slots in
-      let r = closes list stand origin key id (idle (map sight_of_pass passes)) words slots refl (length-map passes sight_of_pass ∙ all) (subst P is end) in
-      (r.0, some-injective x (Some r.0) (sym at ∙ r.1), each_mapped sight_of_pass (λ (s : Sight T). Follows list stand origin s.caller s.value r.0) passes r.2)
+      let P : Me (Option T) (View T) → Type 0 = λ m. Final (Seen (Kept list stand origin tally key) id m.0) words slots in
+      let r = closes list stand origin tally key id (idle (map sight_of_pass passes)) words slots refl (length-map passes sight_of_pass ∙ all) (subst P is end) in
+      (r.0, some-injective x (Some r.0) (sym at ∙ r.1), each_mapped sight_of_pass (λ (s : Sight T). Follows list stand origin tally s.caller s.value r.0) passes r.2)
 
   -- the value that the last pass finds follows what each of them saw
   pub closed_at : (key : Key T) (id : ℕ) (me : Me (Option T) (View T)) (passes : List (Known T)) (words : List ℕ) (slots : List (Option T)) (x : Option T) (value : T)
-      → me ≡ (idle (map sight_of_pass passes), []) → length passes ≡ key.callers → Final (Seen (Kept list stand origin key) id me.0) words slots → get_elem? slots 0 ≡ some x → x ≡ Some value
-      → Each (λ (pass : Known T). Follows list stand origin pass.caller pass.value value) passes
+      → me ≡ (idle (map sight_of_pass passes), []) → length passes ≡ key.callers → Final (Seen (Kept list stand origin tally key) id me.0) words slots → get_elem? slots 0 ≡ some x → x ≡ Some value
+      → Each (λ (pass : Known T). Follows list stand origin tally pass.caller pass.value value) passes
   closed_at key id me passes words slots x value is all end at there =
       let r = closed_with key id me passes words slots x is all end at in
       let same : r.0 ≡ value = some_inside r.0 value (sym r.1 ∙ there) in
-      let P : T → Type 0 = λ v. Each (λ (pass : Known T). Follows list stand origin pass.caller pass.value v) passes in
+      let P : T → Type 0 = λ v. Each (λ (pass : Known T). Follows list stand origin tally pass.caller pass.value v) passes in
       subst P same r.2
     where
       some_inside : (a b : T) → Some a ≡ Some b → a ≡ b
@@ -89,10 +89,10 @@ module _ {T Origin : Type 0} (list : T → List Entry) (stand : T → ℕ → Op
 
   -- the same of the card that sees the value, and of the seat into whose slot the value goes
   pub adds_card : (caller number : ℕ) (saw value : T) (card : ℕ × T) (me : Me (Option T) (View T)) → card ≡ (number, value) → number ≡ caller
-      → Adds list stand origin caller saw value → me ≡ (held caller saw, (0, Some value) ∷ [])
-      → (took : T) × Adds list stand origin card.0 took card.1 × (me ≡ (held card.0 took, (0, Some card.1) ∷ []))
+      → Adds list stand origin tally caller saw value → me ≡ (held caller saw, (0, Some value) ∷ [])
+      → (took : T) × Adds list stand origin tally card.0 took card.1 × (me ≡ (held card.0 took, (0, Some card.1) ∷ []))
   adds_card caller number saw value card me is same adds seat =
       let e : card ≡ (caller, value) = is ∙ ap (λ (n : ℕ). (n, value)) same in
-      let P : ℕ × T → Type 0 = λ x. Adds list stand origin x.0 saw x.1 × (me ≡ (held x.0 saw, (0, Some x.1) ∷ [])) in
+      let P : ℕ × T → Type 0 = λ x. Adds list stand origin tally x.0 saw x.1 × (me ≡ (held x.0 saw, (0, Some x.1) ∷ [])) in
       let r = subst P (sym e) (adds, seat) in
       (saw, r.0, r.1)

@@ -35,17 +35,17 @@ module _ {T : Type 0} where
   apart_from caller [] z = tt
   apart_from caller (x ∷ xs) z = ((λ e. let h : one_if (eqb x.caller caller) ≡ 1 = holds_one _ (eq-eqb x.caller caller e) in absurd (omega arith)), apart_from caller xs (omega arith))
 
-module _ {T Origin : Type 0} (list : T → List Entry) (stand : T → ℕ → Option Stand) (origin : T → Origin) where
+module _ {T Origin : Type 0} (list : T → List Entry) (stand : T → ℕ → Option Stand) (origin : T → Origin) (tally : T → ℕ) where
   -- The rule after a change of one view, with new words, homes and value: the premises are the facts that differ
-  pub renewed : (key : Key T) (s : State (Option T) (View T)) (k : Kept list stand origin key s) (id : ℕ) (v w : View T) → get_elem? s.views id ≡ some v
+  pub renewed : (key : Key T) (s : State (Option T) (View T)) (k : Kept list stand origin tally key s) (id : ℕ) (v w : View T) → get_elem? s.views id ≡ some v
       → (words : List ℕ) (homes : List _) (now : T)
       → length words ≡ 2 → get_or words 1 0 ≡ length (list now) → get_or words 0 0 ≤ 1
       → holding w + get_or s.words 0 0 ≡ holding v + get_or words 0 0
       → width w ≡ width v → ((c : ℕ) → shares c w ≡ shares c v)
       → (get_or words 0 0 ≡ 0 → get_elem? homes 0 ≡ some (some (Some now)))
-      → Fits list stand origin key.callers now w
-      → ((j : ℕ) (u : View T) → j ≢ id → get_elem? s.views j ≡ some u → Fits list stand origin key.callers now u)
-      → Kept list stand origin key (record { words = words; homes = homes; views = set s.views id w })
+      → Fits list stand origin tally key.callers now w
+      → ((j : ℕ) (u : View T) → j ≢ id → get_elem? s.views j ≡ some u → Fits list stand origin tally key.callers now u)
+      → Kept list stand origin tally key (record { words = words; homes = homes; views = set s.views id w })
   renewed key s k id v w at words homes now two count turn hold wide share home here there = record {
     now = now;
     words = two;
@@ -55,16 +55,16 @@ module _ {T Origin : Type 0} (list : T → List Entry) (stand : T → ℕ → Op
     widths = (let e = total_set width s.views id v w at in let h = k.widths in omega arith);
     apart = (λ c. let e = total_set (shares c) s.views id v w at in let h = k.apart c in let i = share c in omega arith);
     home = home;
-    fits = (λ j u at'. ⊎_elim (λ p. subst (Fits list stand origin key.callers now) p.1 here) (λ p. there j u p.0 p.1) (at_set s.views id j w u at'));
+    fits = (λ j u at'. ⊎_elim (λ p. subst (Fits list stand origin tally key.callers now) p.1 here) (λ p. there j u p.0 p.1) (at_set s.views id j w u at'));
   }
 
   -- who has the turn finds word 0 at 1 and saw the value that the rule speaks of; no other view has the turn, or a sight of this caller
-  pub record Alone (key : Key T) (s : State (Option T) (View T)) (k : Kept list stand origin key s) (id caller : ℕ) (value : T) : Type 0 where
+  pub record Alone (key : Key T) (s : State (Option T) (View T)) (k : Kept list stand origin tally key s) (id caller : ℕ) (value : T) : Type 0 where
     pub turn : get_or s.words 0 0 ≡ 1
     pub same : value ≡ k.now
     pub others : (j : ℕ) (u : View T) → j ≢ id → get_elem? s.views j ≡ some u → (holding u ≡ 0) × Each (λ (x : Sight T). x.caller ≢ caller) u.sights
 
-  pub holds_alone : (key : Key T) (s : State (Option T) (View T)) (k : Kept list stand origin key s) (id caller : ℕ) (value : T)
+  pub holds_alone : (key : Key T) (s : State (Option T) (View T)) (k : Kept list stand origin tally key s) (id caller : ℕ) (value : T)
       → get_elem? s.views id ≡ some (held caller value) → Alone key s k id caller value
   holds_alone key s k id caller value at = record {
     turn = (let h = total_at holding s.views id (held caller value) at in let e = k.holders in let t = k.turn in omega arith);

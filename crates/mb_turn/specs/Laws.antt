@@ -28,6 +28,6 @@ abbrev pub OthersStay : Type 0
 OthersStay = (caller other : ℕ) (took now : List Entry) → caller ≢ other → Continues caller took now → own now other ≡ own took other
 
 -- what follows what follows a value follows that value
-abbrev pub FollowsComposes : {T Origin : Type 0} → (T → List Entry) → (T → ℕ → Option Stand) → (T → Origin) → Type 0
-FollowsComposes {T} list stand origin =
-    (caller : ℕ) (first second third : T) → Follows list stand origin caller first second → Follows list stand origin caller second third → Follows list stand origin caller first third
+abbrev pub FollowsComposes : {T Origin : Type 0} → (T → List Entry) → (T → ℕ → Option Stand) → (T → Origin) → (T → ℕ) → Type 0
+FollowsComposes {T} list stand origin tally =
+    (caller : ℕ) (first second third : T) → Follows list stand origin tally caller first second → Follows list stand origin tally caller second third → Follows list stand origin tally caller first third

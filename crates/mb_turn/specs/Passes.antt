@@ -1,6 +1,7 @@
 -- What a pass knows of the value behind its turn, and what that value may become while the pass has the turn.
--- A value stands for its entries (`list`), for a stand of each caller (`stand`), and for an origin that never changes (`origin`).
-use Rattle.std.specs.Prelude.{◌≡◌, ◌≢◌, ℕ, Bool, false, List, ◌++◌, map, Option, IsSomeAnd}
+-- A value stands for its entries (`list`), for a stand of each caller (`stand`), for an origin that never changes (`origin`), and
+-- for a number that no caller raises (`tally`).
+use Rattle.std.specs.Prelude.{◌≡◌, ◌≢◌, ◌≤◌, ℕ, Bool, false, List, ◌++◌, map, Option, IsSomeAnd}
 use Rattle.std.specs.List.{AllByRecursion, range_with_len}
 use mathlib.Core.List.{IsPrefix}
 use Rattle.atomic_table.specs.Seated.{TableId}
@@ -43,6 +44,9 @@ module _ {T : Type 0} where
   abbrev pub origin_of : {Origin : Type 0} → (T → Origin) → Known T → Origin
   origin_of origin pass = origin pass.value
 
+  abbrev pub tally_of : (T → ℕ) → Known T → ℕ
+  tally_of tally pass = tally pass.value
+
   -- its caller's stand
   abbrev pub stand_of : (T → ℕ → Option Stand) → Known T → Option Stand
   stand_of stand pass = stand pass.value pass.caller
@@ -69,16 +73,18 @@ pub record Continues (caller : ℕ) (took now : List Entry) : Type 0 where
   pub whole : now ≡ took ++ new
   pub all_own : Each (λ (entry : Entry). entry.caller ≡ caller) new
 
-module _ {T Origin : Type 0} (list : T → List Entry) (stand : T → ℕ → Option Stand) (origin : T → Origin) where
+module _ {T Origin : Type 0} (list : T → List Entry) (stand : T → ℕ → Option Stand) (origin : T → Origin) (tally : T → ℕ) where
   -- the value `now` is one that may come after what that caller saw
   pub record Follows (caller : ℕ) (saw now : T) : Type 0 where
     pub same : origin now ≡ origin saw
     pub goes_on : IsPrefix (list saw) (list now)
     pub keeps_own : own (list now) caller ≡ own (list saw) caller
     pub stands : stand now caller ≡ stand saw caller
+    pub fewer : tally now ≤ tally saw
 
   -- the value `now` is one that the caller may give back for the one that it took
   pub record Adds (caller : ℕ) (took now : T) : Type 0 where
     pub same : origin now ≡ origin took
     pub entries : Continues caller (list took) (list now)
     pub others : OthersStand stand caller took now
+    pub fewer : tally now ≤ tally took

@@ -66,10 +66,10 @@ module _ {T : Type 0} where
   abbrev pub first_view : Key T → View T
   first_view key = idle (sights_from 0 key.callers key.first.value)
 
-module _ {T Origin : Type 0} (list : T → List Entry) (stand : T → ℕ → Option Stand) (origin : T → Origin) where
+module _ {T Origin : Type 0} (list : T → List Entry) (stand : T → ℕ → Option Stand) (origin : T → Origin) (tally : T → ℕ) where
   -- a view of the value `now`: it follows what each sight saw, and the one that has the turn saw it whole
   pub record Fits (callers : ℕ) (now : T) (v : View T) : Type 0 where
-    pub sights : Each (λ (x : Sight T). Follows list stand origin x.caller x.value now) v.sights
+    pub sights : Each (λ (x : Sight T). Follows list stand origin tally x.caller x.value now) v.sights
     pub numbers : Each (λ (x : Sight T). x.caller < callers) v.sights
     pub held_is : v.holds ≡ true → (width v ≡ 1) × Each (λ (x : Sight T). x.value ≡ now) v.sights
 

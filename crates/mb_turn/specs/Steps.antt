@@ -9,11 +9,11 @@ use Rattle.mb_turn.specs.Rule.{free, held}
 use Rattle.mb_turn.specs.declared.sight.Sight.{Sight}
 use Rattle.mb_turn.specs.declared.sight.View.{View}
 
-module _ {T Origin : Type 0} (list : T → List Entry) (stand : T → ℕ → Option Stand) (origin : T → Origin) where
+module _ {T Origin : Type 0} (list : T → List Entry) (stand : T → ℕ → Option Stand) (origin : T → Origin) (tally : T → ℕ) where
   -- the turn was free, and the seat has it, with a value that follows what was seen; or nothing changed
   abbrev pub took : Me (Option T) (View T) → ℕ → Me (Option T) (View T) → Type 0
   took before word after =
-      Each (λ (x : Sight T). word ≡ 0 → (value : T) × Follows list stand origin x.caller x.value value × (after ≡ (held x.caller value, (0, Some value) ∷ []))) before.0.sights
+      Each (λ (x : Sight T). word ≡ 0 → (value : T) × Follows list stand origin tally x.caller x.value value × (after ≡ (held x.caller value, (0, Some value) ∷ []))) before.0.sights
       × (word ≢ 0 → after ≡ before)
 
 module _ {T : Type 0} where

@@ -19,6 +19,9 @@ pub trait Booked {
     // What its type alone says of every value.
     ghost always: { Self → Type 0 };
 
+    // A number that no caller raises.
+    ghost tally: { Self → ℕ };
+
     /// How many entries there are.
     fn entries(&self) -> u64
         ensures { result ≡ length (list self.now) };

@@ -17,5 +17,5 @@ pub fn own_entries()
 
 /// What follows what follows a value follows that value.
 pub fn follows_composes<T: Booked>()
-    ensures { FollowsComposes T.list T.stand T.origin }
+    ensures { FollowsComposes T.list T.stand T.origin T.tally }
 {}

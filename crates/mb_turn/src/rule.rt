@@ -13,7 +13,7 @@ pub struct Law<T> {
 }
 
 impl<T: Booked> TableRule<Option<T>, View<T>, Key<T>> for Law<T> {
-    ghost holds = { Kept T.list T.stand T.origin };
+    ghost holds = { Kept T.list T.stand T.origin T.tally };
 
     ghost first = { first_view };
 }
@@ -24,7 +24,7 @@ pub struct Take<T> {
 }
 
 impl<T: Booked> Play<Option<T>, View<T>> for Take<T> {
-    ghost then = { λ _ before word after. took T.list T.stand T.origin before word after };
+    ghost then = { λ _ before word after. took T.list T.stand T.origin T.tally before word after };
 }
 
 // The step that publishes the count of the value that is about to be given.

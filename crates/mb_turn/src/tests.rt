@@ -27,6 +27,8 @@ impl Booked for Book {
 
     ghost always = { λ _. Unit {0} };
 
+    ghost tally = { λ _. 0 };
+
     fn entries(&self) -> u64 {
         self.entries.len() as u64
     }

@@ -1,9 +1,9 @@
-ghost use Rattle.std.specs.Prelude.{◌≡◌, ◌≢◌, ℕ, ◌<◌, ◌+◌, true, false, List, [], ◌∷◌, ◌++◌, length, map, IfOk, IfErr, IsSome, Some, vec_len, vec_capacity};
+ghost use Rattle.std.specs.Prelude.{◌≡◌, ◌≢◌, ℕ, ◌≤◌, ◌<◌, ◌+◌, true, false, List, [], ◌∷◌, ◌++◌, length, map, IfOk, IfErr, IsSome, Some, vec_len, vec_capacity};
 ghost use Rattle.std.specs.List.{range_with_len};
 ghost use mathlib.Core.List.{IsPrefix};
 ghost use Rattle.mb_kinds.specs.Own.{own};
 ghost use Rattle.mb_kinds.specs.declared.Entry.{Entry};
-ghost use Rattle.mb_turn.specs.Passes.{Each, known, Continues, Follows, Adds, seen, mine, origin_of, stand_of, found, dealt};
+ghost use Rattle.mb_turn.specs.Passes.{Each, known, Continues, Follows, Adds, seen, mine, origin_of, tally_of, stand_of, found, dealt};
 ghost use Rattle.mb_turn.specs.Rule.{free, held, sight, idle, sights_from, sight_of_card, sight_of_pass};
 ghost use Rattle.mb_turn.specs.Steps.{tail_of, tail_sights, both_of};
 
@@ -73,6 +73,7 @@ impl<T: Booked> Turn<T> {
         requires table { pass.old.table ≡ self.now.table }
         requires free { pass.old.holds ≡ false }
         ensures origin { T.origin result ≡ origin_of T.origin pass.old }
+        ensures tally { T.tally result ≤ tally_of T.tally pass.old }
         ensures seen { IsPrefix (seen T.list pass.old) (T.list result) }
         ensures mine { own (T.list result) pass.old.caller ≡ mine T.list pass.old }
         ensures stand { T.stand result pass.old.caller ≡ stand_of T.stand pass.old }
@@ -86,11 +87,12 @@ impl<T: Booked> Turn<T> {
     }
 
     /// Puts the value home, which frees the turn. Since the pass took it, its caller alone added
-    /// entries, and no other caller's stand changed.
+    /// entries, no other caller's stand changed, and the value's tally was not raised.
     pub fn give(&self, pass: &mut Pass<T>, value: T)
         requires table { pass.old.table ≡ self.now.table }
         requires held { pass.old.holds ≡ true }
         requires origin { T.origin value ≡ origin_of T.origin pass.old }
+        requires tally { T.tally value ≤ tally_of T.tally pass.old }
         requires list { Continues pass.old.caller (seen T.list pass.old) (T.list value) }
         requires others { (other : ℕ) → other ≢ pass.old.caller → T.stand value other ≡ found T.stand pass.old other }
         requires stand { IsSome (T.stand value pass.old.caller) }
@@ -113,6 +115,7 @@ impl<T: Booked> Turn<T> {
         requires table { Each (λ pass. pass.table ≡ self.table) passes.items }
         requires free { Each (λ pass. pass.holds ≡ false) passes.items }
         ensures origin { Each (λ pass. T.origin result ≡ origin_of T.origin pass) passes.items }
+        ensures tally { Each (λ pass. T.tally result ≤ tally_of T.tally pass) passes.items }
         ensures seen { Each (λ pass. IsPrefix (seen T.list pass) (T.list result)) passes.items }
         ensures mine { Each (λ pass. own (T.list result) pass.caller ≡ mine T.list pass) passes.items }
         ensures stand { Each (λ pass. T.stand result pass.caller ≡ stand_of T.stand pass) passes.items }
@@ -212,7 +215,7 @@ fn win<T: Booked, R: Wait>(
     requires table { (seat.old.table_id ≡ shared.now.table_id) × (0 < shared.now.table_id.words) }
     requires seat { seat.old.me ≡ (free card.now.0 card.now.1, []) }
     ensures table { seat.new.table_id ≡ seat.old.table_id }
-    ensures won { (value : T) × Follows T.list T.stand T.origin card.now.0 card.now.1 value × (seat.new.me ≡ (held card.now.0 value, (0, Some value) ∷ [])) }
+    ensures won { (value : T) × Follows T.list T.stand T.origin T.tally card.now.0 card.now.1 value × (seat.new.me ≡ (held card.now.0 value, (0, Some value) ∷ [])) }
 {
     let _ = card;
     for _ in rt.forever() {
@@ -246,7 +249,7 @@ fn publish<T: Booked>(
 )
     requires table { (seat.old.table_id ≡ shared.now.table_id) × (1 < shared.now.table_id.words) }
     requires count { count ≡ length (T.list card.now.1) }
-    requires seat { (took : T) × Adds T.list T.stand T.origin card.now.0 took card.now.1 × (seat.old.me ≡ (held card.now.0 took, (0, Some card.now.1) ∷ [])) }
+    requires seat { (took : T) × Adds T.list T.stand T.origin T.tally card.now.0 took card.now.1 × (seat.old.me ≡ (held card.now.0 took, (0, Some card.now.1) ∷ [])) }
     ensures table { seat.new.table_id ≡ seat.old.table_id }
     ensures seat { seat.new.me ≡ (held card.now.0 card.now.1, (0, Some card.now.1) ∷ []) }
 {

@@ -1,5 +1,5 @@
 -- What one caller's event changes, and what it leaves to the others.
-use Rattle.std.proofs.Common.{◌≡◌, ◌≢◌, List, [], ◌∷◌, ◌++◌, ℕ, ◌<◌, Bool, true, false, cond, nat_eq, refl, ap, sym, ◌∙◌, subst, Some}
+use Rattle.std.proofs.Common.{◌≡◌, ◌≢◌, List, [], ◌∷◌, ◌++◌, ℕ, ◌<◌, ◌≤◌, Bool, true, false, cond, nat_eq, refl, ap, sym, ◌∙◌, subst, arith, Some}
 use Rattle.std.specs.Prelude.{IsSome, nat_lt}
 use Rattle.std.proofs.lemmas.Bool.{eq-eqb, lt-ltb, ltb-true}
 use Rattle.std.proofs.lemmas.List.{append-nil}
@@ -13,7 +13,7 @@ use Rattle.mb_kinds.specs.declared.faults.FaultRecord.{FaultRecord}
 use Rattle.mb_core_spec.specs.State.{records_of}
 use Rattle.mb_run.proofs.Lists.{neq}
 use Rattle.mb_run.specs.Events.{Stays}
-use Rattle.mb_run.specs.Sights.{Limits, Seat, Sight}
+use Rattle.mb_run.specs.Sights.{Limits, Seat, Sight, undue_in}
 use Rattle.mb_volume.specs.Parts.{Moves, Part, part_of, stand_if, stand_in}
 
 -- ---- fault records
@@ -83,35 +83,39 @@ moves_same caller s = record {
   more = [];
   records = sym (append-nil s.records);
   theirs = tt;
+  seals = omega arith;
 }
 
-pub moves_stays : (caller : ℕ) (old new : Sight) → Stays caller old new → new.history ≡ old.history → Moves caller old new
-moves_stays caller old new stays history = record {
+pub moves_stays : (caller : ℕ) (old new : Sight) → Stays caller old new → new.history ≡ old.history → undue_in new ≤ undue_in old → Moves caller old new
+moves_stays caller old new stays history seals = record {
   config = stays.config;
   seats = stays.seats;
   entries = record { new = []; whole = history ∙ sym (append-nil old.history); all_own = tt };
   more = [];
   records = stays.records ∙ sym (append-nil old.records);
   theirs = tt;
+  seals = seals;
 }
 
-pub moves_entry : (caller : ℕ) (old new : Sight) (entry : Entry) → Stays caller old new → entry.caller ≡ caller → new.history ≡ old.history ++ entry ∷ [] → Moves caller old new
-moves_entry caller old new entry stays mine history = record {
+pub moves_entry : (caller : ℕ) (old new : Sight) (entry : Entry) → Stays caller old new → entry.caller ≡ caller → new.history ≡ old.history ++ entry ∷ [] → undue_in new ≤ undue_in old → Moves caller old new
+moves_entry caller old new entry stays mine history seals = record {
   config = stays.config;
   seats = stays.seats;
   entries = record { new = entry ∷ []; whole = history; all_own = (mine, tt) };
   more = [];
   records = stays.records ∙ sym (append-nil old.records);
   theirs = tt;
+  seals = seals;
 }
 
 pub moves_records : (caller : ℕ) (old new : Sight) (more : List FaultRecord) → new.config ≡ old.config → ((other : ℕ) → new.seats other ≡ old.seats other) → new.history ≡ old.history → new.records ≡ old.records ++ more
-    → AllByRecursion (λ (fault : FaultRecord). fault.caller ≡ caller) more → Moves caller old new
-moves_records caller old new more config seats history records theirs = record {
+    → AllByRecursion (λ (fault : FaultRecord). fault.caller ≡ caller) more → undue_in new ≤ undue_in old → Moves caller old new
+moves_records caller old new more config seats history records theirs seals = record {
   config = config;
   seats = λ other apart. seats other;
   entries = record { new = []; whole = history ∙ sym (append-nil old.history); all_own = tt };
   more = more;
   records = records;
   theirs = theirs;
+  seals = seals;
 }

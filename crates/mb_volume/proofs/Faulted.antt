@@ -24,6 +24,7 @@ use Rattle.mb_volume.specs.Parts.{Moves, Part, part_of}
 use Rattle.mb_volume.specs.Underway.{AddsEntryIf, Comes, HoldsTicket, IsBegunIf, IsFlying, IsMet, IsStruck, IsUnderway, StandsAt}
 use Rattle.mb_volume.specs.declared.attempt.Attempt.{Attempt}
 use Rattle.mb_volume.specs.declared.events.Came.TheVariants as came
+use Rattle.mb_run.proofs.Undue.{faults_undue}
 use Rattle.mb_volume.proofs.Changing.{moves_records, records_push}
 use Rattle.mb_volume.proofs.Entered.{moves_nothing}
 use Rattle.mb_volume.proofs.Standing.{flying}
@@ -120,6 +121,7 @@ module _ (call : Call) (test : Option (Crossing → Bool)) (from : Part) (old : 
       pub moves_faults : (new : Sight) (answer : Fault) → FaultsWith old new ticket crossing.kind crossing.nth answer → Moves attempt.crossings.caller old new
       moves_faults new (fault.Skip mine was) faults = moves_nothing old new attempt.crossings.caller faults.1
       moves_faults new (fault.Struck number) faults = moves_records attempt.crossings.caller old new (taken ∷ []) faults.1.config faults.1.seats faults.1.counts.history faults.1.records (stood.mine, tt)
+          (faults_undue old new ticket crossing.kind crossing.nth (fault.Struck number) faults)
 
   module _ (ticket : Ticket) (holds : HoldsTicket attempt.at ticket) (struck : Option Crossing) (crossing : Crossing) (passed : Crossings) (met : IsMet test struck attempt crossing passed) where
     was_taken : IsTaken test attempt.crossings passed (record { caller = ticket.caller; ordinal = ticket.ordinal; kind = crossing.kind; nth = crossing.nth })

@@ -1,5 +1,5 @@
 -- One hold of the turn: what the pass's caller knows before it, under it and after it.
-use Rattle.std.proofs.Common.{◌≡◌, ◌≢◌, List, [], ℕ, ◌<◌, Bool, true, false, refl, ap, sym, subst, ◌∙◌, Option}
+use Rattle.std.proofs.Common.{◌≡◌, ◌≢◌, List, [], ℕ, ◌<◌, ◌≤◌, Bool, true, false, refl, ap, sym, subst, ◌∙◌, arith, Option}
 use Rattle.std.proofs.lemmas.List.{append-nil}
 use mathlib.Core.List.{IsPrefix}
 use Rattle.atomic_table.specs.Seated.{TableId}
@@ -14,7 +14,7 @@ use Rattle.mb_kinds.specs.declared.faults.Ticket.{Ticket}
 use Rattle.mb_run.specs.declared.runner.At.{At}
 use Rattle.mb_run.specs.declared.runner.At.TheVariants as at
 use Rattle.mb_run.specs.Served.{counted}
-use Rattle.mb_run.specs.Sights.{Limits, Sight, limits_of}
+use Rattle.mb_run.specs.Sights.{Limits, Sight, limits_of, undue_in}
 use Rattle.mb_turn.proofs.Lists.{prefix_trans}
 use Rattle.mb_turn.specs.Passes.{Continues, IsIdle, Known, known}
 use Rattle.mb_volume_core.proofs.Origins.{origin_of}
@@ -133,7 +133,7 @@ counted_leads {F} {D} call test old mid new before between after kind answer pas
     (subst (λ (p : Known (Shared F D)). Leads call test (part_in p) (part_in new) between after answer) pass leads)
 
 pub later_same : {F D : Type 0} (table : TableId) (pass : Known (Shared F D)) → IsIdle table pass → IsLater table pass pass
-later_same table pass idle = record { idle = idle; caller = refl; first = refl; config = refl; seen = ([], append-nil (seen_by pass).history) }
+later_same table pass idle = record { idle = idle; caller = refl; first = refl; config = refl; seen = ([], append-nil (seen_by pass).history); seals = omega arith }
 
 pub later_then : {F D : Type 0} (table : TableId) (first then last : Known (Shared F D)) → IsLater table first then → IsLater table then last → IsLater table first last
 later_then table first then last one other = record {
@@ -142,6 +142,7 @@ later_then table first then last one other = record {
   first = other.first ∙ one.first;
   config = other.config ∙ one.config;
   seen = prefix_trans (seen_by first).history (seen_by then).history (seen_by last).history one.seen other.seen;
+  seals = omega (arith, one.seals, other.seals);
 }
 
 -- ---- the answers of a hold
@@ -161,13 +162,15 @@ pub others_held : (now new : Sight) (mine caller : ℕ) → mine ≡ caller → 
 others_held now new mine caller same moves other apart = others_stand now new mine moves other (λ is. apart (is ∙ same))
 
 pub later_held : {F D : Type 0} (table : TableId) (old : Known (Shared F D)) (now new : Shared F D) → IsIdle table old → origin_of now.core.core ≡ origin_of old.value.core.core → origin_of new.core.core ≡ origin_of now.core.core
-    → IsPrefix (seen_by old).history (sight_of now.core.core).history → (mine : ℕ) → Continues mine (sight_of now.core.core).history (sight_of new.core.core).history → IsLater table old (known old.table old.caller new false)
-later_held {F} {D} table old now new idle one other saw mine more = record {
+    → IsPrefix (seen_by old).history (sight_of now.core.core).history → (mine : ℕ) → Continues mine (sight_of now.core.core).history (sight_of new.core.core).history
+    → undue_in (sight_of now.core.core) ≤ undue_in (seen_by old) → undue_in (sight_of new.core.core) ≤ undue_in (sight_of now.core.core) → IsLater table old (known old.table old.caller new false)
+later_held {F} {D} table old now new idle one other saw mine more fewer low = record {
   idle = (idle.0, refl);
   caller = refl;
   first = ap (λ (o : Origin D). o.first) (other ∙ one);
   config = ap (λ (o : Origin D). o.config) (other ∙ one);
   seen = goes_on mine (seen_by old).history (sight_of now.core.core).history (sight_of new.core.core).history saw more;
+  seals = omega (arith, fewer, low);
 }
 
 pub continues_same : (caller : ℕ) (list : List Entry) → Continues caller list list

@@ -1,5 +1,5 @@
 -- A call inside gathers and finishes; one that has its entry leaves.
-use Rattle.std.proofs.Common.{◌≡◌, [], ◌∷◌, ◌++◌, ℕ, ◌+◌, Bool, true, false, refl, ap, sym, subst, ◌∙◌, Option, None, Some}
+use Rattle.std.proofs.Common.{◌≡◌, [], ◌∷◌, ◌++◌, ℕ, ◌+◌, ◌≤◌, Bool, true, false, refl, ap, sym, subst, ◌∙◌, arith, Option, None, Some}
 use Rattle.mb_calls.specs.declared.performing.Performed.TheVariants as performed
 use Rattle.mb_calls.specs.declared.performing.Ready.{Ready}
 use Rattle.mb_core_spec.specs.Copies.{PagesState}
@@ -17,10 +17,11 @@ use Rattle.mb_kinds.specs.declared.faults.Ticket.{Ticket}
 use Rattle.mb_kinds.specs.declared.replies.Reply.{Reply}
 use Rattle.mb_kinds.specs.declared.replies.Reply.TheVariants as reply
 use Rattle.mb_run.proofs.Lists.{own_mine}
+use Rattle.mb_run.proofs.Undue.{gathers_undue, leaves_undue, logs_undue}
 use Rattle.mb_run.specs.Events.{Answers, Finishes, Gains, Gathers, IsCallOf, IsReadyAt, IsStale, Leaves, LeavesWith, Logs, SealsIf, entry_of}
 use Rattle.mb_run.specs.Pages.{HasTablesFor, Performs}
 use Rattle.mb_run.specs.Seals.{is_due}
-use Rattle.mb_run.specs.Sights.{HasTicket, Limits, Seat, Sight}
+use Rattle.mb_run.specs.Sights.{HasTicket, Limits, Seat, Sight, undue_in}
 use Rattle.mb_run.specs.declared.runner.At.TheVariants as at
 use Rattle.mb_volume.specs.Attempts.{back_out, going_in}
 use Rattle.mb_volume.specs.Parts.{Moves, Part, part_of}
@@ -43,9 +44,11 @@ sealed_part : (b : Bool) (caller : ℕ) (old new : Sight) → SealsIf b old new 
 sealed_part true caller old new seals = ap (λ (s : Sight). part_of s caller) seals
 sealed_part false caller old new seals = ap (λ (s : Sight). part_of s caller) seals
 
-sealed_moves : (b : Bool) (caller : ℕ) (old mid new : Sight) → SealsIf b mid new → Moves caller old mid → Moves caller old new
-sealed_moves true caller old mid new seals moves = subst (Moves caller old) (sym seals) (record { config = moves.config; seats = moves.seats; entries = moves.entries; more = moves.more; records = moves.records; theirs = moves.theirs })
-sealed_moves false caller old mid new seals moves = subst (Moves caller old) (sym seals) moves
+sealed_moves : (b : Bool) (caller : ℕ) (old mid new : Sight) → SealsIf b mid new → undue_in new ≤ undue_in old → Moves caller old mid → Moves caller old new
+sealed_moves true caller old mid new seals low moves =
+    subst (Moves caller old) (sym seals)
+    (record { config = moves.config; seats = moves.seats; entries = moves.entries; more = moves.more; records = moves.records; theirs = moves.theirs; seals = (let same = ap undue_in seals in omega (arith, same, low)) })
+sealed_moves false caller old mid new seals low moves = subst (Moves caller old) (sym seals) moves
 
 module _ (call : Call) (test : Option (Crossing → Bool)) (from : Part) (old : Sight) (attempt : Attempt) (u : IsUnderway call test from (part_of old attempt.crossings.caller) attempt) where
   -- the call has to enter again
@@ -185,19 +188,22 @@ module _ (old new : Sight) (ticket : Ticket) (caller : ℕ) (mine : ticket.calle
   moves_gathers need before now (gathered.Skip was is) has gathers = moves_nothing old new caller gathers.1
   moves_gathers need before now gathered.Device has gathers =
       let made : Answers caller has.flight reply.Device old new = subst (λ n. Answers n has.flight reply.Device old new) mine (gathers.1 has.flight has.here) in
-      moves_entry caller old new (entry_of caller has.flight None reply.Device) made.stays refl made.history
+      moves_entry caller old new (entry_of caller has.flight None reply.Device) made.stays refl made.history (gathers_undue old new ticket need before now gathered.Device has gathers)
   moves_gathers need before now gathered.NoMemory has gathers = moves_nothing old new caller gathers.0
-  moves_gathers need before now gathered.Done has gathers = let gains = subst (λ n. Gains n old new need before now) mine gathers.1 in moves_stays caller old new gains.stays gains.counts.history
+  moves_gathers need before now gathered.Done has gathers = let gains = subst (λ n. Gains n old new need before now) mine gathers.1 in moves_stays caller old new gains.stays gains.counts.history (gathers_undue old new ticket need before now gathered.Done has gathers)
 
-  pub moves_finishes : (pages : PagesState) (made : Call) (answer : Finished) → Finishes old new ticket pages made answer → Moves caller old new
-  moves_finishes pages made (finished.Skip was is) finishes = moves_nothing old new caller finishes.1
-  moves_finishes pages made (finished.Busy holder) finishes = moves_nothing old new caller finishes.3
-  moves_finishes pages made (finished.Stale block) finishes = let stale = subst (λ n. IsStale n old new pages) mine finishes.1 in moves_stays caller old new stale.stays stale.counts.history
-  moves_finishes pages made finished.NoMemory finishes = moves_nothing old new caller finishes.1
-  moves_finishes pages made finished.Logged finishes =
+  pub moves_finishes : (pages : PagesState) (made : Call) (answer : Finished) → undue_in new ≤ undue_in old → Finishes old new ticket pages made answer → Moves caller old new
+  moves_finishes pages made (finished.Skip was is) seals finishes = moves_nothing old new caller finishes.1
+  moves_finishes pages made (finished.Busy holder) seals finishes = moves_nothing old new caller finishes.3
+  moves_finishes pages made (finished.Stale block) seals finishes = let stale = subst (λ n. IsStale n old new pages) mine finishes.1 in moves_stays caller old new stale.stays stale.counts.history seals
+  moves_finishes pages made finished.NoMemory seals finishes = moves_nothing old new caller finishes.1
+  moves_finishes pages made finished.Logged seals finishes =
       let of = finishes.2 in
       let logs = subst (λ n. Logs n old of.logged ticket) mine of.logs in
-      sealed_moves (is_due of.logged.config.threshold of.logged.ops made) caller old of.logged new of.seals (moves_entry caller old of.logged (entry_of caller logs.flight logs.pick logs.answer) logs.stays refl logs.history)
+      sealed_moves (is_due of.logged.config.threshold of.logged.ops made) caller old of.logged new of.seals seals
+      (moves_entry caller old of.logged (entry_of caller logs.flight logs.pick logs.answer) logs.stays refl logs.history (logs_undue caller old of.logged ticket logs))
 
   pub moves_left : (answer : Reply) → LeavesWith old new ticket (left.Left answer) → Moves caller old new
-  moves_left answer leaves = let left = subst (λ n. Leaves n leaves.1.0 old new) mine leaves.1.1 in moves_stays caller old new left.stays left.counts.history
+  moves_left answer leaves =
+      let gone = subst (λ n. Leaves n leaves.1.0 old new) mine leaves.1.1 in
+      moves_stays caller old new gone.stays gone.counts.history (leaves_undue old new ticket (left.Left answer) leaves)

@@ -6,7 +6,7 @@ ghost use Rattle.mb_core_spec.specs.Right.{Right};
 ghost use Rattle.mb_core_spec.specs.State.{CallerState};
 ghost use Rattle.mb_run.specs.CoreSight.{sight_of};
 ghost use Rattle.mb_run.specs.Seals.{AreInTime};
-ghost use Rattle.mb_run.specs.Sights.{IsOrderly};
+ghost use Rattle.mb_run.specs.Sights.{IsOrderly, undue_in};
 ghost use Rattle.mb_volume.specs.Attempts.{without_pages};
 ghost use Rattle.mb_volume.specs.Parts.{Moves, part_of, stand_in};
 ghost use Rattle.mb_volume.specs.Passed.{Marks};
@@ -37,7 +37,8 @@ struct Kept<F: FileSys, D: Disk> {
 }
 
 /// A core that callers share: what the turn keeps. Its entries are the core's history, the stand of a declared caller is
-/// what the core keeps of it, with its fault records, and its origin is the core's. Its checkpoints are taken in time.
+/// what the core keeps of it, with its fault records, and its origin is the core's. Its checkpoints are taken in time, and its tally
+/// is how many of them were taken where none was due: no caller takes one.
 /// It lies on the heap, so that it goes from caller to caller as a pointer.
 pub struct SharedCore<F: FileSys, D: Disk> {
     kept: Box<Kept<F, D>>,
@@ -145,7 +146,8 @@ impl<F: FileSys, D: Disk> SharedCore<F, D> {
     }
 }
 
-/// A call that enters or leaves has gathered nothing; it swaps its pages for the spare ones, which have nothing in them either.
+/// A call that enters has gathered nothing, and one that leaves needs nothing of it any more: its pages are emptied, and
+/// swapped for the spare ones.
 fn swap_pages(spare: &mut Pages, attempt: &mut Attempt, event: &Event)
     requires { spare.old ≡ no_pages }
     ensures spare { spare.new ≡ no_pages }
@@ -178,6 +180,8 @@ impl<F: FileSys, D: Disk> Booked for SharedCore<F, D> {
 
     // the number of a caller's call has 32 bits
     ghost always = { λ s. s.core.core.config.most < 4294967296 };
+
+    ghost tally = { λ s. undue_in (sight_of s.core.core) };
 
     fn entries(&self) -> u64 {
         self.kept.core.core.history().len() as u64

@@ -1,11 +1,11 @@
-ghost use Rattle.std.specs.Prelude.{◌≡◌, ◌<◌, length, None, IfOk, IfErr, OnErr};
+ghost use Rattle.std.specs.Prelude.{◌≡◌, ◌<◌, ◌≤◌, length, None, IfOk, IfErr, OnErr};
 ghost use Rattle.std.specs.List.{AllByRecursion};
 ghost use mathlib.Core.List.{IsPrefix};
 ghost use Rattle.mb_kinds.specs.Own.{own};
 ghost use Rattle.mb_run.specs.CoreSight.{sight_of};
 ghost use Rattle.mb_run.specs.Rising.{RisesWith};
 ghost use Rattle.mb_run.specs.Seals.{AreInTime};
-ghost use Rattle.mb_run.specs.Sights.{IsOrderly};
+ghost use Rattle.mb_run.specs.Sights.{IsOrderly, undue_in};
 ghost use Rattle.mb_turn.specs.Passes.{IsIdle, dealt};
 ghost use Rattle.mb_volume.specs.Called.{IsAnsweredWith, IsGivenUp, TakesFaults};
 ghost use Rattle.mb_volume.specs.Parts.{stand_in};
@@ -120,6 +120,7 @@ impl<F: FileSys, D: Disk> Volume<F, D> {
         ensures seen { AllByRecursion (λ pass. IsPrefix (seen_by pass).history (sight_of result.core).history) passes.items }
         ensures mine { AllByRecursion (λ pass. own (sight_of result.core).history pass.caller ≡ (part_in pass).entries) passes.items }
         ensures stand { AllByRecursion (λ pass. stand_in (sight_of result.core) pass.caller ≡ stand_in (seen_by pass) pass.caller) passes.items }
+        ensures seals { AllByRecursion (λ pass. undue_in (sight_of result.core) ≤ undue_in (seen_by pass)) passes.items }
         ensures right { IsOrderly (sight_of result.core) }
     {
         let Volume { turn } = self;

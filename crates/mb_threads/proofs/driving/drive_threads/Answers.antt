@@ -1,9 +1,10 @@
 use denote.Param.Send.{sendable}
-use Rattle.std.proofs.Common.{◌≡◌, List, length, map, refl, ap, sym, subst, ◌∙◌, arith}
+use Rattle.std.proofs.Common.{◌≡◌, ◌≤◌, List, length, map, refl, ap, sym, subst, ◌∙◌, arith}
 use Rattle.std.proofs.Crossing.{crosses}
 use Rattle.std.specs.List.{AllByRecursion}
 use Rattle.mb_kinds.specs.Own.{own}
 use Rattle.mb_run.specs.CoreSight.{sight_of}
+use Rattle.mb_run.specs.Sights.{undue_in}
 use Rattle.mb_turn.specs.Passes.{IsIdle, Known}
 use Rattle.mb_volume.specs.Parts.{stand_in}
 use Rattle.mb_volume.specs.Passing.{part_in, seen_by}
@@ -11,7 +12,7 @@ use Rattle.mb_volume.specs.Shared.{Shared}
 use Rattle.mb_threads.specs.declared.worker.Worker.{Worker}
 use Rattle.mb_threads.proofs.Apart.{driven_apart, ready_new}
 use Rattle.mb_threads.proofs.Sending.{volume_sync, worker_send}
-use Rattle.mb_threads.proofs.Together.{caller_made, dealt_first, dealt_idle, dealt_long, done_idle, done_long, out_config, out_first, ready}
+use Rattle.mb_threads.proofs.Together.{caller_made, dealt_first, dealt_idle, dealt_long, done_idle, done_long, out_config, out_first, out_seals, ready}
 use Rattle.mb_threads.proofs.driving.drive_threads.Goals as goal
 
 pub close-requires-clause-all : goal.close-requires-clause-all
@@ -114,3 +115,10 @@ returns-clause-driven g c =
     (subst (AllByRecursion (λ (p : Known (Shared g.row.F.Denot g.row.D.Denot)). c.close-core.result.core.config ≡ p.value.core.core.config)) c.dismiss-passes.ensures.passes c.close-core.ensures.config)
     (c.dismiss-passes.ensures.stopped (c.end_of-end.ensures.whole going)) (subst (AllByRecursion (λ (p : Known (Shared g.row.F.Denot g.row.D.Denot)). own (sight_of c.close-core.result.core).history p.caller ≡ (part_in p).entries)) c.dismiss-passes.ensures.passes c.close-core.ensures.mine)
     (subst (AllByRecursion (λ (p : Known (Shared g.row.F.Denot g.row.D.Denot)). stand_in (sight_of c.close-core.result.core) p.caller ≡ stand_in (seen_by p) p.caller)) c.dismiss-passes.ensures.passes c.close-core.ensures.stand) refl caller (omega (arith, low, c.requires.begun.callers)))
+    (out_seals (λ (w : Worker g.row.F.Denot g.row.D.Denot g.row.H.Denot). w.pass) (λ (w : Worker g.row.F.Denot g.row.D.Denot g.row.H.Denot). g.H.Hook.test w.hook) (λ (w : Worker g.row.F.Denot g.row.D.Denot g.row.H.Denot). w.calls.now) (λ (w : Worker g.row.F.Denot g.row.D.Denot g.row.H.Denot). w.stopped)
+    c.in-Ok.started.0.table (record { core = c.args.core }) (sight_of c.args.core.core).config.callers c.args.job.now.calls (map g.H.Hook.test c.args.hooks.items) c.employ-workers.result.items (c.employ-workers.ensures.passes ∙ c.in-Ok.ensures.passes) c.employ-workers.ensures.hooks
+    (subst (λ cs. AllByRecursion (λ (w : Worker g.row.F.Denot g.row.D.Denot g.row.H.Denot). w.calls.now ≡ cs) c.employ-workers.result.items) c.as_slice.ensures c.employ-workers.ensures.calls)
+    c.each-workers.result.items c.each-workers.ensures.gives
+    c.close-core.result.core (subst (AllByRecursion (λ (p : Known (Shared g.row.F.Denot g.row.D.Denot)). c.close-core.result.core.first ≡ p.value.core.core.first)) c.dismiss-passes.ensures.passes c.close-core.ensures.first)
+    (subst (AllByRecursion (λ (p : Known (Shared g.row.F.Denot g.row.D.Denot)). c.close-core.result.core.config ≡ p.value.core.core.config)) c.dismiss-passes.ensures.passes c.close-core.ensures.config)
+    (subst (AllByRecursion (λ (p : Known (Shared g.row.F.Denot g.row.D.Denot)). undue_in (sight_of c.close-core.result.core) ≤ undue_in (seen_by p))) c.dismiss-passes.ensures.passes c.close-core.ensures.seals) c.in_order.ensures.orderly.bounds.some)

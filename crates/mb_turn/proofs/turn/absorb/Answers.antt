@@ -5,4 +5,4 @@ use Rattle.mb_turn.proofs.turn.absorb.Goals as goal
 
 pub join_seat-requires : goal.join_seat-requires
 join_seat-requires g c =
-    (search rules, search rules, search rules, search rules, joins _ _ _ _ _ _ _ _ c.requires.free.0 (ap (λ m. m.0.holds) c.into_seat.ensures.1))
+    (search rules, search rules, search rules, search rules, joins _ _ _ _ _ _ _ _ _ c.requires.free.0 (ap (λ m. m.0.holds) c.into_seat.ensures.1))

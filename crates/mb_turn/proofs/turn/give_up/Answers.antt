@@ -4,4 +4,4 @@ use Rattle.mb_turn.proofs.Holding.{gives_at}
 use Rattle.mb_turn.proofs.turn.give_up.Goals as goal
 
 pub store-requires : goal.store-requires
-store-requires g c = (search rules, search rules, gives_at _ _ _ _ _ _ _ _ _ c.requires.seat c.requires.table.2)
+store-requires g c = (search rules, search rules, gives_at _ _ _ _ _ _ _ _ _ _ c.requires.seat c.requires.table.2)

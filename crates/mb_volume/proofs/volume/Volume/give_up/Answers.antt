@@ -22,6 +22,12 @@ give-requires-clause-list g c =
     rw c.take-shared.ensures.pass (rw (sym same) (quit_moves c.args.pass.now.value.core.core c.take-shared.result.core.core c.args.pass.now.caller c.caller.result c.begun.result c.args.attempt.now.crossings.ordinal same
     c.begun.ensures c.if-begun-attempt.true c.take-shared.ensures.origin c.take-shared.ensures.mine c.take-shared.ensures.stand c.requires.waits c.quit.new.self.core.core c.quit.ensures.quit).entries)
 
+pub give-requires-clause-tally : goal.give-requires-clause-tally
+give-requires-clause-tally g c =
+    let same = c.caller.ensures ∙ ap (λ p. p.caller) c.take-shared.ensures.pass in
+    rw c.take-shared.ensures.pass (quit_moves c.args.pass.now.value.core.core c.take-shared.result.core.core c.args.pass.now.caller c.caller.result c.begun.result c.args.attempt.now.crossings.ordinal same
+    c.begun.ensures c.if-begun-attempt.true c.take-shared.ensures.origin c.take-shared.ensures.mine c.take-shared.ensures.stand c.requires.waits c.quit.new.self.core.core c.quit.ensures.quit).seals
+
 pub give-requires-clause-others : goal.give-requires-clause-others
 give-requires-clause-others g c =
     let same = c.caller.ensures ∙ ap (λ p. p.caller) c.take-shared.ensures.pass in
@@ -43,7 +49,9 @@ returns-then-begun-attempt-clause-later g c =
     (quit_from c.args.pass.now.value.core.core c.take-shared.result.core.core c.args.pass.now.caller c.caller.result c.begun.result c.args.attempt.now.crossings.ordinal same
     c.begun.ensures c.if-begun-attempt.true c.take-shared.ensures.origin c.take-shared.ensures.mine c.take-shared.ensures.stand c.requires.waits c.quit.new.self.core.core c.quit.ensures.quit)
     c.take-shared.ensures.seen _ (quit_moves c.args.pass.now.value.core.core c.take-shared.result.core.core c.args.pass.now.caller c.caller.result c.begun.result c.args.attempt.now.crossings.ordinal same
-    c.begun.ensures c.if-begun-attempt.true c.take-shared.ensures.origin c.take-shared.ensures.mine c.take-shared.ensures.stand c.requires.waits c.quit.new.self.core.core c.quit.ensures.quit).entries)
+    c.begun.ensures c.if-begun-attempt.true c.take-shared.ensures.origin c.take-shared.ensures.mine c.take-shared.ensures.stand c.requires.waits c.quit.new.self.core.core c.quit.ensures.quit).entries c.take-shared.ensures.tally
+    (quit_moves c.args.pass.now.value.core.core c.take-shared.result.core.core c.args.pass.now.caller c.caller.result c.begun.result c.args.attempt.now.crossings.ordinal same
+    c.begun.ensures c.if-begun-attempt.true c.take-shared.ensures.origin c.take-shared.ensures.mine c.take-shared.ensures.stand c.requires.waits c.quit.new.self.core.core c.quit.ensures.quit).seals)
 
 pub returns-then-begun-attempt-clause-quits : goal.returns-then-begun-attempt-clause-quits
 returns-then-begun-attempt-clause-quits g c =

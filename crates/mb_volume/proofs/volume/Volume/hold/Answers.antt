@@ -26,9 +26,12 @@ act-came-requires-clause-may g c =
 pub give-requires-clause-others : goal.give-requires-clause-others
 give-requires-clause-others g c = rw c.take-shared.ensures.pass (others_held _ _ _ _ c.requires.making.caller c.act-came.ensures.moves)
 
+pub give-requires-clause-tally : goal.give-requires-clause-tally
+give-requires-clause-tally g c = rw c.take-shared.ensures.pass c.act-came.ensures.moves.seals
+
 pub returns-clause-later : goal.returns-clause-later
 returns-clause-later g c =
-    rw (c.give.ensures.pass, c.take-shared.ensures.pass) (later_held _ c.args.pass.now c.take-shared.result _ c.requires.idle c.take-shared.ensures.origin c.act-came.ensures.origin c.take-shared.ensures.seen _ c.act-came.ensures.moves.entries)
+    rw (c.give.ensures.pass, c.take-shared.ensures.pass) (later_held _ c.args.pass.now c.take-shared.result _ c.requires.idle c.take-shared.ensures.origin c.act-came.ensures.origin c.take-shared.ensures.seen _ c.act-came.ensures.moves.entries c.take-shared.ensures.tally c.act-came.ensures.moves.seals)
 
 pub returns-clause-leads : goal.returns-clause-leads
 returns-clause-leads g c =
