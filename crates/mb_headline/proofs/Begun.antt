@@ -61,6 +61,7 @@ module _ {F D : Type 0} (fs : F) (first : D) (config : Config) (cache : CacheSta
     fresh = λ holder is runs. absurd (no_some holder is);
     open_calls = λ free. total_idle (length config.callers) _ refl;
     seals = record { few = (let due = good.due in omega (arith, due)); synced = tt };
+    covers = omega arith;
     dropped = λ failed. absurd (no_stage failed);
   }
 

@@ -41,7 +41,7 @@ rose_past count before middle now few rose low =
     let below : middle < 2 ^ 64 - 1 = omega (arith, less, low) in
     let most = few below in omega (arith, most, less)
 
-module _ {F D : Type 0} (fs : F) (told : D → Option Image) (faults : D → ℕ) (job : Job) (disk : D) (begun driven ended : CoreState F D) (path : IsPath fs told faults job disk begun driven ended) where
+module _ {F D : Type 0} (fs : F) (told : D → Option Image) (faults : D → ℕ) (asked : ℕ) (job : Job) (disk : D) (begun driven ended : CoreState F D) (path : IsPath fs told faults asked job disk begun driven ended) where
   callers_same : length ended.config.callers ≡ length driven.config.callers
   callers_same = ap (λ (limits : Limits). limits.callers) path.keeps.config
 
@@ -61,14 +61,14 @@ module _ {F D : Type 0} (fs : F) (told : D → Option Image) (faults : D → ℕ
 
     pub path_image : LeavesImage told job disk ended
     path_image image tree is volume =
-        let first : told ended.first ≡ Some image = path_first fs told faults job disk begun driven ended path ∙ is in
+        let first : told ended.first ≡ Some image = path_first fs told faults asked job disk begun driven ended path ∙ is in
         let now = told_now (told ended.cache.disk) (path.right.tells image first) in
         let held = (path.right.holds image now.0 tree first now.1 volume).checkpoint in
         let plain : under now.0 ended.cache.sealed ≡ now.0 = ap (under now.0) path_rest.sealed in
         let there : IsCheckpointed (opened job tree) tree image now.0 ended.journal.history ended.journal.sealed_at ended.tables.saved =
         subst (λ base. IsCheckpointed (opened job tree) tree image base ended.journal.history ended.journal.sealed_at ended.tables.saved) plain
         (subst (λ machine. IsCheckpointed machine tree image (under now.0 ended.cache.sealed) ended.journal.history ended.journal.sealed_at ended.tables.saved)
-        (path_opened fs told faults job disk begun driven ended path tree) held) in
+        (path_opened fs told faults asked job disk begun driven ended path tree) held) in
         (now.0, now.1, record { within = there.within; volume = there.volume; kept = there.kept })
 
     pub path_ends : IsDone job ended ⊎ IsGivenUp job ended
@@ -76,13 +76,13 @@ module _ {F D : Type 0} (fs : F) (told : D → Option Image) (faults : D → ℕ
       | inl runs ↦ inl (record {
         rest = path_rest;
         runs = runs;
-        few = subst (MayNumber (length ended.journal.records) job.limit) runs (path_few fs told faults job disk begun driven ended path);
+        few = subst (MayNumber (length ended.journal.records) job.limit) runs (path_few fs told faults asked job disk begun driven ended path);
         sealed_at = settled.sealed_at runs;
       })
       | inr failed ↦ inr (record {
         rest = path_rest;
         failed = failed;
-        many = subst (MayNumber (length ended.journal.records) job.limit) failed (path_few fs told faults job disk begun driven ended path);
+        many = subst (MayNumber (length ended.journal.records) job.limit) failed (path_few fs told faults asked job disk begun driven ended path);
       })
     ]
 
@@ -90,6 +90,6 @@ module _ {F D : Type 0} (fs : F) (told : D → Option Image) (faults : D → ℕ
   path_fewer right first rose low =
       let scanned : faults disk ≤ faults driven.first = subst (λ d. faults disk ≤ faults d) (sym first) path.over.over.scanned in
       let same : count_by (λ (entry : Entry). is_device entry.reply) ended.journal.history ≡ count_by (λ (entry : Entry). is_device entry.reply) driven.journal.history =
-      ap (count_by (λ (entry : Entry). is_device entry.reply)) (path_history fs told faults job disk begun driven ended path) in
+      ap (count_by (λ (entry : Entry). is_device entry.reply)) (path_history fs told faults asked job disk begun driven ended path) in
       let before = rose_past (count_by (λ (entry : Entry). is_device entry.reply) driven.journal.history) (faults driven.first) (faults driven.cache.disk) (faults ended.cache.disk) right.devices rose low in
       omega (arith, same, scanned, before)

@@ -6,6 +6,7 @@ use Rattle.mb_jobs.specs.declared.jobs.Job.{Job}
 use Rattle.mb_kinds.specs.declared.entries.Entry.{Entry}
 use Rattle.mb_run.specs.Drives.{IsDriven, IsDrivenApart, RisesByOrder, TakesByOrder}
 use Rattle.mb_run.specs.Letters.{AreLetters, letters_of}
+use Rattle.mb_run.specs.Orders.{asked_by}
 use Rattle.mb_run.specs.Served.{AreSound, AreSoundBy}
 use Rattle.mb_run.specs.Sights.{Sight}
 use Rattle.mb_kinds.specs.declared.faults.FaultRecord.{FaultRecord}
@@ -37,7 +38,7 @@ order_kept job old new law strikes letters runs drives = record {
 sound_by_all : (test : Option (Crossing → Bool)) (records : List FaultRecord) → AreSound test records → AreSoundBy (λ (caller : ℕ). test) records
 sound_by_all test records sound = record { holds = sound.holds; apart = sound.apart }
 
-pub driven_apart : (job : Job) (test : Option (Crossing → Bool)) (old new : Sight) → IsDriven job test old new → IsDrivenApart job (λ (caller : ℕ). test) old new
+pub driven_apart : (job : Job) (test : Option (Crossing → Bool)) (old new : Sight) → IsDriven job test old new → IsDrivenApart job (asked_by job.order) (λ (caller : ℕ). test) old new
 driven_apart job test old new drives = record {
   config = drives.config;
   free = drives.free;
@@ -45,4 +46,5 @@ driven_apart job test old new drives = record {
   begun = drives.begun;
   moments = drives.moments;
   sound = sound_by_all test new.records drives.sound;
+  seals = drives.seals;
 }

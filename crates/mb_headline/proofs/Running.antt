@@ -16,18 +16,19 @@ use Rattle.mb_kinds.specs.declared.replies.Reply.{Reply}
 use Rattle.mb_kinds.specs.declared.replies.Reply.TheVariants as reply
 use Rattle.mb_plan.specs.Fires.{fires}
 use Rattle.mb_plan.specs.declared.rules.Rule.{Rule}
-use Rattle.mb_run.specs.CoreSight.{seat_of}
+use Rattle.mb_run.specs.CoreSight.{seat_of, sight_of}
 use Rattle.mb_run.specs.Drives.{HasEachMoment}
-use Rattle.mb_run.specs.Sights.{Seat}
+use Rattle.mb_run.specs.Sights.{Seat, undue_in}
 use Rattle.mb_run.specs.Recovering.{crossing_of}
 use Rattle.mb_run.specs.Runs.{AreDistinct, HasFailed, HasRecords, NamesTwo}
-use Rattle.mb_run.specs.Seals.{AreInTime}
+use Rattle.mb_run.specs.Seals.{AreAskedFor, AreInTime}
 use Rattle.mb_run.specs.Served.{AreApart, AreSoundBy, IsApart, calls_in}
 use Rattle.mb_tree.specs.History.{Legal}
 use Rattle.mb_tree.specs.Opening.{opening}
 use Rattle.mb_tree.specs.declared.trees.Tree.{Tree}
 use Rattle.mb_headline.specs.Headline.{HasHistory, HasOrdinals, HasOwnCalls, IsConfigOf, IsRun, opened}
 use Rattle.mb_headline.specs.Laws.{IsEarly, IsPath}
+use Rattle.mb_run.proofs.Sealings.{none_undue}
 use Rattle.mb_headline.proofs.Planned.{fires_early}
 
 -- ---- what the disk tells
@@ -107,7 +108,7 @@ same_begun (mine ∷ now) (one ∷ old) each =
 
 -- ---- the path
 
-module _ {F D : Type 0} (fs : F) (told : D → Option Image) (faults : D → ℕ) (job : Job) (disk : D) (begun driven ended : CoreState F D) (path : IsPath fs told faults job disk begun driven ended) where
+module _ {F D : Type 0} (fs : F) (told : D → Option Image) (faults : D → ℕ) (asked : ℕ) (job : Job) (disk : D) (begun driven ended : CoreState F D) (path : IsPath fs told faults asked job disk begun driven ended) where
   pub path_first : told ended.first ≡ told disk
   path_first = ap told path.first ∙ path.over.over.first
 
@@ -166,7 +167,18 @@ module _ {F D : Type 0} (fs : F) (told : D → Option Image) (faults : D → ℕ
       let count = path.right.devices low in
       omega (arith, count, path_scanned)
 
-  pub path_run : AllByRecursion IsEarly job.plan → IsRun told faults job disk ended
+  -- nothing was taken when the core began
+  path_began : undue_in (sight_of begun) ≡ 0
+  path_began = ap (λ (core : CoreState F D). undue_in (sight_of core)) path.over.over.begun ∙ none_undue path.over.config.threshold []
+
+  path_checkpoints : AreAskedFor job.threshold asked ended.journal.history ended.journal.trail
+  path_checkpoints =
+      let driving = path.drives.seals in
+      let low = path.ends.few in
+      subst (λ n. AreAskedFor n asked ended.journal.history ended.journal.trail) path_config.threshold
+      (record { run = path.ends.run; few = omega (arith, path_began, driving, low); ends = path.ends.ends })
+
+  pub path_run : AllByRecursion IsEarly job.plan → IsRun told faults asked job disk ended
   path_run early = record {
     right = path.right;
     first = path_first;
@@ -179,4 +191,5 @@ module _ {F D : Type 0} (fs : F) (told : D → Option Image) (faults : D → ℕ
     failures = all_failed ended.journal.records job.limit ended.stage ended.journal.history path_few path_says;
     devices = path_devices;
     seals = subst (λ n. AreInTime n (length ended.journal.oplog) ended.journal.sealed_at ended.journal.history) path_config.threshold path.seals;
+    checkpoints = path_checkpoints;
   }

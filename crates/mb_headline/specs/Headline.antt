@@ -18,7 +18,7 @@ use Rattle.mb_run.specs.Drives.{HasEachMoment, IsLinedUp}
 use Rattle.mb_run.specs.Letters.{letters_of}
 use Rattle.mb_plan.specs.declared.rules.Rule.{Rule}
 use Rattle.mb_run.specs.Runs.{FirstsRise, HasFailed, HasRecords, HasTakenFaults}
-use Rattle.mb_run.specs.Seals.{AreInTime}
+use Rattle.mb_run.specs.Seals.{AreAskedFor, AreInTime}
 use Rattle.mb_run.specs.Served.{calls_in, calls_of}
 use Rattle.mb_tree.specs.History.{Legal, after_first}
 use Rattle.mb_tree.specs.Opening.{opening}
@@ -67,8 +67,9 @@ HasOrdinals job history = (caller : ℕ) → caller < length job.callers → Are
 -- a job that was run over a disk, however its callers were run: the core began over it for the job; its history is a legal one,
 -- in which each caller's calls stand once, in its order, with the ordinals from 1 on, each at one of the moments after the start;
 -- its fault records are of faults of the plan; the disk ended at most as many calls as it had faults; and checkpoints were taken in
--- time: since the last one no sync(2) was done and fewer operations than the threshold are logged, also where the volume failed
-pub record IsRun {F D : Type 0} (told : D → Option Image) (faults : D → ℕ) (job : Job) (disk : D) (core : CoreState F D) : Type 0 where
+-- time: since the last one no sync(2) was done and fewer operations than the threshold are logged, also where the volume failed.
+-- Where so many checkpoints were asked for, no more were taken where none was due, but for the one that ends the run
+pub record IsRun {F D : Type 0} (told : D → Option Image) (faults : D → ℕ) (asked : ℕ) (job : Job) (disk : D) (core : CoreState F D) : Type 0 where
   pub right : Right told faults core
   pub first : told core.first ≡ told disk
   pub config : IsConfigOf job core.config
@@ -80,6 +81,7 @@ pub record IsRun {F D : Type 0} (told : D → Option Image) (faults : D → ℕ)
   pub failures : AllByRecursion (λ (entry : Entry). HasFailed job.limit core.journal.records entry.reply) core.journal.history
   pub devices : FewDevices (faults disk) (faults core.cache.disk) core.journal.history
   pub seals : AreInTime job.threshold (length core.journal.oplog) core.journal.sealed_at core.journal.history
+  pub checkpoints : AreAskedFor job.threshold asked core.journal.history core.journal.trail
 
 -- in list order the faults of the plan are taken: a call with a plain reply met each that a rule has at its first fault points
 abbrev pub TakesPlanned : Option (List ℕ) → List Rule → List Entry → List FaultRecord → Type 0

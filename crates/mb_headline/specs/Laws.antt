@@ -18,9 +18,10 @@ use Rattle.mb_plan.specs.declared.rules.Rule.{Rule}
 use Rattle.mb_run.specs.CoreSight.{sight_of}
 use Rattle.mb_run.specs.Drives.{IsBegun, IsDriven, IsDrivenApart, IsRunnable}
 use Rattle.mb_run.specs.Letters.{AreLetters, letters_of}
+use Rattle.mb_run.specs.Orders.{asked_by}
 use Rattle.mb_run.specs.Runs.{AllStrike}
 use Rattle.mb_run.specs.Seals.{AreInTime}
-use Rattle.mb_run.specs.Settling.{IsSettled, Keeps}
+use Rattle.mb_run.specs.Settling.{IsSettled, Keeps, SealsAtEnd}
 use Rattle.mb_run.specs.Sights.{Sight}
 use Rattle.mb_headline.specs.Headline.{FewerDevices, IsConfigOf, IsDone, IsGivenUp, IsRun, KeepsOrder, LeavesImage}
 
@@ -59,9 +60,10 @@ pub record IsBegunFor {F D : Type 0} (told : D → Option Image) (faults : D →
   pub over : IsBegunOver told faults fs disk config core
   pub config_is : IsConfigOf job config
 
--- what one thread leaves of a job is what any driver of its callers leaves; each caller's fault injector is that thread's
+-- what one thread leaves of a job is what any driver of its callers leaves, where as many checkpoints were asked for as the job's
+-- order has; each caller's fault injector is that thread's
 abbrev pub DrivesApart : Type 0
-DrivesApart = (job : Job) (test : Option (Crossing → Bool)) (old new : Sight) → IsDriven job test old new → IsDrivenApart job (λ (caller : ℕ). test) old new
+DrivesApart = (job : Job) (test : Option (Crossing → Bool)) (old new : Sight) → IsDriven job test old new → IsDrivenApart job (asked_by job.order) (λ (caller : ℕ). test) old new
 
 -- what one thread leaves of such a job keeps the job's order, and the faults of its plan were taken
 abbrev pub DrivesKeepOrder : Type 0
@@ -72,30 +74,32 @@ DrivesKeepOrder = (job : Job) (old new : Sight)
 abbrev pub BegunRuns : (F D : Type 0) → (D → Option Image) → (D → ℕ) → Type 0
 BegunRuns F D told faults = (fs : F) (job : Job) (disk : D) (core : CoreState F D) → IsBegunFor told faults fs job disk core → core.stage ≡ stage.Running
 
--- a core that was begun over a disk for a job, the core that a driver of its callers left, and the core at the end
-pub record IsPath {F D : Type 0} (fs : F) (told : D → Option Image) (faults : D → ℕ) (job : Job) (disk : D) (begun driven ended : CoreState F D) : Type 0 where
+-- a core that was begun over a disk for a job, the core that a driver of its callers left, and the core at the end; so many
+-- checkpoints were asked for
+pub record IsPath {F D : Type 0} (fs : F) (told : D → Option Image) (faults : D → ℕ) (asked : ℕ) (job : Job) (disk : D) (begun driven ended : CoreState F D) : Type 0 where
   pub over : IsBegunFor told faults fs job disk begun
-  pub drives : IsDrivenApart job (λ (caller : ℕ). Some (fires job.plan)) (sight_of begun) (sight_of driven)
+  pub drives : IsDrivenApart job asked (λ (caller : ℕ). Some (fires job.plan)) (sight_of begun) (sight_of driven)
   pub first : ended.first ≡ begun.first
   pub same_config : ended.config ≡ begun.config
   pub keeps : Keeps (sight_of driven) (sight_of ended)
   pub seals : AreInTime ended.config.threshold (length ended.journal.oplog) ended.journal.sealed_at ended.journal.history
+  pub ends : SealsAtEnd (sight_of driven) (sight_of ended)
   pub right : Right told faults ended
 
 -- such a run is one of the job, where that is fit to be run
 abbrev pub PathsAreRuns : (F D : Type 0) → (D → Option Image) → (D → ℕ) → Type 0
-PathsAreRuns F D told faults = (fs : F) (job : Job) (disk : D) (begun driven ended : CoreState F D)
-    → IsFitJob job → IsPath fs told faults job disk begun driven ended → IsRun told faults job disk ended
+PathsAreRuns F D told faults = (fs : F) (asked : ℕ) (job : Job) (disk : D) (begun driven ended : CoreState F D)
+    → IsFitJob job → IsPath fs told faults asked job disk begun driven ended → IsRun told faults asked job disk ended
 
 -- where it was settled, it is done or the volume was given up, and the image is that of the last checkpoint
 abbrev pub PathsEnd : (F D : Type 0) → (D → Option Image) → (D → ℕ) → Type 0
-PathsEnd F D told faults = (fs : F) (job : Job) (disk : D) (begun driven ended : CoreState F D)
-    → IsPath fs told faults job disk begun driven ended → IsSettled (sight_of driven) (sight_of ended)
+PathsEnd F D told faults = (fs : F) (asked : ℕ) (job : Job) (disk : D) (begun driven ended : CoreState F D)
+    → IsPath fs told faults asked job disk begun driven ended → IsSettled (sight_of driven) (sight_of ended)
     → (IsDone job ended ⊎ IsGivenUp job ended) × LeavesImage told job disk ended
 
 -- where the disk failed in the end of the run, fewer calls than its faults were ended by the disk
 abbrev pub PathsFail : (F D : Type 0) → (D → Option Image) → (D → ℕ) → Type 0
-PathsFail F D told faults = (fs : F) (job : Job) (disk : D) (begun driven ended : CoreState F D)
-    → IsPath fs told faults job disk begun driven ended → Right told faults driven → driven.first ≡ begun.first
+PathsFail F D told faults = (fs : F) (asked : ℕ) (job : Job) (disk : D) (begun driven ended : CoreState F D)
+    → IsPath fs told faults asked job disk begun driven ended → Right told faults driven → driven.first ≡ begun.first
     → Rose (faults driven.cache.disk) (faults ended.cache.disk)
     → FewerDevices (faults disk) (faults ended.cache.disk) ended.journal.history

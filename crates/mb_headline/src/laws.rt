@@ -38,7 +38,8 @@ pub fn begun_runs<F, D: Disk>()
 {}
 
 /// What any driver leaves of such a core, and the end of a run after it, is a run of the job: one legal history, in which each
-/// caller's calls stand once, in its order, and the fault records of the plan.
+/// caller's calls stand once, in its order, and the fault records of the plan; and no checkpoint where none was due but those that
+/// were asked for and the one at the end.
 pub fn paths_are_runs<F, D: Disk>()
     ensures { PathsAreRuns F D D.told D.faults }
 {}

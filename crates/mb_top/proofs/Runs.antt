@@ -16,8 +16,9 @@ use Rattle.mb_plan.specs.Fires.{fires}
 use Rattle.mb_plan.specs.declared.rules.Rule.{Rule}
 use Rattle.mb_print.specs.Transcript.{end_text, failed_text}
 use Rattle.mb_run.specs.CoreSight.{sight_of}
-use Rattle.mb_run.specs.Drives.{IsDriven}
-use Rattle.mb_run.specs.Settling.{IsSettled, Keeps}
+use Rattle.mb_run.specs.Drives.{IsDriven, IsDrivenApart}
+use Rattle.mb_run.specs.Orders.{asked_by}
+use Rattle.mb_run.specs.Settling.{IsSettled, Keeps, SealsAtEnd}
 use Rattle.mb_run.specs.Sights.{IsOrderly}
 use Rattle.mb_volume_core.proofs.Origins.{origin_of}
 use Rattle.mb_volume_core.specs.declared.volume_core.Origin.{Origin}
@@ -26,12 +27,12 @@ use Rattle.mb_top.specs.declared.finish.Held.{Held}
 use Rattle.mb_top.specs.declared.finish.Held.TheVariants as held
 use Rattle.mb_top.specs.declared.manners.Manner.{Manner}
 use Rattle.mb_top.specs.declared.manners.Manner.TheVariants as manners
-use Rattle.mb_top.specs.Outcomes.{ComesOfCore, ComesOfJob, ComesOfRunWords, IsDiskFault, KeepsOrderIfAlone, IsDrivenFor, Says, told_text, unsettled_text}
+use Rattle.mb_top.specs.Outcomes.{ComesOfCore, ComesOfJob, ComesOfRunWords, IsAlone, IsDiskFault, KeepsOrderIfAlone, IsDrivenFor, asked_for, Says, told_text, unsettled_text}
 use Rattle.mb_top.specs.declared.outcomes.Outcome.{Outcome}
 use Rattle.mb_top.specs.declared.outcomes.Outcome.TheVariants.{WordsRefused, InputFault, JobRefused, DiskFault, OutOfMemory, Made, Checked, Unsound, Unsettled, GivenUp, Ran}
 
 comes_done : {D : Type 0} (told : D → Option Image) (faults : D → ℕ) (manner : Manner) (job : Job) (disk : D) (core : CoreState V7 D) (outcome : Outcome)
-    → IsRun told faults job disk core → KeepsOrderIfAlone manner job core → IsDone job core → LeavesImage told job disk core → Says Ran (told_text manner end_text job core) outcome → ComesOfCore told faults manner job disk core outcome
+    → IsRun told faults (asked_for manner job) job disk core → KeepsOrderIfAlone manner job core → IsDone job core → LeavesImage told job disk core → Says Ran (told_text manner end_text job core) outcome → ComesOfCore told faults manner job disk core outcome
 comes_done told faults manner job disk core outcome run order all left said =
     elim said [
       | inl is ↦ subst (ComesOfCore told faults manner job disk core) (sym is) (record { run = run; order = order; done = all; left = left; printed = refl })
@@ -39,7 +40,7 @@ comes_done told faults manner job disk core outcome run order all left said =
     ]
 
 comes_given_up : {D : Type 0} (told : D → Option Image) (faults : D → ℕ) (manner : Manner) (job : Job) (disk : D) (core : CoreState V7 D) (outcome : Outcome)
-    → IsRun told faults job disk core → KeepsOrderIfAlone manner job core → IsGivenUp job core → LeavesImage told job disk core → Says GivenUp (told_text manner failed_text job core) outcome → ComesOfCore told faults manner job disk core outcome
+    → IsRun told faults (asked_for manner job) job disk core → KeepsOrderIfAlone manner job core → IsGivenUp job core → LeavesImage told job disk core → Says GivenUp (told_text manner failed_text job core) outcome → ComesOfCore told faults manner job disk core outcome
 comes_given_up told faults manner job disk core outcome run order failed left said =
     elim said [
       | inl is ↦ subst (ComesOfCore told faults manner job disk core) (sym is) (record { run = run; order = order; given_up = failed; left = left; printed = refl })
@@ -52,7 +53,7 @@ is_failed _ = ⊥
 
 -- a run that was settled, by whether the volume failed
 pub settled : {D : Type 0} (told : D → Option Image) (faults : D → ℕ) (manner : Manner) (job : Job) (disk : D) (core : CoreState V7 D) (outcome : Outcome)
-    → IsRun told faults job disk core → KeepsOrderIfAlone manner job core → (IsDone job core ⊎ IsGivenUp job core) × LeavesImage told job disk core
+    → IsRun told faults (asked_for manner job) job disk core → KeepsOrderIfAlone manner job core → (IsDone job core ⊎ IsGivenUp job core) × LeavesImage told job disk core
     → (core.stage ≡ stage.Failed → Says GivenUp (told_text manner failed_text job core) outcome)
     → (core.stage ≢ stage.Failed → Says Ran (told_text manner end_text job core) outcome)
     → ComesOfCore told faults manner job disk core outcome
@@ -64,7 +65,7 @@ settled told faults manner job disk core outcome run order ends failed runs =
 
 -- a run in whose end the disk failed
 pub unsettled : {D : Type 0} (told : D → Option Image) (faults : D → ℕ) (manner : Manner) (job : Job) (disk : D) (core : CoreState V7 D) (outcome : Outcome)
-    → IsRun told faults job disk core → KeepsOrderIfAlone manner job core → FewerDevices (faults disk) (faults core.cache.disk) core.journal.history → Rose (faults disk) (faults core.cache.disk)
+    → IsRun told faults (asked_for manner job) job disk core → KeepsOrderIfAlone manner job core → FewerDevices (faults disk) (faults core.cache.disk) core.journal.history → Rose (faults disk) (faults core.cache.disk)
     → Says Unsettled (unsettled_text manner job core) outcome → ComesOfCore told faults manner job disk core outcome
 unsettled told faults manner job disk core outcome run order fewer rose said =
     elim said [
@@ -79,18 +80,24 @@ order_of manners.Alone job core order = order
 order_of manners.Threads job core order = tt
 order_of manners.Soak job core order = order
 
+-- one thread's checkpoints are asked for by the job's order
+asked_alone : (manner : Manner) (job : Job) → IsAlone manner → asked_by job.order ≡ asked_for manner job
+asked_alone manners.Alone job alone = refl
+asked_alone manners.Threads job alone = absurd alone
+asked_alone manners.Soak job alone = refl
+
 -- one thread drove a core that was begun for a job, with a fault injector that goes by the job's plan
 pub driven_alone : {D : Type 0} (told : D → Option Image) (faults : D → ℕ) (manner : Manner) (fs : V7) (job : Job) (disk : D) (begun driven : CoreState V7 D) (rules : List Rule)
-    → DrivesApart → DrivesKeepOrder → IsFitJob job → rules ≡ job.plan → IsBegunFor told faults fs job disk begun → origin_of driven ≡ origin_of begun
+    → DrivesApart → DrivesKeepOrder → IsAlone manner → IsFitJob job → rules ≡ job.plan → IsBegunFor told faults fs job disk begun → origin_of driven ≡ origin_of begun
     → IsDriven job (Some (fires rules)) (sight_of begun) (sight_of driven) → IsDrivenFor told faults manner fs job disk driven
-driven_alone {D = D} told faults manner fs job disk begun driven rules apart law fit same over on drives =
+driven_alone {D = D} told faults manner fs job disk begun driven rules apart law alone fit same over on drives =
     let by_plan : IsDriven job (Some (fires job.plan)) (sight_of begun) (sight_of driven) = subst (λ (r : List Rule). IsDriven job (Some (fires r)) (sight_of begun) (sight_of driven)) same drives in
     record {
       begun = begun;
       over = over;
       first = ap (λ (o : Origin D). o.first) on;
       config = ap (λ (o : Origin D). o.config) on;
-      drives = apart job (Some (fires job.plan)) (sight_of begun) (sight_of driven) by_plan;
+      drives = subst (λ n. IsDrivenApart job n (λ (caller : ℕ). Some (fires job.plan)) (sight_of begun) (sight_of driven)) (asked_alone manner job alone) (apart job (Some (fires job.plan)) (sight_of begun) (sight_of driven) by_plan);
       order = order_of manner job driven (law job (sight_of begun) (sight_of driven) fit (ap (λ (c : CoreState V7 D). c.stage) over.over.begun) by_plan);
     }
 
@@ -105,8 +112,8 @@ order_stays manners.Soak job driven ended history records order =
 
 module _ {D : Type 0} (told : D → Option Image) (faults : D → ℕ) (manner : Manner) (job : Job) (disk : D) (fs : V7) (driven ended : CoreState V7 D)
     (drives : IsDrivenFor told faults manner fs job disk driven) (ended_on : origin_of ended ≡ origin_of driven)
-    (keeps : Keeps (sight_of driven) (sight_of ended)) (right : Right told faults ended) (orderly : IsOrderly (sight_of ended)) where
-  path : IsPath fs told faults job disk drives.begun driven ended
+    (keeps : Keeps (sight_of driven) (sight_of ended)) (at_end : SealsAtEnd (sight_of driven) (sight_of ended)) (right : Right told faults ended) (orderly : IsOrderly (sight_of ended)) where
+  path : IsPath fs told faults (asked_for manner job) job disk drives.begun driven ended
   path = record {
     over = drives.over;
     drives = drives.drives;
@@ -114,6 +121,7 @@ module _ {D : Type 0} (told : D → Option Image) (faults : D → ℕ) (manner :
     same_config = ap (λ (o : Origin D). o.config) ended_on ∙ drives.config;
     keeps = keeps;
     seals = orderly.seals;
+    ends = at_end;
     right = right;
   }
 
@@ -125,7 +133,7 @@ module _ {D : Type 0} (told : D → Option Image) (faults : D → ℕ) (manner :
       → (ended.stage ≢ stage.Failed → Says Ran (told_text manner end_text job ended) outcome)
       → ComesOfCore told faults manner job disk ended outcome
   comes_settled outcome runs ends fit is failed done =
-      settled told faults manner job disk ended outcome (runs fs job disk drives.begun driven ended fit path) order (ends fs job disk drives.begun driven ended path is) failed done
+      settled told faults manner job disk ended outcome (runs fs (asked_for manner job) job disk drives.begun driven ended fit path) order (ends fs (asked_for manner job) job disk drives.begun driven ended path is) failed done
 
   -- the count of faults did not fall before the end
   before : Right told faults driven → faults disk ≤ faults driven.cache.disk
@@ -141,8 +149,8 @@ module _ {D : Type 0} (told : D → Option Image) (faults : D → ℕ) (manner :
   pub comes_unsettled : (outcome : Outcome) → PathsAreRuns V7 D told faults → PathsFail V7 D told faults → IsFitJob job → Right told faults driven
       → Rose (faults driven.cache.disk) (faults ended.cache.disk) → Says Unsettled (unsettled_text manner job ended) outcome → ComesOfCore told faults manner job disk ended outcome
   comes_unsettled outcome runs fails fit right_driven rose said =
-      unsettled told faults manner job disk ended outcome (runs fs job disk drives.begun driven ended fit path) order
-      (fails fs job disk drives.begun driven ended path right_driven drives.first rose) (rises (before right_driven) rose) said
+      unsettled told faults manner job disk ended outcome (runs fs (asked_for manner job) job disk drives.begun driven ended fit path) order
+      (fails fs (asked_for manner job) job disk drives.begun driven ended path right_driven drives.first rose) (rises (before right_driven) rose) said
 
 -- the core that is held, with its outcome
 pub holds : {D : Type 0} (told : D → Option Image) (faults : D → ℕ) (manner : Manner) (job : Job) (disk : D) (core : CoreState V7 D) (given : Held D) (outcome made : Outcome)

@@ -43,21 +43,22 @@ holds_by_plan tests test count (fault ∷ records) same low holds = (
   holds_by_plan tests test count records same low.1 holds.1,
 )
 
-by_plan : (job : Job) (tests : ℕ → Option (Crossing → Bool)) (count : ℕ) (old new : Sight)
+by_plan : (job : Job) (asked : ℕ) (tests : ℕ → Option (Crossing → Bool)) (count : ℕ) (old new : Sight)
     → ((caller : ℕ) → caller < count → tests caller ≡ Some (fires job.plan)) → AllByRecursion (λ (fault : FaultRecord). fault.caller < count) new.records
-    → IsDrivenApart job tests old new → IsDrivenApart job (λ (caller : ℕ). Some (fires job.plan)) old new
-by_plan job tests count old new same low drives = record {
+    → IsDrivenApart job asked tests old new → IsDrivenApart job asked (λ (caller : ℕ). Some (fires job.plan)) old new
+by_plan job asked tests count old new same low drives = record {
   config = drives.config;
   free = drives.free;
   own_calls = drives.own_calls;
   begun = drives.begun;
   moments = drives.moments;
   sound = record { holds = holds_by_plan tests (Some (fires job.plan)) count new.records same low drives.sound.holds; apart = drives.sound.apart };
+  seals = drives.seals;
 }
 
 pub driven_by_threads : {D : Type 0} (told : D → Option Image) (faults : D → ℕ) (fs : V7) (job : Job) (disk : D) (begun driven : CoreState V7 D) (hooks : List Hooked) (hook : Hooked)
     → hooks ≡ replicate (length job.callers) hook → hook.rules ≡ job.plan → IsBegun job (sight_of begun) → Right told faults driven → IsBegunFor told faults fs job disk begun → driven.first ≡ begun.first → driven.config ≡ begun.config
-    → IsDrivenApart job (test_of (map plan_test hooks)) (sight_of begun) (sight_of driven) → IsDrivenFor told faults manners.Threads fs job disk driven
+    → IsDrivenApart job 0 (test_of (map plan_test hooks)) (sight_of begun) (sight_of driven) → IsDrivenFor told faults manners.Threads fs job disk driven
 driven_by_threads {D = D} told faults fs job disk begun driven hooks hook all rules start right over first config drives =
     let same : (caller : ℕ) → caller < length job.callers → test_of (map plan_test hooks) caller ≡ Some (fires job.plan) =
     λ caller low. ap (λ (h : List Hooked). test_of (map plan_test h) caller) all ∙ alike (length job.callers) caller hook low ∙ ap (λ (r : List Rule). Some (fires r)) rules in
@@ -68,6 +69,6 @@ driven_by_threads {D = D} told faults fs job disk begun driven hooks hook all ru
       over = over;
       first = first;
       config = config;
-      drives = by_plan job (test_of (map plan_test hooks)) (length job.callers) (sight_of begun) (sight_of driven) same low drives;
+      drives = by_plan job 0 (test_of (map plan_test hooks)) (length job.callers) (sight_of begun) (sight_of driven) same low drives;
       order = tt;
     }

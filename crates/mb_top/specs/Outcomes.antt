@@ -28,6 +28,7 @@ use Rattle.mb_print.specs.Causes.{refused_text}
 use Rattle.mb_print.specs.Transcript.{end_text, failed_text, soak_text, transcript_text}
 use Rattle.mb_run.specs.CoreSight.{sight_of}
 use Rattle.mb_run.specs.Drives.{IsDrivenApart}
+use Rattle.mb_run.specs.Orders.{asked_by}
 use Rattle.mb_top.specs.Held.{HoldsCore, HoldsDisk, IsGivenBack, held_disk}
 use Rattle.mb_top.specs.declared.finish.Held.{Held}
 use Rattle.mb_top.specs.declared.manners.Manner.{Manner}
@@ -87,9 +88,15 @@ KeepsOrderIfAlone manners.Alone job core = KeepsOrder job core.journal.history c
 KeepsOrderIfAlone manners.Threads job core = Unit {0}
 KeepsOrderIfAlone manners.Soak job core = KeepsOrder job core.journal.history core.journal.records
 
+-- how many checkpoints a job asks for: as many as its order does, where one thread runs it, and none without an order or with threads
+abbrev pub asked_for : Manner → Job → ℕ
+asked_for manners.Alone job = asked_by job.order
+asked_for manners.Threads job = 0
+asked_for manners.Soak job = asked_by job.order
+
 -- a job that was run over a disk to its end, in whatever manner: the volume runs, all is checkpointed, and the image left is that of the history's tree
 pub record IsRunToEnd {D : Type 0} (told : D → Option Image) (faults : D → ℕ) (manner : Manner) (job : Job) (disk : D) (text : List ℕ) (core : CoreState V7 D) : Type 0 where
-  pub run : IsRun told faults job disk core
+  pub run : IsRun told faults (asked_for manner job) job disk core
   pub order : KeepsOrderIfAlone manner job core
   pub done : IsDone job core
   pub left : LeavesImage told job disk core
@@ -97,7 +104,7 @@ pub record IsRunToEnd {D : Type 0} (told : D → Option Image) (faults : D → �
 
 -- a job with more faults than the volume survives: the image left is that of the tree at the last checkpoint
 pub record IsRunToFailure {D : Type 0} (told : D → Option Image) (faults : D → ℕ) (manner : Manner) (job : Job) (disk : D) (text : List ℕ) (core : CoreState V7 D) : Type 0 where
-  pub run : IsRun told faults job disk core
+  pub run : IsRun told faults (asked_for manner job) job disk core
   pub order : KeepsOrderIfAlone manner job core
   pub given_up : IsGivenUp job core
   pub left : LeavesImage told job disk core
@@ -105,7 +112,7 @@ pub record IsRunToFailure {D : Type 0} (told : D → Option Image) (faults : D �
 
 -- a job that was run, where the disk failed in the end of the run: fewer calls than its faults were ended by the disk
 pub record IsRunShort {D : Type 0} (told : D → Option Image) (faults : D → ℕ) (manner : Manner) (job : Job) (disk : D) (text : List ℕ) (core : CoreState V7 D) : Type 0 where
-  pub run : IsRun told faults job disk core
+  pub run : IsRun told faults (asked_for manner job) job disk core
   pub order : KeepsOrderIfAlone manner job core
   pub fewer : FewerDevices (faults disk) (faults core.cache.disk) core.journal.history
   pub rose : Rose (faults disk) (faults core.cache.disk)
@@ -126,8 +133,13 @@ pub record IsDrivenFor {D : Type 0} (told : D → Option Image) (faults : D → 
   pub over : IsBegunFor told faults fs job disk begun
   pub first : driven.first ≡ begun.first
   pub config : driven.config ≡ begun.config
-  pub drives : IsDrivenApart job (λ (caller : ℕ). Some (fires job.plan)) (sight_of begun) (sight_of driven)
+  pub drives : IsDrivenApart job (asked_for manner job) (λ (caller : ℕ). Some (fires job.plan)) (sight_of begun) (sight_of driven)
   pub order : KeepsOrderIfAlone manner job driven
+
+-- one thread runs the job
+abbrev pub IsAlone : Manner → Type 0
+IsAlone manners.Threads = ⊥
+IsAlone _ = Unit {0}
 
 -- the line has the first broken rule and its block, and the image is a volume of no tree
 pub record IsUnsoundBy (told : Option Image) (line : List ℕ) : Type 0 where

@@ -10,7 +10,7 @@ ghost use Rattle.mb_run.specs.Drives.{IsBegun};
 ghost use Rattle.mb_run.specs.Sights.{IsOrderly};
 ghost use Rattle.mb_run.specs.declared.drives.DriveEnd.TheVariants as DriveEnd;
 ghost use Rattle.mb_top.specs.Held.{HoldsCore, held_disk};
-ghost use Rattle.mb_top.specs.Outcomes.{ComesOfCore, ComesOfJob, IsDrivenFor, Says, ended_text, told_text, unsettled_text};
+ghost use Rattle.mb_top.specs.Outcomes.{ComesOfCore, ComesOfJob, IsAlone, IsDrivenFor, Says, ended_text, told_text, unsettled_text};
 ghost use Rattle.mb_top.specs.declared.manners.Manner.{Manner};
 ghost use Rattle.mb_top.specs.declared.manners.Manner.TheVariants as manners;
 
@@ -37,7 +37,8 @@ use std::thread::Threads;
 /// Begins a core over the disk, runs the job with it by one thread, and ends the run, told in that manner. A disk whose image
 /// is no volume, or that fails while the image is opened, is given back.
 pub fn run_over<D: Disk>(alloc: Global, manner: Manner, disk: D, job: &Job) -> Decided<D>
-    requires { IsFitJob job.now }
+    requires fit { IsFitJob job.now }
+    requires alone { IsAlone manner }
     ensures over { ComesOfJob D.told D.faults manner job.now disk result.held result.outcome }
     ensures later { D.faults disk ≤ D.faults (held_disk result.held) }
 {
@@ -79,6 +80,7 @@ fn refused<D: Disk>(alloc: Global, refusal: Refusal<D>) -> Decided<D>
 // Runs a job over a core that was begun for it, and ends the run.
 fn run_begun<D: Disk>(alloc: Global, manner: Manner, core: Core<V7, D>, job: &Job) -> Decided<D>
     requires fit { IsFitJob job.now }
+    requires alone { IsAlone manner }
     requires begun { IsBegun job.now (sight_of core) }
     ensures core { (disk : D) (fs : V7) → IsBegunFor D.told D.faults fs job.now disk core → HoldsCore result.held (λ held. ComesOfCore D.told D.faults manner job.now disk held result.outcome) }
     ensures later { D.faults core.first ≤ D.faults (held_disk result.held) }

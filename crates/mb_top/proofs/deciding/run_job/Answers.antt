@@ -3,8 +3,8 @@ use Rattle.mb_top.proofs.Words.{of_job}
 use Rattle.mb_top.specs.declared.manners.Manner.TheVariants as manners
 use Rattle.mb_top.proofs.deciding.run_job.Goals as goal
 
-pub run_over-requires : goal.run_over-requires
-run_over-requires g c = c.jobs_are_fit.ensures c.in-Ok.ensures.job.bytes c.in-Ok.job c.in-Ok.ensures.job.fact
+pub run_over-requires-clause-fit : goal.run_over-requires-clause-fit
+run_over-requires-clause-fit g c = c.jobs_are_fit.ensures c.in-Ok.ensures.job.bytes c.in-Ok.job c.in-Ok.ensures.job.fact
 
 pub returns-in-Ok-clause-comes : goal.returns-in-Ok-clause-comes
 returns-in-Ok-clause-comes g c =
