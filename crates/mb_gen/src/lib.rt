@@ -13,8 +13,6 @@ mod laws;
 mod ordinals;
 mod rows;
 mod rules;
-#[cfg(test)]
-mod tests;
 
 pub use generator::generate;
 pub use laws::generated_are_fit;

@@ -24,8 +24,6 @@ mod reading;
 mod rules;
 mod strokes;
 mod tables;
-#[cfg(test)]
-mod tests;
 mod texts;
 mod verbs;
 mod words;

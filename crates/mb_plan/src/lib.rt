@@ -11,8 +11,6 @@ mod laws;
 mod marked;
 mod plans;
 mod rules;
-#[cfg(test)]
-mod tests;
 
 pub use hooks::PlanHook;
 pub use laws::single_fires_first;

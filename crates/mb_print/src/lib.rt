@@ -10,8 +10,6 @@ mod causes;
 mod numerals;
 mod places;
 mod replies;
-#[cfg(test)]
-mod tests;
 mod transcripts;
 
 pub use causes::text_of_cause;

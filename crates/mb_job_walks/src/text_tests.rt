@@ -1,4 +1,4 @@
-use super::text_of_call;
+use mb_call_texts::text_of_call;
 use mb_jobs::{JobFault, job_of};
 
 const WRITTEN: &[u8] =

@@ -1,10 +1,9 @@
 ghost use Rattle.std.specs.Prelude.{◌≤◌, length};
 
-use super::{failed_line, last_line, soak_line, text_of_cause, transcript};
-use crate::replies::text_of_reply;
 use mb_jobs::{Caller, Job, JobCall, JobFault, Text, job_of};
 use mb_kinds::{Call, Cred, Entry, Errno, Octets, Reply, Seq, Stat};
 use mb_plan::Plan;
+use mb_print::{failed_line, last_line, soak_line, text_of_cause, transcript};
 use std::alloc::{AllocError, Global};
 
 const READ_HELLO: &[u8] =
@@ -113,7 +112,9 @@ fn gives_each_caller_its_own_texts(rt: HostRuntime) -> Result<(), AllocError> {
 }
 
 #[test]
-fn prints_each_reply(rt: HostRuntime) -> Result<(), AllocError> {
+fn prints_each_reply(rt: HostRuntime) -> Result<(), JobFault> {
+    let alloc = rt.alloc();
+    let job = job_of(alloc, b"calls = [\"a stat /\", \"a sync\", \"a sync\"]")?;
     let root = Stat {
         ino: 2,
         mode: 0o40777,
@@ -125,26 +126,22 @@ fn prints_each_reply(rt: HostRuntime) -> Result<(), AllocError> {
         mtime: 0,
         ctime: 0,
     };
-    for (reply, text) in [
-        (
-            Reply::Info(root),
-            b"ino 2 mode 040777 nlink 2 uid 0 gid 0 size 32 atime 0 mtime 0 ctime 0".as_slice(),
-        ),
-        (
-            Reply::Restart {
-                first: 1,
-                second: 2,
-            },
-            b"EIO restart 1 2".as_slice(),
-        ),
-        (Reply::Device, b"EIO device".as_slice()),
-        (Reply::Failed { faults: 2 }, b"FAILED 2".as_slice()),
-    ]
-    .iter()
-    {
-        let printed = text_of_reply(rt.alloc(), reply)?;
-        assert!(rt; printed.as_slice() == *text);
+    let mut history = Vec::new(alloc);
+    for reply in [
+        Reply::Info(root),
+        Reply::Restart {
+            first: 1,
+            second: 2,
+        },
+        Reply::Device,
+        Reply::Failed { faults: 2 },
+    ] {
+        history.push(answered(0, reply))?;
     }
+    let text = transcript(alloc, &job, &history)?;
+    let lines =
+        b"1 a stat / = ino 2 mode 040777 nlink 2 uid 0 gid 0 size 32 atime 0 mtime 0 ctime 0\n2 a sync = EIO restart 1 2\n3 a sync = EIO device\n4 a exit = FAILED 2\n";
+    assert!(rt; text.as_slice() == lines.as_slice());
     Ok(())
 }
 

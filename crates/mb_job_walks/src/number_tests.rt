@@ -1,7 +1,7 @@
 ghost use Rattle.std.specs.Prelude.{◌≤◌};
 
-use super::generate;
 use mb_edge::Stroke;
+use mb_gen::generate;
 use mb_jobs::{Job, JobCall, JobFault, job_of};
 use mb_plan::Rule;
 use std::alloc::Global;

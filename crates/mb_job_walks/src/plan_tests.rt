@@ -1,6 +1,6 @@
-use crate::{Plan, Rule};
 use mb_edge::{Crossing, Damage, Hook, Stroke, Word};
 use mb_kinds::Kind;
+use mb_plan::{Plan, Rule};
 use std::alloc::{AllocError, Global};
 
 fn wipe(alloc: Global, byte: u8) -> Result<Damage, AllocError> {

@@ -1,5 +1,5 @@
-use super::{JobFault, Text, job_of};
 use mb_edge::Stroke;
+use mb_jobs::{JobFault, Text, job_of};
 use mb_kinds::{Call, Cred, Kind, Octets, Whence};
 use std::alloc::{AllocError, Global};
 
