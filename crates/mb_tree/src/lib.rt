@@ -45,8 +45,6 @@ mod seats;
 mod session_laws;
 mod stops;
 mod tables;
-#[cfg(test)]
-mod tests;
 mod trees;
 mod valid_laws;
 mod volume_laws;

@@ -1,6 +1,7 @@
+ghost use Rattle.std.specs.Prelude.{◌≤◌, length};
 ghost use Rattle.mb_kinds.specs.Texts.{IsPath};
 
-use mb_kinds::{Call, Cred, Path, Reply, Seq};
+use mb_kinds::{Call, Cred, Octets, Path, Reply, Seq};
 use mb_tree::{Body, Machine, Map, Node, PlainSlot, Seat, Tree};
 use std::alloc::{AllocError, Global};
 use std::process::Abort;
@@ -13,6 +14,8 @@ pub struct Walk {
     pub machine: Machine,
     moment: u32,
 }
+
+pub const SUPER: Cred = Cred { uid: 0, gid: 0 };
 
 const DOT: [u8; 14] = [46, 0, 0, 0, 0, 0, 0, 0, 0, 0, 0, 0, 0, 0];
 
@@ -33,8 +36,8 @@ pub fn node(mode: u16, nlink: u16, body: Body) -> Node {
 }
 
 impl Walk {
-    /// The walk begins with so many callers, all of uid 0.
-    pub fn fresh(alloc: Global, callers: usize) -> Result<Walk, Fail> {
+    /// The walk begins with these callers.
+    pub fn fresh(alloc: Global, callers: &[Cred]) -> Result<Walk, Fail> {
         let mut slots = Seq::new(alloc);
         slots.push(PlainSlot { ino: 2, name: DOT })?;
         slots.push(PlainSlot {
@@ -44,8 +47,8 @@ impl Walk {
         let mut nodes = Map::new(alloc);
         nodes.insert(2, node(0o040777, 2, Body::Directory { slots }))?;
         let mut seats = Seq::new(alloc);
-        for _ in 0..callers {
-            seats.push(Seat::new(Cred { uid: 0, gid: 0 }, 2))?;
+        for cred in callers {
+            seats.push(Seat::new(*cred, 2))?;
         }
         let tree = Tree {
             nodes,
@@ -104,6 +107,30 @@ impl Walk {
             _ => assert!(rt; false, "no inode at call {}", self.moment),
         }
     }
+
+    /// The first caller's next call reads these bytes.
+    pub fn expect_bytes<R: Abort>(&mut self, rt: &R, fd: u16, count: u16, want: &[u8]) {
+        match self.reply(0, Ok(Call::Read { fd, count }), None) {
+            Some(Reply::Got(bytes)) => assert_eq!(rt;
+                bytes.as_slice(),
+                want,
+                "at call {}",
+                self.moment
+            ),
+            _ => assert!(rt; false, "no bytes at call {}", self.moment),
+        }
+    }
+
+    /// How many blocks the tree holds.
+    pub fn held(&self) -> Result<u128, AllocError> {
+        let mut held: u128 = 0;
+        for ino in 0..17 {
+            if let Some(node) = self.machine.tree.nodes.get(ino) {
+                held = held.saturating_add(node.body.cost(self.heap)?);
+            }
+        }
+        Ok(held)
+    }
 }
 
 pub fn path(alloc: Global, text: &[u8]) -> Result<Path, AllocError>
@@ -112,11 +139,20 @@ pub fn path(alloc: Global, text: &[u8]) -> Result<Path, AllocError>
     Ok(Path::from_vec(text.to_vec(alloc)?))
 }
 
-pub fn creat(alloc: Global, text: &[u8]) -> Result<Call, AllocError>
+pub fn creat(alloc: Global, text: &[u8], mode: u16) -> Result<Call, AllocError>
     requires { IsPath text.now }
 {
     Ok(Call::Creat {
         path: path(alloc, text)?,
-        mode: 0o644,
+        mode,
+    })
+}
+
+pub fn write(alloc: Global, fd: u16, text: &[u8]) -> Result<Call, AllocError>
+    requires { length text.now ≤ 65535 }
+{
+    Ok(Call::Write {
+        fd,
+        bytes: Octets::from_vec(text.to_vec(alloc)?),
     })
 }

@@ -1,21 +1,14 @@
-use crate::walk::{Walk, creat, node, path};
-use mb_kinds::{Call, Errno, Octets, Reply};
+use crate::walk::{SUPER, Walk, creat, node, path, write};
+use mb_kinds::{Call, Errno, Reply};
 use mb_tree::{Body, Map};
 use std::test::Fail;
 
 #[test]
 fn two_bytes_are_written_to_a_new_file(rt: HostRuntime) -> Result<(), Fail> {
     let heap = rt.alloc();
-    let mut walk = Walk::fresh(heap, 1)?;
-    let bytes = Octets::from_vec(b"hi".to_vec(heap)?);
-    walk.expect(&rt, 0, creat(heap, b"/f"), Some(3), Reply::Num(3));
-    walk.expect(
-        &rt,
-        0,
-        Ok(Call::Write { fd: 3, bytes }),
-        None,
-        Reply::Num(2),
-    );
+    let mut walk = Walk::fresh(heap, &[SUPER])?;
+    walk.expect(&rt, 0, creat(heap, b"/f", 0o644), Some(3), Reply::Num(3));
+    walk.expect(&rt, 0, write(heap, 3, b"hi"), None, Reply::Num(2));
     walk.expect(&rt, 0, Ok(Call::Close { fd: 3 }), None, Reply::Num(0));
     walk.expect(&rt, 0, Ok(Call::Exit), None, Reply::Num(0));
     Ok(())
@@ -25,9 +18,9 @@ fn two_bytes_are_written_to_a_new_file(rt: HostRuntime) -> Result<(), Fail> {
 #[test]
 fn two_callers_create_one_file(rt: HostRuntime) -> Result<(), Fail> {
     let heap = rt.alloc();
-    let mut walk = Walk::fresh(heap, 2)?;
-    walk.expect(&rt, 0, creat(heap, b"/f"), Some(3), Reply::Num(3));
-    walk.expect(&rt, 1, creat(heap, b"/f"), None, Reply::Num(3));
+    let mut walk = Walk::fresh(heap, &[SUPER, SUPER])?;
+    walk.expect(&rt, 0, creat(heap, b"/f", 0o644), Some(3), Reply::Num(3));
+    walk.expect(&rt, 1, creat(heap, b"/f", 0o644), None, Reply::Num(3));
     walk.expect(&rt, 0, Ok(Call::Exit), None, Reply::Num(0));
     walk.expect(&rt, 1, Ok(Call::Exit), None, Reply::Num(0));
     Ok(())
@@ -36,13 +29,13 @@ fn two_callers_create_one_file(rt: HostRuntime) -> Result<(), Fail> {
 #[test]
 fn one_file_comes_between_five_of_another_caller(rt: HostRuntime) -> Result<(), Fail> {
     let heap = rt.alloc();
-    let mut walk = Walk::fresh(heap, 2)?;
-    walk.expect(&rt, 1, creat(heap, b"/p"), Some(3), Reply::Num(3));
-    walk.expect(&rt, 1, creat(heap, b"/q"), Some(4), Reply::Num(4));
-    walk.expect(&rt, 1, creat(heap, b"/r"), Some(5), Reply::Num(5));
-    walk.expect(&rt, 1, creat(heap, b"/s"), Some(6), Reply::Num(6));
-    walk.expect(&rt, 0, creat(heap, b"/x"), Some(7), Reply::Num(3));
-    walk.expect(&rt, 1, creat(heap, b"/t"), Some(8), Reply::Num(7));
+    let mut walk = Walk::fresh(heap, &[SUPER, SUPER])?;
+    walk.expect(&rt, 1, creat(heap, b"/p", 0o644), Some(3), Reply::Num(3));
+    walk.expect(&rt, 1, creat(heap, b"/q", 0o644), Some(4), Reply::Num(4));
+    walk.expect(&rt, 1, creat(heap, b"/r", 0o644), Some(5), Reply::Num(5));
+    walk.expect(&rt, 1, creat(heap, b"/s", 0o644), Some(6), Reply::Num(6));
+    walk.expect(&rt, 0, creat(heap, b"/x", 0o644), Some(7), Reply::Num(3));
+    walk.expect(&rt, 1, creat(heap, b"/t", 0o644), Some(8), Reply::Num(7));
     walk.expect(&rt, 0, Ok(Call::Exit), None, Reply::Num(0));
     walk.expect(&rt, 1, Ok(Call::Exit), None, Reply::Num(0));
     Ok(())
@@ -51,14 +44,14 @@ fn one_file_comes_between_five_of_another_caller(rt: HostRuntime) -> Result<(), 
 #[test]
 fn paths_are_split_at_slashes(rt: HostRuntime) -> Result<(), Fail> {
     let heap = rt.alloc();
-    let mut walk = Walk::fresh(heap, 1)?;
+    let mut walk = Walk::fresh(heap, &[SUPER])?;
     let d = path(heap, b"/d")?;
     let mkdir = Call::Mkdir {
         path: d,
         mode: 0o755,
     };
     walk.expect(&rt, 0, Ok(mkdir), Some(3), Reply::Num(0));
-    walk.expect(&rt, 0, creat(heap, b"/d/f"), Some(4), Reply::Num(3));
+    walk.expect(&rt, 0, creat(heap, b"/d/f", 0o644), Some(4), Reply::Num(3));
     walk.expect_ino(&rt, b"", 2);
     walk.expect_ino(&rt, b"/", 2);
     walk.expect_ino(&rt, b".", 2);
@@ -75,9 +68,9 @@ fn paths_are_split_at_slashes(rt: HostRuntime) -> Result<(), Fail> {
 #[test]
 fn a_path_of_255_bytes_names_a_file(rt: HostRuntime) -> Result<(), Fail> {
     let heap = rt.alloc();
-    let mut walk = Walk::fresh(heap, 1)?;
+    let mut walk = Walk::fresh(heap, &[SUPER])?;
     let long = [b'x'; 255];
-    walk.expect(&rt, 0, creat(heap, &long), Some(3), Reply::Num(3));
+    walk.expect(&rt, 0, creat(heap, &long, 0o644), Some(3), Reply::Num(3));
     walk.expect_ino(&rt, b"/xxxxxxxxxxxxxx", 3);
     walk.expect_ino(&rt, b"/xxxxxxxxxxxxxxy", 3);
     let other = path(heap, b"/xxxxxxxxxxxxx")?;
@@ -95,16 +88,16 @@ fn a_path_of_255_bytes_names_a_file(rt: HostRuntime) -> Result<(), Fail> {
 #[test]
 fn inodes_run_out(rt: HostRuntime) -> Result<(), Fail> {
     let heap = rt.alloc();
-    let mut walk = Walk::fresh(heap, 1)?;
+    let mut walk = Walk::fresh(heap, &[SUPER])?;
     for ino in 3..17u16 {
         let name = [b'/', b'a' + (ino % 16) as u8];
-        walk.expect(&rt, 0, creat(heap, &name), Some(ino), Reply::Num(3));
+        walk.expect(&rt, 0, creat(heap, &name, 0o644), Some(ino), Reply::Num(3));
         walk.expect(&rt, 0, Ok(Call::Close { fd: 3 }), None, Reply::Num(0));
     }
     walk.expect(
         &rt,
         0,
-        creat(heap, b"/z"),
+        creat(heap, b"/z", 0o644),
         None,
         Reply::Refused(Errno::ENOSPC),
     );
@@ -118,8 +111,8 @@ fn a_file_has_32767_names_at_most(rt: HostRuntime) -> Result<(), Fail> {
         (32766, Reply::Num(0)),
         (32767, Reply::Refused(Errno::EMLINK)),
     ] {
-        let mut walk = Walk::fresh(heap, 1)?;
-        walk.expect(&rt, 0, creat(heap, b"/f"), Some(3), Reply::Num(3));
+        let mut walk = Walk::fresh(heap, &[SUPER])?;
+        walk.expect(&rt, 0, creat(heap, b"/f", 0o644), Some(3), Reply::Num(3));
         let parts = Map::new(heap);
         let file = node(0o100644, nlink, Body::Regular { size: 0, parts });
         walk.machine.tree.nodes.insert(3, file)?;
