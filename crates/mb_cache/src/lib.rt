@@ -23,8 +23,6 @@ mod laws;
 mod numbers;
 mod pins;
 mod stamps;
-#[cfg(test)]
-mod tests;
 
 pub use answers::{Flushed, ReadFault};
 pub use caches::Cache;

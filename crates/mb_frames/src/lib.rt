@@ -12,8 +12,6 @@ mod links;
 mod node;
 mod nodes;
 mod rings;
-#[cfg(test)]
-mod tests;
 mod token;
 
 pub use mb_kinds::NoMemory;

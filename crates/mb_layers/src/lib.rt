@@ -10,8 +10,6 @@
 #![tactic(auto)]
 
 mod layers;
-#[cfg(test)]
-mod tests;
 mod tokens;
 
 pub use layers::Layers;

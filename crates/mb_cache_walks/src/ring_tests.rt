@@ -1,7 +1,8 @@
 //! Examples, and moves against plain lists.
 ghost use Rattle.std.specs.Prelude.{◌≡◌, ◌<◌, length};
 
-use crate::{NoMemory, Rings};
+use mb_frames::Rings;
+use mb_kinds::NoMemory;
 use rand_core::utils::NextWord;
 use rand_pcg::Pcg32;
 use std::alloc::Global;

@@ -1,6 +1,6 @@
 use Rattle.std.proofs.Common.{◌∙◌}
 use Rattle.mb_frames.proofs.Callers.{fresh_other, stands_put}
-use Rattle.mb_frames.proofs.tests.step.Goals as goal
+use Rattle.mb_cache_walks.proofs.ring_tests.step.Goals as goal
 
 pub unlink-requires : goal.unlink-requires
 unlink-requires c = stands_put _ _ _ _ c.put-first.ensures.token.0 c.put-second.ensures.fresh c.put-second.ensures.others

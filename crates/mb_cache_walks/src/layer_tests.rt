@@ -1,5 +1,6 @@
-//! Examples, and calls against plain lists.
-use crate::{Layers, NoMemory};
+//! Examples of two layers of pages.
+use mb_kinds::NoMemory;
+use mb_layers::Layers;
 
 // A page whose first bytes are the number.
 fn numbered(number: u32) -> [u8; 512] {

@@ -1,5 +1,5 @@
 use Rattle.std.proofs.Common.{◌≡◌, length}
-use Rattle.mb_frames.proofs.tests.moves_agree_with_plain_lists.Given as goal
+use Rattle.mb_cache_walks.proofs.ring_tests.moves_agree_with_plain_lists.Given as goal
 
 abbrev pub invariant-loop-ring : goal.invariant-loop-ring
 invariant-loop-ring g l = length l.rings.rings ≡ 3

@@ -1,4 +1,4 @@
-use super::*;
+use mb_cache::{Cache, Flushed, ReadFault};
 use mb_edge::{Bytes, Damage, Fails, MemDisk, NoMemory, Stroke};
 use mb_iface::Changes;
 use std::alloc::Global;
