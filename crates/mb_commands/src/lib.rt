@@ -10,8 +10,6 @@ mod laws;
 mod lines;
 mod making;
 mod numbers;
-#[cfg(test)]
-mod tests;
 
 pub use commands::{Command, asks_threads, command_of, image_name};
 pub use laws::worked_words;

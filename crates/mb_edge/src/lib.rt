@@ -26,8 +26,6 @@ mod sinks;
 mod sources;
 mod stores;
 mod strokes;
-#[cfg(test)]
-mod tests;
 mod transfers;
 
 pub use calm::Calm;

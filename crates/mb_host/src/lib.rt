@@ -10,8 +10,6 @@ mod files;
 mod inputs;
 mod outputs;
 mod stand_ins;
-#[cfg(test)]
-mod tests;
 mod words;
 
 pub use files::FileDisk;

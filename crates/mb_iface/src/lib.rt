@@ -19,8 +19,6 @@ mod pairs;
 mod queries;
 mod replies;
 mod systems;
-#[cfg(test)]
-mod tests;
 mod views;
 
 pub use change_lists::Changes;

@@ -17,8 +17,6 @@ mod laws;
 mod no_memory;
 mod replies;
 mod sequence;
-#[cfg(test)]
-mod tests;
 
 pub use bytes::{Name, Octets, Path};
 pub use calls::{Call, How, Whence};

@@ -19,8 +19,6 @@ mod laws;
 mod places;
 mod slots;
 mod super_blocks;
-#[cfg(test)]
-mod tests;
 
 pub use chains::Chain;
 pub use dinodes::Dinode;

@@ -11,8 +11,6 @@ mod free_lists;
 mod laws;
 mod making;
 mod shapes;
-#[cfg(test)]
-mod tests;
 
 pub use laws::{fresh_is_volume, worked_numbers};
 pub use making::{MakeFault, make};

@@ -8,8 +8,6 @@
 
 mod laws;
 mod readers;
-#[cfg(test)]
-mod tests;
 mod writers;
 
 pub use laws::{own_bytes, reads_back, worked_numbers, write_keeps_others, writes_back};

@@ -1,4 +1,4 @@
-use crate::{Command, Made, command_of, image_name, make_volume, refused_line, sound_line};
+use mb_commands::{Command, Made, command_of, image_name, make_volume, refused_line, sound_line};
 use mb_edge::{Bytes, Fails, MemDisk};
 use mb_host::{Word8, Words};
 use std::alloc::{AllocError, Global};

@@ -1,5 +1,5 @@
-use crate::{FileDisk, InSource, OutSink, Word8};
 use mb_edge::{Disk, Failed, Sink, Source};
+use mb_host::{FileDisk, InSource, OutSink, Word8};
 use std::test::Fail;
 use std::{fs, io};
 

@@ -1,4 +1,4 @@
-use super::*;
+use mb_layout::{Chain, Dinode, Slot, Super, index_at, inode_block, inode_place, put_index};
 
 /// Block 1 of a fresh volume of 100 blocks and 16 inodes, as far as its first free blocks.
 fn fresh_super_block() -> [u8; 512] {

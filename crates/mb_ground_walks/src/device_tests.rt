@@ -1,4 +1,7 @@
-use super::*;
+use mb_edge::{
+    Bytes, Calm, Crossing, Crossings, Disk, Failed, Fails, Hook, MemDisk, MemSink, MemSource, Sink,
+    Source, SureSource, Word, read_whole, write_whole,
+};
 use mb_kinds::Kind;
 use std::alloc::{AllocError, Global};
 use std::test::Fail;

@@ -1,6 +1,9 @@
 ghost use Rattle.std.specs.Prelude.{Some, None, cond, nat_eq};
 
-use super::*;
+use mb_iface::{
+    Acted, Asked, Changes, Edited, FileSys, Need, Opens, Over, Query, View, edit, edit_both,
+    hold_both, put_and_edit, seen,
+};
 use mb_tree::FsOp;
 use std::alloc::Global;
 use std::test::Fail;

@@ -1,4 +1,4 @@
-use super::*;
+use mb_word::{addr_at, long_at, put_addr, put_long, put_word, word_at};
 
 #[test]
 fn long_has_its_high_word_first(rt: HostRuntime) {

@@ -1,4 +1,4 @@
-use crate::{Call, Errno, How, Octets, Path, Reply, Seq};
+use mb_kinds::{Call, Errno, How, Octets, Path, Reply, Seq};
 use std::test::Fail;
 
 #[test]

@@ -1,8 +1,8 @@
 ghost use Rattle.std.specs.Prelude.{◌≤◌};
 
-use super::*;
 use mb_edge::{Bytes, Fails, MemDisk};
 use mb_layout::{Chain, Dinode, Slot, Super};
+use mb_mkfs::{MakeFault, make};
 use std::alloc::{AllocError, Global};
 use std::test::Fail;
 
