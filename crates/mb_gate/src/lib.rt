@@ -7,8 +7,6 @@
 #![tactic(auto)]
 
 mod gates;
-#[cfg(test)]
-mod tests;
 mod ulogs;
 mod verdicts;
 

@@ -9,7 +9,5 @@
 
 mod journals;
 mod own_faults;
-#[cfg(test)]
-mod tests;
 
 pub use journals::Journal;

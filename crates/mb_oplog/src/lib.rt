@@ -6,7 +6,5 @@
 #![tactic(auto)]
 
 mod oplogs;
-#[cfg(test)]
-mod tests;
 
 pub use oplogs::{Logged, Oplog};

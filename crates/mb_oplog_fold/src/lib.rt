@@ -9,7 +9,5 @@
 mod copies;
 mod folds;
 mod joins;
-#[cfg(test)]
-mod tests;
 
 pub use folds::fold;

@@ -5,7 +5,5 @@
 #![tactic(auto)]
 
 mod roomy;
-#[cfg(test)]
-mod tests;
 
 pub use roomy::Roomy;

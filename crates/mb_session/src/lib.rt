@@ -14,8 +14,6 @@ mod counting;
 mod open_files;
 mod sameness;
 mod sessions;
-#[cfg(test)]
-mod tests;
 
 pub use open_files::OpenFile;
 pub use sessions::Sessions;

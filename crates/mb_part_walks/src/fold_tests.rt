@@ -1,9 +1,8 @@
 ghost use Rattle.std.specs.Prelude.{◌≤◌, length};
 
-use crate::fold;
-use mb_edge::NoMemory;
-use mb_kinds::Octets;
+use mb_kinds::{NoMemory, Octets};
 use mb_oplog::Oplog;
+use mb_oplog_fold::fold;
 use mb_tree::FsOp;
 use std::alloc::Global;
 

@@ -1,6 +1,5 @@
-use crate::{Ulog, Undo, Verdict, verdict};
-use mb_edge::NoMemory;
-use mb_kinds::Ticket;
+use mb_gate::{Ulog, Undo, Verdict, verdict};
+use mb_kinds::{NoMemory, Ticket};
 
 #[test]
 fn tickets_pass_in_their_own_incarnation(rt: HostRuntime) {

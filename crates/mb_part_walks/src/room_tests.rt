@@ -1,5 +1,5 @@
-use crate::Roomy;
-use mb_edge::NoMemory;
+use mb_kinds::NoMemory;
+use mb_room::Roomy;
 
 #[test]
 fn elements_stand_in_the_order_of_their_pushes(rt: HostRuntime) -> Result<(), NoMemory> {

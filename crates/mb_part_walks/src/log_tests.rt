@@ -1,5 +1,5 @@
-use crate::Oplog;
-use mb_edge::NoMemory;
+use mb_kinds::NoMemory;
+use mb_oplog::Oplog;
 use mb_tree::FsOp;
 
 fn chmod(ino: u16) -> FsOp {

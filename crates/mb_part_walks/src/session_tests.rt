@@ -1,5 +1,5 @@
-use super::*;
 use mb_kinds::{Cred, Creds, How};
+use mb_session::Sessions;
 use mb_tree::SessionChange;
 use std::alloc::Global;
 use std::test::Fail;

@@ -1,7 +1,6 @@
-use crate::Journal;
 use mb_core_spec::Step;
-use mb_edge::NoMemory;
-use mb_kinds::{Call, Entry, FaultRecord, Kind, Reply, Ticket};
+use mb_journal::Journal;
+use mb_kinds::{Call, Entry, FaultRecord, Kind, NoMemory, Reply, Ticket};
 use mb_tree::FsOp;
 
 fn fault(ordinal: u32, kind: Kind) -> FaultRecord {
