@@ -4,6 +4,7 @@ pub mod ChangedBlocks
 pub mod CountMaps
 pub mod Editing
 pub mod Marks
+pub mod NeedBlocks
 pub mod Standing
 pub mod TwoBlocks
 pub mod WithinViews

@@ -4,6 +4,7 @@ pub mod Changed
 pub mod Edits
 pub mod Guesses
 pub mod Near
+pub mod NeedLaws
 pub mod Needs
 pub mod OpenCounts
 pub mod OverlayLaws

@@ -1,3 +1,4 @@
+ghost use Rattle.mb_iface.specs.NeedLaws.{WorkedNeed};
 ghost use Rattle.mb_iface.specs.OpenCounts.{CountsTell};
 ghost use Rattle.mb_iface.specs.OverlayLaws.{NoChangeKeeps, WrittenReads, OthersKept, PartUnderChanges, FoundWithinView};
 
@@ -17,4 +18,9 @@ pub fn views_under_changes()
 /// The counts of open files tell the whole map.
 pub fn counts_tell()
     ensures { CountsTell }
+{}
+
+/// A need's blocks are those of its run, and then its others.
+pub fn worked_need()
+    ensures { WorkedNeed }
 {}

@@ -23,7 +23,7 @@ mod views;
 
 pub use change_lists::Changes;
 pub use edits::{Edited, edit, edit_both};
-pub use laws::{changes_cover, counts_tell, views_under_changes};
+pub use laws::{changes_cover, counts_tell, views_under_changes, worked_need};
 pub use open_counts::Opens;
 pub use overlays::{Over, seen};
 pub use pairs::{hold_both, put_and_edit};

@@ -1,5 +1,5 @@
 ghost use Rattle.std.specs.Prelude.{◌≡◌, ◌≤◌, ◌<◌, ℕ, List, Option, None};
-ghost use Rattle.mb_iface.specs.Needs.{IsNeed, IsRun};
+ghost use Rattle.mb_iface.specs.Needs.{AreBlocks, IsNeed, IsRun};
 
 use crate::change_lists::Changes;
 use crate::views::View;
@@ -25,12 +25,13 @@ pub enum Answer {
     Used(u32),
 }
 
-/// Blocks that a view lacks: `count` of them from `first` on. `first` is 1 to 262,143, and `count` 1
-/// to 32.
+/// Blocks that a view lacks: `count` of them from `first` on, and those of `others` that are not 0, which
+/// may stand anywhere. `first` is 1 to 262,143, `count` 1 to 32, and each of the others below 262,144.
 #[derive(Clone, Copy, Debug, PartialEq, Drop)]
 pub struct Need {
     pub first: u32,
     pub count: u32,
+    pub others: [u32; 7],
 }
 
 impl Need {
@@ -45,7 +46,28 @@ impl Need {
         Need {
             first: block,
             count: 1,
+            others: [0; 7],
         }
+    }
+
+    /// The tables of a core, for which block 0 stands: no file system asks for them.
+    pub fn tables() -> Need
+        ensures { (result.first ≡ 0) × (result.count ≡ 1) }
+    {
+        Need {
+            first: 0,
+            count: 1,
+            others: [0; 7],
+        }
+    }
+
+    /// The same blocks with these others, each below 262,144, in the place of those before.
+    pub fn with(self, others: [u32; 7]) -> Need
+        requires { AreBlocks others }
+        ensures need { (shown : ℕ → Option (List ℕ)) → IsNeed shown self → IsNeed shown result }
+        ensures first { result.first ≡ self.first }
+    {
+        Need { others, ..self }
     }
 
     /// The run of neighbours from a block on, which is from 1 on and below 262,144, that a view lacks:
@@ -61,10 +83,18 @@ impl Need {
         let most = wanted.min(32).min(262_144 - first);
         for count in 1..most {
             if view.get(first + count).is_some() {
-                return Need { first, count };
+                return Need {
+                    first,
+                    count,
+                    others: [0; 7],
+                };
             }
         }
-        Need { first, count: most }
+        Need {
+            first,
+            count: most,
+            others: [0; 7],
+        }
     }
 }
 
