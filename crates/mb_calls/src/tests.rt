@@ -124,13 +124,13 @@ fn stat_asks_for_what_it_lacks(rt: HostRuntime) -> Result<(), Fail> {
         Performed::Need(need) => Some(need),
         _ => None,
     };
-    assert_eq!(rt; asked, Some(Need { first: 1, count: 1 }));
+    assert_eq!(rt; asked, Some(Need::one(1)));
     Ok(())
 }
 
 #[test]
 fn second_path_of_link_does_not_overtake_the_first(rt: HostRuntime) {
-    let need = Need { first: 9, count: 1 };
+    let need = Need::one(9);
     let missing = Err(Halt::Refused(Errno::ENOENT));
     let refused = match link_spot(&seat(), 5, missing, Err(Halt::Need(need))) {
         Err(Halt::Refused(error)) => Some(error),

@@ -72,5 +72,10 @@ pub fn gather(disk: &Gathered, view: &mut Gathered, need: Need) -> Result<(), Fa
     for block in need.first..need.first.saturating_add(need.count).min(262_144) {
         gather_block(disk, view, block)?;
     }
+    for block in need.others {
+        if block > 0 && block < 262_144 {
+            gather_block(disk, view, block)?;
+        }
+    }
     Ok(())
 }

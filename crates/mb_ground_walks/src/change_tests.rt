@@ -34,6 +34,15 @@ fn ones() -> OneBlock {
     }
 }
 
+/// A run of blocks alone.
+fn need_of(first: u32, count: u32) -> Need {
+    Need {
+        first,
+        count,
+        others: [0; 7],
+    }
+}
+
 /// The run of blocks from one on, where the view lacks that one.
 fn run_from<V: View>(view: &V, first: u32, wanted: u32) -> Option<Need> {
     if first < 1 || first >= 262_144 || wanted < 1 {
@@ -174,21 +183,12 @@ fn block_is_put_before_bytes_are_changed(rt: HostRuntime) -> Result<(), Fail> {
 fn run_of_needs_ends_before_a_block_that_is_there(rt: HostRuntime) {
     let view = ones();
     assert_eq!(rt; run_from(&view, 5, 9), None);
-    assert_eq!(rt; run_from(&view, 3, 9), Some(Need { first: 3, count: 2 }));
-    assert_eq!(rt; run_from(&view, 6, 9), Some(Need { first: 6, count: 9 }));
-    assert_eq!(rt;
-        run_from(&view, 6, 40),
-        Some(Need {
-            first: 6,
-            count: 32
-        })
-    );
-    let last = Some(Need {
-        first: 262_142,
-        count: 2,
-    });
-    assert_eq!(rt; run_from(&view, 262_142, 9), last);
-    assert_eq!(rt; Need::one(4), Need { first: 4, count: 1 });
+    assert_eq!(rt; run_from(&view, 3, 9), Some(need_of(3, 2)));
+    assert_eq!(rt; run_from(&view, 6, 9), Some(need_of(6, 9)));
+    assert_eq!(rt; run_from(&view, 6, 40), Some(need_of(6, 32)));
+    assert_eq!(rt; run_from(&view, 262_142, 9), Some(need_of(262_142, 2)));
+    assert_eq!(rt; Need::one(4), need_of(4, 1));
+    assert_eq!(rt; Need::tables(), need_of(0, 1));
 }
 
 #[test]

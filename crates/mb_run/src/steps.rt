@@ -345,7 +345,7 @@ fn go_on<C: EventCore, H: Hook>(
             calls,
             call,
             ticket,
-            Need { first: 0, count: 1 },
+            Need::tables(),
         );
     }
     match core.perform(alloc, &runner.pages, ticket, call, way) {

@@ -323,7 +323,7 @@ impl<F: FileSys, D: Disk> Volume<F, D> {
             }
         }
         *way = None;
-        let tables = Need { first: 0, count: 1 };
+        let tables = Need::tables();
         let (came, gathered) = self.gather(rt, alloc, pass, hook, attempt, call, ticket, tables);
         *code = gathered;
         came
