@@ -7,6 +7,7 @@ pub mod Near
 pub mod NeedLaws
 pub mod Needs
 pub mod OpenCounts
+pub mod OtherBlocks
 pub mod OverlayLaws
 pub mod Pairs
 pub mod Places

@@ -1,15 +1,11 @@
 -- Which blocks an answer may ask for, whatever the view.
 use Rattle.std.specs.Prelude.{List, ◌++◌, ℕ, ◌≤◌, ◌<◌, ◌≡◌, ◌+◌, ◌⊎◌, Option, None, IsSome, filter, nat_eq, not}
-use Rattle.std.specs.List.{AllByRecursion, range_with_len}
+use Rattle.std.specs.List.{range_with_len}
 use Rattle.mb_iface.specs.declared.replies.Need.{Need}
 use Rattle.mb_iface.specs.declared.replies.Asked.{Asked}
 use Rattle.mb_iface.specs.declared.replies.Asked.TheVariants as asked
 use Rattle.mb_iface.specs.declared.replies.Acted.{Acted}
 use Rattle.mb_iface.specs.declared.replies.Acted.TheVariants as acted
-
--- numbers of which none is past the last block that a volume can have
-abbrev pub AreBlocks : List ℕ → Type 0
-AreBlocks blocks = AllByRecursion (λ (block : ℕ). block < 262144) blocks
 
 -- the blocks that are asked for: those of the run, and the others, of which 0 is none
 abbrev pub blocks_of : Need → List ℕ
@@ -22,7 +18,6 @@ pub record IsNeed (shown : ℕ → Option (List ℕ)) (need : Need) : Type 0 whe
   pub below : need.first ≤ 262143
   pub some : 1 ≤ need.count
   pub few : need.count ≤ 32
-  pub others : AreBlocks need.others
 
 -- the longest run of blocks from one on that a view lacks, as far as they are wanted
 pub record IsRun (shown : ℕ → Option (List ℕ)) (first wanted : ℕ) (need : Need) : Type 0 where

@@ -1,7 +1,8 @@
 ghost use Rattle.std.specs.Prelude.{◌≡◌, ◌≤◌, ◌<◌, ℕ, List, Option, None};
-ghost use Rattle.mb_iface.specs.Needs.{AreBlocks, IsNeed, IsRun};
+ghost use Rattle.mb_iface.specs.Needs.{IsNeed, IsRun};
 
 use crate::change_lists::Changes;
+use crate::others::Others;
 use crate::views::View;
 use mb_kinds::{Errno, Name, Octets, Stat};
 
@@ -25,13 +26,13 @@ pub enum Answer {
     Used(u32),
 }
 
-/// Blocks that a view lacks: `count` of them from `first` on, and those of `others` that are not 0, which
-/// may stand anywhere. `first` is 1 to 262,143, `count` 1 to 32, and each of the others below 262,144.
+/// Blocks that a view lacks: `count` of them from `first` on, and `others`, which may stand anywhere. `first` is
+/// 1 to 262,143, and `count` 1 to 32.
 #[derive(Clone, Copy, Debug, PartialEq, Drop)]
 pub struct Need {
     pub first: u32,
     pub count: u32,
-    pub others: [u32; 7],
+    pub others: Others,
 }
 
 impl Need {
@@ -46,7 +47,7 @@ impl Need {
         Need {
             first: block,
             count: 1,
-            others: [0; 7],
+            others: Others::none(),
         }
     }
 
@@ -57,17 +58,8 @@ impl Need {
         Need {
             first: 0,
             count: 1,
-            others: [0; 7],
+            others: Others::none(),
         }
-    }
-
-    /// The same blocks with these others, each below 262,144, in the place of those before.
-    pub fn with(self, others: [u32; 7]) -> Need
-        requires { AreBlocks others }
-        ensures need { (shown : ℕ → Option (List ℕ)) → IsNeed shown self → IsNeed shown result }
-        ensures first { result.first ≡ self.first }
-    {
-        Need { others, ..self }
     }
 
     /// The run of neighbours from a block on, which is from 1 on and below 262,144, that a view lacks:
@@ -81,20 +73,30 @@ impl Need {
         ensures run { IsRun (V.shown view.now) first wanted result }
     {
         let most = wanted.min(32).min(262_144 - first);
+        let others = Others::none();
         for count in 1..most {
             if view.get(first + count).is_some() {
                 return Need {
                     first,
                     count,
-                    others: [0; 7],
+                    others,
                 };
             }
         }
         Need {
             first,
             count: most,
-            others: [0; 7],
+            others,
         }
+    }
+
+    /// The same blocks with these others, in the place of those before.
+    pub fn with(self, others: Others) -> Need
+        ensures need { (shown : ℕ → Option (List ℕ)) → IsNeed shown self → IsNeed shown result }
+        ensures first { result.first ≡ self.first }
+        ensures others { result.others ≡ others }
+    {
+        Need { others, ..self }
     }
 }
 
