@@ -1,8 +1,8 @@
 ghost use Rattle.std.specs.Prelude.{Some, None, cond, nat_eq};
 
 use mb_iface::{
-    Acted, Asked, Changes, Edited, FileSys, Need, Opens, Over, Query, View, edit, edit_both,
-    hold_both, put_and_edit, seen,
+    Acted, Asked, Changes, Edited, FileSys, Need, Opens, Others, Over, Query, View, edit,
+    edit_both, hold_both, put_and_edit, seen,
 };
 use mb_tree::FsOp;
 use std::alloc::Global;
@@ -39,7 +39,7 @@ fn need_of(first: u32, count: u32) -> Need {
     Need {
         first,
         count,
-        others: [0; 7],
+        others: Others::none(),
     }
 }
 
