@@ -137,17 +137,17 @@ fn used_beside<F: FileSys, V: View>(
     alloc: Global,
     fs: &F,
     view: &V,
-    spot: Spot,
+    spot: &Spot,
 ) -> Result<u32, Halt>
     ensures wants { Needs (lacking (V.shown view.now)) result }
-    ensures says { TellsUsedBy (V.shown view.now) spot result }
-    ensures near { NearUsedBy (V.shown view.now) spot result }
+    ensures says { TellsUsedBy (V.shown view.now) spot.now result }
+    ensures near { NearUsedBy (V.shown view.now) spot.now result }
 {
     match spot {
         Spot::Present { ino, stat, .. } => match stat {
             Ok(stat) => {
                 if is_directory(stat.mode) {
-                    used_slots(alloc, fs, view, ino)
+                    used_slots(alloc, fs, view, *ino)
                 } else {
                     Err(Halt::NoMemory)
                 }
@@ -164,11 +164,11 @@ pub fn used<F: FileSys, V: View>(
     alloc: Global,
     fs: &F,
     view: &V,
-    asked: Result<Spot, Halt>,
+    asked: &Result<Spot, Halt>,
 ) -> Result<u32, Halt>
     ensures wants { Needs (lacking (V.shown view.now)) result }
-    ensures says { TellsUsedAt (V.shown view.now) asked result }
-    ensures near { NearUsedAt (V.shown view.now) asked result }
+    ensures says { TellsUsedAt (V.shown view.now) asked.now result }
+    ensures near { NearUsedAt (V.shown view.now) asked.now result }
 {
     match asked {
         Ok(spot) => used_beside(alloc, fs, view, spot),

@@ -114,7 +114,7 @@ pub fn plan_call<F: FileSys, V: View>(
         }
         Call::Rmdir { path } => {
             let spot = place(alloc, fs, view, seat, path, &walks.first);
-            let used = used(alloc, fs, view, spot);
+            let used = used(alloc, fs, view, &spot);
             rmdir_spot(opens, seats, seat, moment, spot, used)
         }
         Call::Chdir { path } => {
