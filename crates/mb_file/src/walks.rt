@@ -1,7 +1,7 @@
 ghost use Rattle.std.specs.Prelude.{OnOk, ◌≤◌, vec_len};
 ghost use Rattle.mb_file.specs.Walking.{Collects, HasFew, LacksIndex, PushesParts, PushesUnder};
 
-use mb_iface::{Changes, Need, View, seen};
+use mb_iface::{Changes, Need, Others, View, seen};
 use mb_layout::Dinode;
 use mb_word::long_at;
 use std::alloc::{AllocError, Global};
@@ -99,7 +99,32 @@ fn push_under<V: View>(
     Walked::Done
 }
 
-/// The first index block that the view lacks among those to which an address leads, so many levels down.
+/// The blocks that the view lacks among those to which an index block's addresses lead, but for the last
+/// `passed` of them: at most seven, and 0 behind them.
+fn lacking_beside<V: View>(
+    view: &V,
+    changes: &Changes,
+    index: &[u8; 512],
+    passed: usize,
+) -> Others {
+    let mut others = [0; 7];
+    let mut count = 0;
+    for more in passed..128usize {
+        if count == 7 {
+            break;
+        }
+        let block = long_at(index, 4 * (127 - more));
+        if block > 0 && block < 262_144 && seen(view, changes, block).is_none() {
+            others[count] = block;
+            count += 1;
+        }
+    }
+    Others::of(others)
+}
+
+/// The first index block that the view lacks among those to which an address leads, so many levels down,
+/// and beside it those that it lacks behind it in the same index block, so that they are asked for
+/// together.
 fn lacking_index<V: View>(view: &V, changes: &Changes, address: u32, levels: u8) -> Option<Need>
     ensures { LacksIndex (V.shown view.now) changes.now address levels result }
 {
@@ -121,7 +146,10 @@ fn lacking_index<V: View>(view: &V, changes: &Changes, address: u32, levels: u8)
     for passed in 0..128usize {
         let child = long_at(index, 4 * (127 - passed));
         if let Some(need) = lacking_index(view, changes, child, levels - 1) {
-            return Some(need);
+            if levels > 2 {
+                return Some(need);
+            }
+            return Some(need.with(lacking_beside(view, changes, index, passed + 1)));
         }
     }
     None
