@@ -1,7 +1,8 @@
 -- How far a loop over copies has come.
-use Rattle.std.proofs.Common.{◌≡◌, ℕ, ◌+◌, List, [], ◌∷◌, ◌++◌, Option, Some, length, sym, ap, ◌∙◌, arith, slice_get, drop, fold, nat_eq, subst}
+use Rattle.std.proofs.Common.{◌≡◌, ℕ, ◌+◌, List, [], ◌∷◌, ◌++◌, Option, Some, sym, ap, ◌∙◌, slice_get, drop, fold, nat_eq}
 use Rattle.indexmap.specs.IndexMap.{insert_entry}
 use Rattle.mb_kinds.specs.Image.{Image}
+use Rattle.mb_iface.proofs.NeedBlocks.{all_append}
 use Rattle.mb_cache.proofs.PageLoops.{next_first}
 use Rattle.mb_cache.specs.Stamps.{Stamps}
 use Rattle.mb_core_spec.specs.Copies.{CopyList, KeptBlock}
@@ -19,6 +20,5 @@ folded_more f b new goal xs at x so_far here one =
     ap (λ y. fold f y (drop (at + 1) xs)) one ∙ sym (ap (fold f b) (next_first xs at x here)) ∙ so_far
 
 -- one block more is read
-pub read_more : (view : Option Image) (stamps : Stamps) (reads : CopyList) (first block : ℕ) (read : ℕ × KeptBlock) → AreRead view stamps first reads → first + length reads ≡ block → IsRead view stamps block read → AreRead view stamps first (reads ++ read ∷ [])
-read_more view stamps [] first block read before at is = let here : block ≡ first = omega (arith, at) in (subst (λ b. IsRead view stamps b read) here is, tt)
-read_more view stamps (one ∷ reads) first block read before at is = (before.0, read_more view stamps reads (first + 1) block read before.1 (omega (arith, at)) is)
+pub read_more : (view : Option Image) (stamps : Stamps) (reads : CopyList) (read : ℕ × KeptBlock) → AreRead view stamps reads → IsRead view stamps read → AreRead view stamps (reads ++ read ∷ [])
+read_more view stamps reads read before is = all_append (IsRead view stamps) reads (read ∷ []) before (is, tt)

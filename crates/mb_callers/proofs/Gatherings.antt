@@ -1,8 +1,11 @@
 -- What gathering comes to, from the copies that it stores.
-use Rattle.std.proofs.Common.{List, [], ◌∷◌, ◌++◌, ℕ, ◌+◌, ◌≡◌, ◌≤◌, ◌⊎◌, inl, inr, Bool, true, false, cond, nat_eq, if◌then◌else◌, Option, Some, IfSome, IsSome, option_map, length, refl, ap, sym, ◌∙◌, subst, arith}
+use Rattle.std.proofs.Common.{List, [], ◌∷◌, ◌++◌, ℕ, ◌+◌, ◌≡◌, ◌≤◌, ◌⊎◌, inl, inr, Bool, true, false, cond, nat_eq, if◌then◌else◌, Option, Some, IfSome, IsSome, option_map, refl, ap, sym, ◌∙◌, subst, arith}
 use Rattle.std.proofs.lemmas.Bool.Decides.{nat_tests}
+use Rattle.std.specs.List.{AllByRecursion}
 use Rattle.indexmap.specs.IndexMap.{insert_entry}
 use Rattle.mb_kinds.specs.Image.{Image}
+use Rattle.mb_iface.specs.Needs.{blocks_of}
+use Rattle.mb_iface.specs.declared.replies.Need.{Need}
 use Rattle.mb_gate.specs.declared.ulogs.Undo.{Undo}
 use Rattle.mb_gate.specs.declared.ulogs.Undo.TheVariants as undo_step
 use Rattle.mb_cache.specs.Pages.{under}
@@ -15,7 +18,8 @@ use Rattle.mb_core_spec.specs.Flights.{is_pin}
 use Rattle.mb_core_spec.specs.State.{CallerState}
 use Rattle.mb_callers.specs.CallerLaws.{Gathered, HasMore, IsGathering}
 use Rattle.mb_callers.specs.Gathering.{GathersBlocks, GathersTables, with_blocks, with_tables}
-use Rattle.mb_callers.specs.Reads.{AreRead, IsRead, pin_steps, stored}
+use Rattle.mb_callers.specs.Reads.{AreRead, IsRead, numbers, pin_steps, stored}
+use Rattle.mb_callers.proofs.Numbers.{first_of}
 use Rattle.mb_callers.proofs.Sums.{total_append}
 
 -- ---- one copy stored
@@ -58,19 +62,14 @@ some_stays false new old is = is
 -- ---- the copies of reads stored
 
 -- a copy is an old one, or what was read of its block
-pub stored_kept : (view : Option Image) (stamps : Stamps) (copies reads : CopyList) (first block : ℕ) (kept : KeptBlock) → AreRead view stamps first reads → kept_at (stored copies reads) block ≡ Some kept
-    → (kept_at copies block ≡ Some kept) ⊎ IsRead view stamps block (block, kept)
-stored_kept view stamps copies [] first block kept are here = inl here
-stored_kept view stamps copies (read ∷ reads) first block kept are here = elim (stored_kept view stamps (insert_entry nat_eq copies read.0 read.1) reads (first + 1) block kept are.1 here) [
+pub stored_kept : (view : Option Image) (stamps : Stamps) (copies reads : CopyList) (block : ℕ) (kept : KeptBlock) → AreRead view stamps reads → kept_at (stored copies reads) block ≡ Some kept
+    → (kept_at copies block ≡ Some kept) ⊎ IsRead view stamps (block, kept)
+stored_kept view stamps copies [] block kept are here = inl here
+stored_kept view stamps copies (read ∷ reads) block kept are here = elim (stored_kept view stamps (insert_entry nat_eq copies read.0 read.1) reads block kept are.1 here) [
   | inl before ↦ elim (new_or_old (nat_eq block read.0) read.1 kept (kept_at copies block) (sym (kept_stored copies read.0 read.1 block) ∙ before)) [
     | inl new ↦ (
-        let at : block ≡ read.0 = grind (arith, nat_tests, new.0) in
-        let one = are.0 in
-        inr (record {
-          block_is = refl;
-          bytes = subst (λ (k : KeptBlock). IfSome view (λ (image : Image). k.bytes ≡ image.at block)) new.1 (subst (λ n. IfSome view (λ (image : Image). read.1.bytes ≡ image.at n)) (sym one.block_is ∙ sym at) one.bytes);
-          stamp = ap (λ (k : KeptBlock). k.stamp) (sym new.1) ∙ one.stamp ∙ ap (stamp_of stamps) (sym one.block_is ∙ sym at);
-        }))
+        let at : read.0 ≡ block = grind (arith, nat_tests, new.0) in
+        inr (subst (λ (k : KeptBlock). IsRead view stamps (block, k)) new.1 (subst (λ n. IsRead view stamps (n, read.1)) at are.0)))
     | inr old ↦ inl old
   ]
   | inr new ↦ inr new
@@ -82,13 +81,17 @@ stored_stays copies [] block is = is
 stored_stays copies (read ∷ reads) block is = stored_stays (insert_entry nat_eq copies read.0 read.1) reads block
     (subst (λ (o : Option KeptBlock). IsSome (option_map (λ (k : KeptBlock). k.bytes) o)) (sym (kept_stored copies read.0 read.1 block)) (some_stays (nat_eq block read.0) read.1 (kept_at copies block) is))
 
--- and the first block that was read
-pub stored_first : (view : Option Image) (stamps : Stamps) (copies reads : CopyList) (first : ℕ) → AreRead view stamps first reads → 1 ≤ length reads → IsSome (shown (stored copies reads) first)
-stored_first view stamps copies [] first are some = absurd (omega (arith, some))
-stored_first view stamps copies (read ∷ reads) first are some =
-    let here : nat_eq first read.0 ≡ true = (let is = are.0.block_is in grind (arith, nat_tests, is)) in
-    stored_stays (insert_entry nat_eq copies read.0 read.1) reads first
-    (subst (λ (o : Option KeptBlock). IsSome (option_map (λ (k : KeptBlock). k.bytes) o)) (sym (kept_stored copies read.0 read.1 first ∙ ap (λ b. cond b (Some read.1) (kept_at copies first)) here)) refl)
+same_block : (block : ℕ) → nat_eq block block ≡ true
+same_block block = grind (arith, nat_tests)
+
+-- and each block that was read
+pub stored_there : (copies reads : CopyList) → AllByRecursion (λ block. IsSome (shown (stored copies reads) block)) (numbers reads)
+stored_there copies [] = tt
+stored_there copies (read ∷ reads) = (
+  stored_stays (insert_entry nat_eq copies read.0 read.1) reads read.0
+      (subst (λ (o : Option KeptBlock). IsSome (option_map (λ (k : KeptBlock). k.bytes) o)) (sym (kept_stored copies read.0 read.1 read.0 ∙ ap (λ b. cond b (Some read.1) (kept_at copies read.0)) (same_block read.0))) refl),
+  stored_there (insert_entry nat_eq copies read.0 read.1) reads,
+)
 
 -- ---- pins
 
@@ -101,12 +104,12 @@ log_pinned old new undo steps log back is block =
 
 -- ---- both kinds of gathering
 
-module _ (view : Option Image) (stamps : Stamps) (first : ℕ) (pages : PagesState) (reads : CopyList) where
-  has_blocks : AreRead view stamps first reads → 1 ≤ first → 1 ≤ length reads → HasMore first pages (with_blocks pages reads)
+module _ (need : Need) (pages : PagesState) (reads : CopyList) where
+  has_blocks : numbers reads ≡ blocks_of need → 1 ≤ need.first → 1 ≤ need.count → HasMore need.first pages (with_blocks pages reads)
   has_blocks are one some = record {
     blocks = stored_stays pages.blocks reads;
     tables = λ there. there;
-    block_there = λ _. stored_first view stamps pages.blocks reads first are some;
+    block_there = λ _. first_of need (λ block. IsSome (shown (stored pages.blocks reads) block)) some (subst (AllByRecursion (λ block. IsSome (shown (stored pages.blocks reads) block))) are (stored_there pages.blocks reads));
     tables_there = λ none. absurd (omega (arith, none, one));
   }
 
@@ -119,29 +122,28 @@ has_tables pages now = record {
 }
 
 module _ {D : Type 0} (told : D → Option Image) (old new : CacheState D) (live : LiveTables) (mine : CallerState) where
-  blocks_event : (first : ℕ) (reads : CopyList) → AreRead (seen told old) old.stamps first reads → GivesBack new.pins old.pins (pin_steps reads)
+  blocks_event : (reads : CopyList) → AreRead (seen told old) old.stamps reads → GivesBack new.pins old.pins (pin_steps reads)
       → IsGathering told old new live mine (record mine { undo = mine.undo ++ pin_steps reads; pages = with_blocks mine.pages reads })
-  blocks_event first reads are pins = record {
+  blocks_event reads are pins = record {
     state = refl;
     gathers = record {
-      blocks = λ block copy here. elim (stored_kept (seen told old) old.stamps mine.pages.blocks reads first block copy are here) [ inl before ↦ inl before | inr new_one ↦ inr new_one.stamp ];
+      blocks = λ block copy here. elim (stored_kept (seen told old) old.stamps mine.pages.blocks reads block copy are here) [ inl before ↦ inl before | inr new_one ↦ inr new_one.stamp ];
       tables = inl refl;
     };
     pinned = log_pinned old.pins new.pins mine.undo (pin_steps reads) _ pins refl;
-    reads = λ image tells block copy here. elim (stored_kept (seen told old) old.stamps mine.pages.blocks reads first block copy are here) [
+    reads = λ image tells block copy here. elim (stored_kept (seen told old) old.stamps mine.pages.blocks reads block copy are here) [
       | inl before ↦ inl before
       | inr new_one ↦ inr (sym (subst (λ (v : Option Image). IfSome v (λ (i : Image). copy.bytes ≡ i.at block)) (ap (option_map (λ (i : Image). under (under i old.sealed) old.current)) tells) new_one.bytes))
     ];
   }
 
-  pub blocks_gathered : (first count : ℕ) (kept : CallerState) (pages got : PagesState) → GathersBlocks told old new first count mine kept pages got → 1 ≤ first → 1 ≤ count → Gathered told old new live first mine kept pages got
-  blocks_gathered first count kept pages got gathers one some =
-      let many : 1 ≤ length gathers.reads = (let long = gathers.long in omega (arith, long, some)) in
-      subst (λ k. Gathered told old new live first mine k pages got) (sym gathers.kept_is)
-      (subst (λ p. Gathered told old new live first mine (record mine { undo = mine.undo ++ pin_steps gathers.reads; pages = with_blocks mine.pages gathers.reads }) pages p) (sym gathers.got_is) (record {
-        event = blocks_event first gathers.reads gathers.are gathers.pins;
-        copies = has_blocks (seen told old) old.stamps first mine.pages gathers.reads gathers.are one many;
-        more = has_blocks (seen told old) old.stamps first pages gathers.reads gathers.are one many;
+  pub blocks_gathered : (need : Need) (kept : CallerState) (pages got : PagesState) → GathersBlocks told old new need mine kept pages got → 1 ≤ need.first → 1 ≤ need.count → Gathered told old new live need.first mine kept pages got
+  blocks_gathered need kept pages got gathers one some =
+      subst (λ k. Gathered told old new live need.first mine k pages got) (sym gathers.kept_is)
+      (subst (λ p. Gathered told old new live need.first mine (record mine { undo = mine.undo ++ pin_steps gathers.reads; pages = with_blocks mine.pages gathers.reads }) pages p) (sym gathers.got_is) (record {
+        event = blocks_event gathers.reads gathers.are gathers.pins;
+        copies = has_blocks need mine.pages gathers.reads gathers.numbers_are one some;
+        more = has_blocks need pages gathers.reads gathers.numbers_are one some;
         alike = λ same. ap (λ (p : PagesState). with_blocks p gathers.reads) same;
       }))
 

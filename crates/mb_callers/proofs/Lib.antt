@@ -1,5 +1,6 @@
 pub mod CopyLoops
 pub mod Gatherings
+pub mod Numbers
 pub mod PinSteps
 pub mod Renewals
 pub mod Seen

@@ -1,6 +1,7 @@
 -- What gathering comes to for the core and for who drives the call, and what the search for a stale block tells.
 use Rattle.std.specs.Prelude.{ℕ, ◌+◌, ◌≡◌, ◌≤◌, ◌⊎◌, Bool, Option, Some, IsSome}
 use Rattle.mb_kinds.specs.Image.{Image}
+use Rattle.mb_iface.specs.declared.replies.Need.{Need}
 use Rattle.mb_cache.specs.Pages.{under}
 use Rattle.mb_cache.specs.Stamps.{Stamps, stamp_of}
 use Rattle.mb_cache.specs.State.{CacheState}
@@ -38,8 +39,8 @@ pub record Gathered {D : Type 0} (told : D → Option Image) (old new : CacheSta
   pub alike : pages ≡ mine.pages → got ≡ kept.pages
 
 abbrev pub BlocksGathered : {D : Type 0} → (D → Option Image) → Type 0
-BlocksGathered {D} told = (old new : CacheState D) (live : LiveTables) (first count : ℕ) (mine kept : CallerState) (pages got : PagesState)
-    → GathersBlocks told old new first count mine kept pages got → 1 ≤ first → 1 ≤ count → Gathered told old new live first mine kept pages got
+BlocksGathered {D} told = (old new : CacheState D) (live : LiveTables) (need : Need) (mine kept : CallerState) (pages got : PagesState)
+    → GathersBlocks told old new need mine kept pages got → 1 ≤ need.first → 1 ≤ need.count → Gathered told old new live need.first mine kept pages got
 
 abbrev pub TablesGathered : {D : Type 0} → (D → Option Image) → Type 0
 TablesGathered {D} told = (old new : CacheState D) (live : LiveTables) (mine kept : CallerState) (pages got : PagesState)

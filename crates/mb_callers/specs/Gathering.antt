@@ -1,6 +1,8 @@
 -- What gathering makes of a caller's state and of its pages.
-use Rattle.std.specs.Prelude.{[], ◌∷◌, ◌++◌, ℕ, ◌≡◌, ◌≤◌, ◌+◌, Bool, true, Option, Some, length}
+use Rattle.std.specs.Prelude.{[], ◌∷◌, ◌++◌, ◌≡◌, ◌≤◌, ◌+◌, Bool, true, Option, Some, length}
 use Rattle.mb_kinds.specs.Image.{Image}
+use Rattle.mb_iface.specs.Needs.{blocks_of}
+use Rattle.mb_iface.specs.declared.replies.Need.{Need}
 use Rattle.mb_room.specs.Room.{Roomy}
 use Rattle.mb_gate.specs.declared.ulogs.Undo.{Undo}
 use Rattle.mb_gate.specs.declared.ulogs.Undo.TheVariants as undo
@@ -8,7 +10,7 @@ use Rattle.mb_cache.specs.State.{CacheState, seen}
 use Rattle.mb_core_spec.specs.Copies.{CopyList, PagesState, TableCopy}
 use Rattle.mb_core_spec.specs.Events.{GivesBack}
 use Rattle.mb_core_spec.specs.State.{CallerState}
-use Rattle.mb_callers.specs.Reads.{AreRead, pin_steps, stored}
+use Rattle.mb_callers.specs.Reads.{AreRead, numbers, pin_steps, stored}
 
 -- pages with the copies of some blocks more
 abbrev pub with_blocks : PagesState → CopyList → PagesState
@@ -18,11 +20,11 @@ with_blocks pages reads = record pages { blocks = stored pages.blocks reads }
 abbrev pub with_tables : PagesState → TableCopy → PagesState
 with_tables pages now = record pages { tables = Some now }
 
--- blocks were gathered: read as they are seen, pinned, and kept with the caller and in its pages alike
-pub record GathersBlocks {D : Type 0} (told : D → Option Image) (old new : CacheState D) (first count : ℕ) (mine kept : CallerState) (pages got : PagesState) : Type 0 where
+-- the blocks that are asked for were gathered: read as they are seen, pinned, and kept with the caller and in its pages alike
+pub record GathersBlocks {D : Type 0} (told : D → Option Image) (old new : CacheState D) (need : Need) (mine kept : CallerState) (pages got : PagesState) : Type 0 where
   pub reads : CopyList
-  pub long : length reads ≡ count
-  pub are : AreRead (seen told old) old.stamps first reads
+  pub numbers_are : numbers reads ≡ blocks_of need
+  pub are : AreRead (seen told old) old.stamps reads
   pub pins : GivesBack new.pins old.pins (pin_steps reads)
   pub kept_is : kept ≡ record mine { undo = mine.undo ++ pin_steps reads; pages = with_blocks mine.pages reads }
   pub got_is : got ≡ with_blocks pages reads

@@ -45,13 +45,13 @@ impl Blocks {
     pub fn gather<D: Disk>(&mut self, cache: &mut Cache<D>, need: Need) -> Result<(), ReadFault>
         requires first { need.first < 262144 }
         requires count { need.count ≤ 32 }
-        ensures ok { OnOk result (GathersSeen (seen D.told cache.old) need.first need.count self.old self.new) }
+        ensures ok { OnOk result (GathersSeen (seen D.told cache.old) need self.old self.new) }
         ensures err { OnErr result (self.new ≡ self.old) }
         ensures rest { cache.new ≡ record cache.old { disk = cache.new.disk; room = record cache.old.room { clean = cache.new.room.clean } } }
         ensures told { D.told cache.new.disk ≡ D.told cache.old.disk }
         ensures cause { ReadHasCause (D.faults cache.old.disk) (D.faults cache.new.disk) result }
     {
-        self.reads.fetch(cache, need.first, need.count)?;
+        self.reads.fetch(cache, need)?;
         self.copies.reserve(self.reads.len())?;
         self.copies.store(&self.reads);
         Ok(())

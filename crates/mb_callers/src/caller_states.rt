@@ -208,7 +208,7 @@ impl CallerState {
         requires first { need.first < 262144 }
         requires count { need.count ≤ 32 }
         ensures tables { need.first ≡ 0 → OnOk result (GathersTables cache.old cache.new (as_copy tables.now) self.old self.new pages.old pages.new) }
-        ensures blocks { 1 ≤ need.first → OnOk result (GathersBlocks D.told cache.old cache.new need.first need.count self.old self.new pages.old pages.new) }
+        ensures blocks { 1 ≤ need.first → OnOk result (GathersBlocks D.told cache.old cache.new need self.old self.new pages.old pages.new) }
         ensures err { OnErr result ((self.new ≡ self.old) × (pages.new ≡ pages.old) × (cache.new.pins ≡ cache.old.pins)) }
         ensures rest { cache.new ≡ record cache.old { disk = cache.new.disk; pins = cache.new.pins; room = record cache.old.room { pins = cache.new.room.pins; clean = cache.new.room.clean } } }
         ensures told { D.told cache.new.disk ≡ D.told cache.old.disk }
@@ -251,13 +251,13 @@ impl CallerState {
     ) -> Result<(), ReadFault>
         requires first { need.first < 262144 }
         requires count { need.count ≤ 32 }
-        ensures ok { OnOk result (GathersBlocks D.told cache.old cache.new need.first need.count self.old self.new pages.old pages.new) }
+        ensures ok { OnOk result (GathersBlocks D.told cache.old cache.new need self.old self.new pages.old pages.new) }
         ensures err { OnErr result ((self.new ≡ self.old) × (pages.new ≡ pages.old) × (cache.new.pins ≡ cache.old.pins)) }
         ensures rest { cache.new ≡ record cache.old { disk = cache.new.disk; pins = cache.new.pins; room = record cache.old.room { pins = cache.new.room.pins; clean = cache.new.room.clean } } }
         ensures told { D.told cache.new.disk ≡ D.told cache.old.disk }
         ensures cause { ReadHasCause (D.faults cache.old.disk) (D.faults cache.new.disk) result }
     {
-        self.reads.fetch(cache, need.first, need.count)?;
+        self.reads.fetch(cache, need)?;
         keep_blocks(
             &mut self.undo,
             &mut self.pages.blocks,

@@ -63,7 +63,7 @@ impl KeptBlock {
         ensures rest { cache.new ≡ record cache.old { disk = cache.new.disk; room = record cache.old.room { clean = cache.new.room.clean } } }
         ensures told { D.told cache.new.disk ≡ D.told cache.old.disk }
         ensures cause { ReadHasCause (D.faults cache.old.disk) (D.faults cache.new.disk) result }
-        ensures ok { OnOk result (IsRead (seen D.told cache.old) cache.old.stamps block (block, self.new)) }
+        ensures ok { OnOk result (IsRead (seen D.told cache.old) cache.old.stamps (block, self.new)) }
     {
         self.stamp = cache.stamp(block);
         cache.read(block, &mut self.bytes)

@@ -1,10 +1,12 @@
-ghost use Rattle.std.specs.Prelude.{◌≡◌, ◌≤◌, ◌<◌, ◌+◌, [], ℕ, Some, length, take, OnOk, slice_get};
+ghost use Rattle.std.specs.Prelude.{◌≡◌, ◌≤◌, ◌<◌, ◌+◌, ◌++◌, ◌∷◌, [], Some, length, take, OnOk, slice_get};
 ghost use Rattle.mb_cache.specs.State.{ReadHasCause, seen};
-ghost use Rattle.mb_callers.specs.Reads.{AreRead};
+ghost use Rattle.mb_callers.specs.Reads.{AreRead, numbers};
+ghost use Rattle.mb_iface.specs.Needs.{blocks_of};
 
 use crate::kept_blocks::KeptBlock;
 use mb_cache::{Cache, ReadFault};
 use mb_edge::{Disk, NoMemory};
+use mb_iface::Need;
 use std::alloc::Global;
 use std::marker::Model;
 
@@ -81,8 +83,8 @@ impl Reads {
         ensures rest { cache.new ≡ record cache.old { disk = cache.new.disk; room = record cache.old.room { clean = cache.new.room.clean } } }
         ensures told { D.told cache.new.disk ≡ D.told cache.old.disk }
         ensures cause { ReadHasCause (D.faults cache.old.disk) (D.faults cache.new.disk) result }
-        ensures ok { OnOk result ((first : ℕ) → first + length self.old ≡ block → AreRead (seen D.told cache.old) cache.old.stamps first self.old → AreRead (seen D.told cache.old) cache.old.stamps first self.new) }
-        ensures long { OnOk result (length self.new ≡ length self.old + 1) }
+        ensures ok { OnOk result (AreRead (seen D.told cache.old) cache.old.stamps self.old → AreRead (seen D.told cache.old) cache.old.stamps self.new) }
+        ensures numbers { OnOk result (numbers self.new ≡ numbers self.old ++ block ∷ []) }
     {
         reserve_one(&mut self.items, self.count)?;
         let (number, kept) = &mut self.items[self.count];
@@ -92,23 +94,23 @@ impl Reads {
         Ok(())
     }
 
-    /// Reads so many blocks from one on, as they are seen, in the place of those before.
-    pub fn fetch<D: Disk>(
-        &mut self,
-        cache: &mut Cache<D>,
-        first: u32,
-        count: u32,
-    ) -> Result<(), ReadFault>
-        requires { first + count ≤ 4294967295 }
+    /// Reads the blocks that are needed as they are seen, the run and then the others, in the place of those before.
+    pub fn fetch<D: Disk>(&mut self, cache: &mut Cache<D>, need: Need) -> Result<(), ReadFault>
+        requires { need.first + need.count ≤ 4294967295 }
         ensures rest { cache.new ≡ record cache.old { disk = cache.new.disk; room = record cache.old.room { clean = cache.new.room.clean } } }
         ensures told { D.told cache.new.disk ≡ D.told cache.old.disk }
         ensures cause { ReadHasCause (D.faults cache.old.disk) (D.faults cache.new.disk) result }
-        ensures ok { OnOk result (AreRead (seen D.told cache.old) cache.old.stamps first self.new) }
-        ensures long { OnOk result (length self.new ≡ count) }
+        ensures ok { OnOk result (AreRead (seen D.told cache.old) cache.old.stamps self.new) }
+        ensures numbers { OnOk result (numbers self.new ≡ blocks_of need) }
     {
         self.clear();
-        for at in 0..count {
-            self.read(cache, first + at)?;
+        for at in 0..need.count {
+            self.read(cache, need.first + at)?;
+        }
+        for block in need.others.blocks() {
+            if *block != 0 {
+                self.read(cache, *block)?;
+            }
         }
         Ok(())
     }

@@ -7,5 +7,5 @@ use Rattle.mb_callers.proofs.blocks.Blocks.gather.Goals as goal
 pub returns-clause-ok : goal.returns-clause-ok
 returns-clause-ok g c =
     let is = c.store.ensures.items ∙ ap (λ copies. stored copies c.fetch.new.self) (c.reserve.ensures.same ∙ c.self.view_is) in
-    subst (GathersSeen (seen g.D.Disk.told c.args.cache.now) c.args.need.first c.args.need.count c.args.self.now) (sym is)
-    (gathers_seen (seen g.D.Disk.told c.args.cache.now) c.args.cache.now.stamps c.args.self.now c.fetch.new.self c.args.need.first c.in_ok-fetch.ensures.ok c.args.need.count c.in_ok-fetch.ensures.long)
+    subst (GathersSeen (seen g.D.Disk.told c.args.cache.now) c.args.need c.args.self.now) (sym is)
+    (gathers_seen (seen g.D.Disk.told c.args.cache.now) c.args.cache.now.stamps c.args.self.now c.fetch.new.self c.args.need c.in_ok-fetch.ensures.ok c.in_ok-fetch.ensures.numbers)
