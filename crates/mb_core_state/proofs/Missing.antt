@@ -1,9 +1,10 @@
 -- How many blocks are still to be gathered.
-use Rattle.std.proofs.Common.{◌≡◌, ℕ, zero, suc, ◌+◌, ◌<◌, ◌≤◌, Bool, true, false, cond, inl, inr, is_some, Option, refl, ap, sym, ◌∙◌, arith}
+use Rattle.std.proofs.Common.{◌≡◌, ℕ, zero, suc, ◌+◌, ◌<◌, ◌≤◌, Bool, true, false, cond, inl, inr, is_some, IsSome, Option, refl, ap, sym, ◌∙◌, arith}
 use Rattle.mb_tree.proofs.FiniteMaps.{one_or_not}
 use Rattle.mb_kinds.specs.Image.{Image}
 use Rattle.mb_iface.specs.Needs.{IsNeed}
 use Rattle.mb_iface.specs.declared.replies.Need.{Need}
+use Rattle.mb_callers.proofs.Numbers.{first_of}
 use Rattle.mb_callers.specs.Reads.{GathersSeen}
 use Rattle.mb_core_spec.specs.Copies.{CopyList, shown}
 
@@ -38,6 +39,6 @@ abbrev pub lacking : CopyList → ℕ
 lacking copies = missing (λ block. is_some (shown copies block)) 262144
 
 -- fewer are lacking once one that was lacking is there, and none is lost
-pub fewer_lack : (view : Option Image) (old new : CopyList) (need : Need) → IsNeed (shown old) need → GathersSeen view need.first need.count old new → lacking new < lacking old
-fewer_lack view old new need is gathers = missing_less (λ block. is_some (shown old block)) (λ block. is_some (shown new block)) 262144 need.first gathers.stays (ap is_some is.lacking) (gathers.there is.some)
+pub fewer_lack : (view : Option Image) (old new : CopyList) (need : Need) → IsNeed (shown old) need → GathersSeen view need old new → lacking new < lacking old
+fewer_lack view old new need is gathers = missing_less (λ block. is_some (shown old block)) (λ block. is_some (shown new block)) 262144 need.first gathers.stays (ap is_some is.lacking) (first_of need (λ block. IsSome (shown new block)) is.some gathers.there)
     (let low = is.below in omega (arith, low))

@@ -64,11 +64,11 @@ Strikes old new ticket kind nth strokes (fault.Struck number) = IsPresent old ti
 
 -- ---- a call gathers
 
--- at block 0 the tables, else blocks, are pinned and kept, with the caller and in its pages alike
+-- at block 0 the tables, else the blocks that are asked for, are pinned and kept, with the caller and in its pages alike
 pub record KeepsGathered {F D : Type 0} (told : D → Option Image) (old new : CoreState F D) (caller : ℕ) (need : Need) (mine : CallerState) (pages got : PagesState) : Type 0 where
   pub kept : CallerState
   pub tables : need.first ≡ 0 → GathersTables old.cache new.cache (live_copy old.tables) mine kept pages got
-  pub blocks : 1 ≤ need.first → GathersBlocks told old.cache new.cache need.first need.count mine kept pages got
+  pub blocks : 1 ≤ need.first → GathersBlocks told old.cache new.cache need mine kept pages got
   pub callers : new.callers ≡ slice_set old.callers caller kept
 
 abbrev pub Gathering : {F D : Type 0} → (D → Option Image) → (D → ℕ) → CoreState F D → CoreState F D → Ticket → Need → CallerState → Flight → PagesState → PagesState → Gathered → Type 0
