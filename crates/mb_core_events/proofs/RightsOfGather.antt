@@ -42,7 +42,7 @@ module _ {F D : Type 0} (told : D → Option Image) (faults : D → ℕ) (core :
   gathers_by : (new : CoreState F D) (caller : ℕ) (need : Need) (mine : CallerState) (pages got : PagesState) → IsAsked need → (by : KeepsGathered told core new caller need mine pages got)
       → IsGathering told core.cache new.cache core.tables mine by.kept
   gathers_by new caller need mine pages got asked by = elim (cases_lt 0 need.first) [
-    | inl some ↦ (blocks_gathered told core.cache new.cache core.tables mine need.first need.count by.kept pages got (by.blocks (omega (arith, some))) (omega (arith, some)) asked.some).event
+    | inl some ↦ (blocks_gathered told core.cache new.cache core.tables mine need by.kept pages got (by.blocks (omega (arith, some))) (omega (arith, some)) asked.some).event
     | inr none ↦ (tables_gathered told core.cache new.cache core.tables mine (live_copy core.tables) by.kept pages got refl (by.tables (omega (arith, none)))).event
   ]
 
