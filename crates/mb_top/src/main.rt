@@ -3,41 +3,10 @@
 //! what files and pipes hold. `mb_commands` says which words are a command.
 #![tactic(auto)]
 
-mod deciding;
-#[cfg(test)]
-mod device_tests;
-#[cfg(test)]
-mod example_files;
-#[cfg(test)]
-mod example_tests;
-mod finish;
-#[cfg(test)]
-mod interleaving_tests;
-mod laws;
-mod manners;
-mod membrane;
-mod outcomes;
-#[cfg(test)]
-mod recovery_tests;
-#[cfg(test)]
-mod refusal_tests;
-mod running;
-#[cfg(test)]
-mod slow_sinks;
-#[cfg(test)]
-mod soak_tests;
-#[cfg(test)]
-mod thread_tests;
-#[cfg(test)]
-mod trials;
-#[cfg(test)]
-mod volumes;
-
-use finish::Finish;
 use mb_commands::{Command, command_of, image_name};
 use mb_edge::write_whole;
 use mb_host::{FileDisk, InSource, OutSink, StandIns, Word8, Words};
-use membrane::membrane;
+use mb_program::{Finish, membrane};
 use std::alloc::AllocError;
 use std::env::Env;
 use std::io::ErrorKind;

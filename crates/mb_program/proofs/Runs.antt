@@ -1,0 +1,203 @@
+-- What comes of a run, from the laws on its path.
+use Rattle.std.proofs.Common.{List, ℕ, ◌≤◌, ◌≡◌, ◌≢◌, ◌⊎◌, Option, Some, inl, inr, ap, arith, sym, subst, ◌∙◌, refl}
+use Rattle.mb_core_events.specs.Beginning.{TellsVolume}
+use Rattle.mb_core_spec.specs.Right.{Right}
+use Rattle.mb_core_spec.specs.State.{CoreState}
+use Rattle.mb_core_spec.specs.declared.stages.Stage.{Stage}
+use Rattle.mb_core_spec.specs.declared.stages.Stage.TheVariants as stage
+use Rattle.mb_edge.specs.Causes.{Rose}
+use Rattle.mb_fsops.specs.declared.v7.V7.{V7}
+use Rattle.mb_headline.specs.Headline.{FewerDevices, IsDone, IsGivenUp, IsRun, KeepsOrder, LeavesImage}
+use Rattle.mb_headline.specs.Laws.{DrivesKeepOrder, DrivesApart, IsBegunFor, IsFitJob, IsPath, PathsAreRuns, PathsEnd, PathsFail}
+use Rattle.mb_jobs.specs.declared.jobs.Job.{Job}
+use Rattle.mb_kinds.specs.Image.{Image}
+use Rattle.mb_kinds.specs.declared.entries.Entry.{Entry}
+use Rattle.mb_plan.specs.Fires.{fires}
+use Rattle.mb_plan.specs.declared.rules.Rule.{Rule}
+use Rattle.mb_print.specs.Transcript.{end_text, failed_text}
+use Rattle.mb_run.specs.CoreSight.{sight_of}
+use Rattle.mb_run.specs.Drives.{IsDriven, IsDrivenApart}
+use Rattle.mb_run.specs.Orders.{asked_by}
+use Rattle.mb_run.specs.Settling.{IsSettled, Keeps, SealsAtEnd}
+use Rattle.mb_run.specs.Sights.{IsOrderly}
+use Rattle.mb_volume_core.proofs.Origins.{origin_of}
+use Rattle.mb_volume_core.specs.declared.volume_core.Origin.{Origin}
+use Rattle.mb_program.specs.Held.{HoldsCore, held_disk}
+use Rattle.mb_program.specs.declared.finish.Held.{Held}
+use Rattle.mb_program.specs.declared.finish.Held.TheVariants as held
+use Rattle.mb_program.specs.declared.manners.Manner.{Manner}
+use Rattle.mb_program.specs.declared.manners.Manner.TheVariants as manners
+use Rattle.mb_program.specs.Outcomes.{ComesOfCore, ComesOfJob, ComesOfRunWords, IsAlone, IsDiskFault, KeepsOrderIfAlone, IsDrivenFor, asked_for, Says, told_text, unsettled_text}
+use Rattle.mb_program.specs.declared.outcomes.Outcome.{Outcome}
+use Rattle.mb_program.specs.declared.outcomes.Outcome.TheVariants.{WordsRefused, InputFault, JobRefused, DiskFault, OutOfMemory, Made, Checked, Unsound, Unsettled, GivenUp, Ran}
+
+comes_done : {D : Type 0} (told : D → Option Image) (faults : D → ℕ) (manner : Manner) (job : Job) (disk : D) (core : CoreState V7 D) (outcome : Outcome)
+    → IsRun told faults (asked_for manner job) job disk core → KeepsOrderIfAlone manner job core → IsDone job core → LeavesImage told job disk core → Says Ran (told_text manner end_text job core) outcome → ComesOfCore told faults manner job disk core outcome
+comes_done told faults manner job disk core outcome run order all left said =
+    elim said [
+      | inl is ↦ subst (ComesOfCore told faults manner job disk core) (sym is) (record { run = run; order = order; done = all; left = left; printed = refl })
+      | inr none ↦ subst (ComesOfCore told faults manner job disk core) (sym none) tt
+    ]
+
+comes_given_up : {D : Type 0} (told : D → Option Image) (faults : D → ℕ) (manner : Manner) (job : Job) (disk : D) (core : CoreState V7 D) (outcome : Outcome)
+    → IsRun told faults (asked_for manner job) job disk core → KeepsOrderIfAlone manner job core → IsGivenUp job core → LeavesImage told job disk core → Says GivenUp (told_text manner failed_text job core) outcome → ComesOfCore told faults manner job disk core outcome
+comes_given_up told faults manner job disk core outcome run order failed left said =
+    elim said [
+      | inl is ↦ subst (ComesOfCore told faults manner job disk core) (sym is) (record { run = run; order = order; given_up = failed; left = left; printed = refl })
+      | inr none ↦ subst (ComesOfCore told faults manner job disk core) (sym none) tt
+    ]
+
+abbrev is_failed : Stage → Type 0
+is_failed stage.Failed = Unit {0}
+is_failed _ = ⊥
+
+-- a run that was settled, by whether the volume failed
+pub settled : {D : Type 0} (told : D → Option Image) (faults : D → ℕ) (manner : Manner) (job : Job) (disk : D) (core : CoreState V7 D) (outcome : Outcome)
+    → IsRun told faults (asked_for manner job) job disk core → KeepsOrderIfAlone manner job core → (IsDone job core ⊎ IsGivenUp job core) × LeavesImage told job disk core
+    → (core.stage ≡ stage.Failed → Says GivenUp (told_text manner failed_text job core) outcome)
+    → (core.stage ≢ stage.Failed → Says Ran (told_text manner end_text job core) outcome)
+    → ComesOfCore told faults manner job disk core outcome
+settled told faults manner job disk core outcome run order ends failed runs =
+    elim ends.0 [
+      | inl is ↦ comes_done told faults manner job disk core outcome run order is ends.1 (runs (λ wrong. subst is_failed (sym wrong ∙ is.runs) tt))
+      | inr is ↦ comes_given_up told faults manner job disk core outcome run order is ends.1 (failed is.failed)
+    ]
+
+-- a run in whose end the disk failed
+pub unsettled : {D : Type 0} (told : D → Option Image) (faults : D → ℕ) (manner : Manner) (job : Job) (disk : D) (core : CoreState V7 D) (outcome : Outcome)
+    → IsRun told faults (asked_for manner job) job disk core → KeepsOrderIfAlone manner job core → FewerDevices (faults disk) (faults core.cache.disk) core.journal.history → Rose (faults disk) (faults core.cache.disk)
+    → Says Unsettled (unsettled_text manner job core) outcome → ComesOfCore told faults manner job disk core outcome
+unsettled told faults manner job disk core outcome run order fewer rose said =
+    elim said [
+      | inl is ↦ subst (ComesOfCore told faults manner job disk core) (sym is) (record { run = run; order = order; fewer = fewer; rose = rose; printed = refl })
+      | inr none ↦ subst (ComesOfCore told faults manner job disk core) (sym none) tt
+    ]
+
+-- ---- the path of a run
+
+order_of : {D : Type 0} (manner : Manner) (job : Job) (core : CoreState V7 D) → KeepsOrder job core.journal.history core.journal.records → KeepsOrderIfAlone manner job core
+order_of manners.Alone job core order = order
+order_of manners.Threads job core order = tt
+order_of manners.Soak job core order = order
+
+-- one thread's checkpoints are asked for by the job's order
+asked_alone : (manner : Manner) (job : Job) → IsAlone manner → asked_by job.order ≡ asked_for manner job
+asked_alone manners.Alone job alone = refl
+asked_alone manners.Threads job alone = absurd alone
+asked_alone manners.Soak job alone = refl
+
+-- one thread drove a core that was begun for a job, with a fault injector that goes by the job's plan
+pub driven_alone : {D : Type 0} (told : D → Option Image) (faults : D → ℕ) (manner : Manner) (fs : V7) (job : Job) (disk : D) (begun driven : CoreState V7 D) (rules : List Rule)
+    → DrivesApart → DrivesKeepOrder → IsAlone manner → IsFitJob job → rules ≡ job.plan → IsBegunFor told faults fs job disk begun → origin_of driven ≡ origin_of begun
+    → IsDriven job (Some (fires rules)) (sight_of begun) (sight_of driven) → IsDrivenFor told faults manner fs job disk driven
+driven_alone {D = D} told faults manner fs job disk begun driven rules apart law alone fit same over on drives =
+    let by_plan : IsDriven job (Some (fires job.plan)) (sight_of begun) (sight_of driven) = subst (λ (r : List Rule). IsDriven job (Some (fires r)) (sight_of begun) (sight_of driven)) same drives in
+    record {
+      begun = begun;
+      over = over;
+      first = ap (λ (o : Origin D). o.first) on;
+      config = ap (λ (o : Origin D). o.config) on;
+      drives = subst (λ n. IsDrivenApart job n (λ (caller : ℕ). Some (fires job.plan)) (sight_of begun) (sight_of driven)) (asked_alone manner job alone) (apart job (Some (fires job.plan)) (sight_of begun) (sight_of driven) by_plan);
+      order = order_of manner job driven (law job (sight_of begun) (sight_of driven) fit (ap (λ (c : CoreState V7 D). c.stage) over.over.begun) by_plan);
+    }
+
+-- history and fault records stay at the end of a run
+order_stays : {D : Type 0} (manner : Manner) (job : Job) (driven ended : CoreState V7 D) → ended.journal.history ≡ driven.journal.history → ended.journal.records ≡ driven.journal.records
+    → KeepsOrderIfAlone manner job driven → KeepsOrderIfAlone manner job ended
+order_stays manners.Threads job driven ended history records order = tt
+order_stays manners.Alone job driven ended history records order =
+    subst (λ (h : List Entry). KeepsOrder job h ended.journal.records) (sym history) (subst (KeepsOrder job driven.journal.history) (sym records) order)
+order_stays manners.Soak job driven ended history records order =
+    subst (λ (h : List Entry). KeepsOrder job h ended.journal.records) (sym history) (subst (KeepsOrder job driven.journal.history) (sym records) order)
+
+module _ {D : Type 0} (told : D → Option Image) (faults : D → ℕ) (manner : Manner) (job : Job) (disk : D) (fs : V7) (driven ended : CoreState V7 D)
+    (drives : IsDrivenFor told faults manner fs job disk driven) (ended_on : origin_of ended ≡ origin_of driven)
+    (keeps : Keeps (sight_of driven) (sight_of ended)) (at_end : SealsAtEnd (sight_of driven) (sight_of ended)) (right : Right told faults ended) (orderly : IsOrderly (sight_of ended)) where
+  path : IsPath fs told faults (asked_for manner job) job disk drives.begun driven ended
+  path = record {
+    over = drives.over;
+    drives = drives.drives;
+    first = ap (λ (o : Origin D). o.first) ended_on ∙ drives.first;
+    same_config = ap (λ (o : Origin D). o.config) ended_on ∙ drives.config;
+    keeps = keeps;
+    seals = orderly.seals;
+    ends = at_end;
+    right = right;
+  }
+
+  order : KeepsOrderIfAlone manner job ended
+  order = order_stays manner job driven ended keeps.history keeps.records drives.order
+
+  pub comes_settled : (outcome : Outcome) → PathsAreRuns V7 D told faults → PathsEnd V7 D told faults → IsFitJob job → IsSettled (sight_of driven) (sight_of ended)
+      → (ended.stage ≡ stage.Failed → Says GivenUp (told_text manner failed_text job ended) outcome)
+      → (ended.stage ≢ stage.Failed → Says Ran (told_text manner end_text job ended) outcome)
+      → ComesOfCore told faults manner job disk ended outcome
+  comes_settled outcome runs ends fit is failed done =
+      settled told faults manner job disk ended outcome (runs fs (asked_for manner job) job disk drives.begun driven ended fit path) order (ends fs (asked_for manner job) job disk drives.begun driven ended path is) failed done
+
+  -- the count of faults did not fall before the end
+  before : Right told faults driven → faults disk ≤ faults driven.cache.disk
+  before right_driven =
+      let scanned = drives.over.over.scanned in
+      let later = right_driven.later in
+      let same : faults driven.first ≡ faults drives.begun.first = ap faults drives.first in
+      omega (arith, scanned, later, same)
+
+  rises : {before now last : ℕ} → before ≤ now → Rose now last → Rose before last
+  rises low rose = omega (arith, low, rose)
+
+  pub comes_unsettled : (outcome : Outcome) → PathsAreRuns V7 D told faults → PathsFail V7 D told faults → IsFitJob job → Right told faults driven
+      → Rose (faults driven.cache.disk) (faults ended.cache.disk) → Says Unsettled (unsettled_text manner job ended) outcome → ComesOfCore told faults manner job disk ended outcome
+  comes_unsettled outcome runs fails fit right_driven rose said =
+      unsettled told faults manner job disk ended outcome (runs fs (asked_for manner job) job disk drives.begun driven ended fit path) order
+      (fails fs (asked_for manner job) job disk drives.begun driven ended path right_driven drives.first rose) (rises (before right_driven) rose) said
+
+-- the core that is held, with its outcome
+pub holds : {D : Type 0} (told : D → Option Image) (faults : D → ℕ) (manner : Manner) (job : Job) (disk : D) (core : CoreState V7 D) (given : Held D) (outcome made : Outcome)
+    → given ≡ held.Core core → made ≡ outcome → ComesOfCore told faults manner job disk core outcome → HoldsCore given (λ now. ComesOfCore told faults manner job disk now made)
+holds {D = D} told faults manner job disk core given outcome made is same comes =
+    subst (λ (h : Held D). HoldsCore h (λ now. ComesOfCore told faults manner job disk now made)) (sym is) (subst (ComesOfCore told faults manner job disk core) (sym same) comes)
+
+-- ---- what comes of a job
+
+pub nobody : {D : Type 0} (given : Held D) → HoldsCore given (λ (core : CoreState V7 D). ⊥) → ⊥
+nobody (held.Disk disk) is = is
+nobody (held.Core core) is = is
+
+pub of_core : {D : Type 0} (told : D → Option Image) (faults : D → ℕ) (manner : Manner) (job : Job) (disk : D) (given : Held D) (outcome : Outcome)
+    → TellsVolume (told disk) → HoldsCore given (λ core. ComesOfCore told faults manner job disk core outcome) → ComesOfJob told faults manner job disk given outcome
+of_core told faults manner job disk given WordsRefused volume is = (volume, is)
+of_core told faults manner job disk given InputFault volume is = (volume, is)
+of_core told faults manner job disk given (JobRefused line) volume is = (volume, is)
+of_core told faults manner job disk given DiskFault volume is = absurd (nobody given is)
+of_core told faults manner job disk given OutOfMemory volume is = tt
+of_core told faults manner job disk given (Made line) volume is = (volume, is)
+of_core told faults manner job disk given (Checked line) volume is = (volume, is)
+of_core told faults manner job disk given (Unsound line) volume is = absurd (nobody given is)
+of_core told faults manner job disk given (Unsettled text) volume is = (volume, is)
+of_core told faults manner job disk given (GivenUp text) volume is = (volume, is)
+of_core told faults manner job disk given (Ran text) volume is = (volume, is)
+
+-- ---- the cause of a disk fault
+
+fault_held : {D : Type 0} (told : D → Option Image) (faults : D → ℕ) (manner : Manner) (job : Job) (disk : D) (given : Held D) (text : List ℕ)
+    → HoldsCore given (λ core. ComesOfCore told faults manner job disk core (Unsettled text)) → Rose (faults disk) (faults (held_disk given))
+fault_held told faults manner job disk (held.Disk back) text is = absurd is
+fault_held told faults manner job disk (held.Core core) text is = is.rose
+
+pub fault_of_job : {D : Type 0} (told : D → Option Image) (faults : D → ℕ) (manner : Manner) (job : Job) (disk : D) (given : Held D) (outcome : Outcome)
+    → ComesOfJob told faults manner job disk given outcome → IsDiskFault outcome → Rose (faults disk) (faults (held_disk given))
+fault_of_job told faults manner job disk given DiskFault is failed = is.1
+fault_of_job told faults manner job disk given (Unsettled text) is failed = fault_held told faults manner job disk given text is.1
+fault_of_job told faults manner job disk given _ is failed = absurd failed
+
+-- a job is run whatever the input is
+pub no_input : {D : Type 0} (told : D → Option Image) (faults : D → ℕ) (manner : Manner) (job : Job) (disk : D) (given : Held D) (outcome : Outcome)
+    → ComesOfJob told faults manner job disk given outcome → outcome ≢ InputFault
+no_input told faults manner job disk given outcome is same = nobody given (subst (ComesOfJob told faults manner job disk given) same is).1
+
+pub fault_of_words : {D : Type 0} (told : D → Option Image) (faults : D → ℕ) (manner : Manner) (left : Option (List ℕ)) (disk : D) (given : Held D) (outcome : Outcome)
+    → ComesOfRunWords told faults manner left disk given outcome → IsDiskFault outcome → Rose (faults disk) (faults (held_disk given))
+fault_of_words told faults manner left disk given DiskFault is failed = is.fact.over.1
+fault_of_words told faults manner left disk given (Unsettled text) is failed = fault_held told faults manner is.fact.job disk given text is.fact.over.1
+fault_of_words told faults manner left disk given _ is failed = absurd failed

@@ -1,0 +1,236 @@
+use crate::example_files::{HELLO_JOB, HELLO_TEXT};
+use crate::trials::{NOTHING_FAILS, checked, expect, fresh, printed, run, words_alone};
+use crate::volumes::{fresh_volume, hello_volume, put, volume_with};
+use mb_edge::{Bytes, Fails, MemSink, SureDisk, SureSource};
+use mb_program::{Finish, membrane_alone};
+use std::alloc::{AllocError, Global};
+use std::test::Fail;
+
+/// A job that makes a file of two bytes.
+pub const HI_JOB: &str = "calls = ['a creat /f 644', 'a text 3 hi', 'a close 3']";
+
+/// What that job prints.
+pub const HI_TEXT: &str = "\
+1 a creat /f 644 = 3
+2 a text 3 hi = 2
+3 a close 3 = 0
+4 a exit = 0
+end 4 faults 0 seal 4
+";
+
+#[test]
+fn read_hello(rt: HostRuntime) -> Result<(), Fail> {
+    let volume = hello_volume(rt.alloc())?;
+    let end = expect(&rt, volume, HELLO_JOB, 0, HELLO_TEXT)?;
+    assert!(rt; end.image == hello_volume(rt.alloc())?);
+    let lines = "1 a sync = 0\n2 a exit = 0\nend 2 faults 0 seal 2\n";
+    expect(&rt, end.image, "calls = ['a sync']", 0, lines)?;
+    Ok(())
+}
+
+#[test]
+fn write_hi(rt: HostRuntime) -> Result<(), Fail> {
+    let end = expect(&rt, fresh(rt.alloc())?, HI_JOB, 0, HI_TEXT)?;
+    checked(&rt, end.image, 0, "sound nodes 2 held 2 free 94\n")
+}
+
+// The devices that never fail.
+#[test]
+fn write_hi_over_a_sure_disk(rt: HostRuntime) -> Result<(), Fail> {
+    let alloc = rt.alloc();
+    let image = fresh(alloc)?;
+    if image.len() / 512 > 262_144 {
+        return Err("the image has more blocks than the disk".into());
+    }
+    let disk = SureDisk::new(alloc, Bytes::from_vec(image))?;
+    let mut job = SureSource::new(Bytes::from_vec(HI_JOB.as_bytes().to_vec(alloc)?));
+    let mut out = MemSink::new(alloc, 4096, Fails::new(alloc))?;
+    let words = words_alone(alloc, &["run", "v"])?;
+    let Finish { status, held } = membrane_alone(alloc, &words, &mut job, disk, &mut out);
+    let _disk = held.into_disk();
+    assert_eq!(rt; str::from_utf8(out.taken())?, HI_TEXT);
+    assert_eq!(rt; status, 0);
+    Ok(())
+}
+
+#[test]
+fn empty_job(rt: HostRuntime) -> Result<(), Fail> {
+    let end = expect(
+        &rt,
+        fresh(rt.alloc())?,
+        "calls = []",
+        0,
+        "end 0 faults 0 seal 0\n",
+    )?;
+    assert!(rt; end.image == fresh(rt.alloc())?);
+    Ok(())
+}
+
+#[test]
+fn second_descriptor(rt: HostRuntime) -> Result<(), Fail> {
+    let job = "\
+calls = ['a creat /f 644', 'a text 3 hi', 'a open /f r', 'a read 4 9', 'a read 4 9', 'a lseek 4 1000 0', 'a read 4 9']
+";
+    let lines = "\
+1 a creat /f 644 = 3
+2 a text 3 hi = 2
+3 a open /f r = 4
+4 a read 4 9 = 2 6869
+5 a read 4 9 = 0
+6 a lseek 4 1000 0 = 1000
+7 a read 4 9 = 0
+8 a exit = 0
+end 8 faults 0 seal 8
+";
+    expect(&rt, fresh(rt.alloc())?, job, 0, lines)?;
+    Ok(())
+}
+
+#[test]
+fn largest_offset(rt: HostRuntime) -> Result<(), Fail> {
+    let job = "\
+calls = ['a creat /f 644', 'a lseek 3 1082201087 0', 'a text 3 x', 'a text 3 y', 'a stat /f']
+";
+    let lines = "\
+1 a creat /f 644 = 3
+2 a lseek 3 1082201087 0 = 1082201087
+3 a text 3 x = 1
+4 a text 3 y = EFBIG
+5 a stat /f = ino 3 mode 100644 nlink 1 uid 0 gid 0 size 1082201088 atime 1 mtime 3 ctime 3
+6 a exit = 0
+end 6 faults 0 seal 6
+";
+    let end = expect(&rt, fresh(rt.alloc())?, job, 0, lines)?;
+    checked(&rt, end.image, 0, "sound nodes 2 held 5 free 91\n")
+}
+
+#[test]
+fn full_disk(rt: HostRuntime) -> Result<(), Fail> {
+    let job = "\
+calls = ['a creat /f 644', 'a fill 3 48128 65', 'a creat /g 644', 'a fill 4 48128 66',
+    'a close 3', 'a unlink /f', 'a fill 4 48128 66']
+";
+    let lines = "\
+1 a creat /f 644 = 3
+2 a fill 3 48128 65 = 48128
+3 a creat /g 644 = 4
+4 a fill 4 48128 66 = ENOSPC
+5 a close 3 = 0
+6 a unlink /f = 0
+7 a fill 4 48128 66 = 48128
+8 a exit = 0
+end 8 faults 0 seal 8
+";
+    let end = expect(&rt, fresh(rt.alloc())?, job, 0, lines)?;
+    checked(&rt, end.image, 0, "sound nodes 2 held 96 free 0\n")
+}
+
+#[test]
+fn directories(rt: HostRuntime) -> Result<(), Fail> {
+    let job = "\
+calls = ['a creat /abcdefghijklmno 644', 'a stat /abcdefghijklmn', 'a mkdir /d 755', 'a creat /d/k 644',
+    'a rmdir /d', 'a mkdir /e 755', 'a chdir /e', 'a rmdir /e', 'a rmdir /abcdefghijklmn']
+";
+    let lines = "\
+1 a creat /abcdefghijklmno 644 = 3
+2 a stat /abcdefghijklmn = ino 3 mode 100644 nlink 1 uid 0 gid 0 size 0 atime 1 mtime 1 ctime 1
+3 a mkdir /d 755 = 0
+4 a creat /d/k 644 = 4
+5 a rmdir /d = EEXIST
+6 a mkdir /e 755 = 0
+7 a chdir /e = 0
+8 a rmdir /e = EBUSY
+9 a rmdir /abcdefghijklmn = ENOTDIR
+10 a exit = 0
+end 10 faults 0 seal 10
+";
+    let end = expect(&rt, fresh(rt.alloc())?, job, 0, lines)?;
+    checked(&rt, end.image, 0, "sound nodes 5 held 3 free 93\n")
+}
+
+#[test]
+fn fresh_bytes(rt: HostRuntime) -> Result<(), Fail> {
+    let words = ["mkfs", "v", "100", "16"];
+    let end = run(rt.alloc(), &words, Vec::new(rt.alloc()), "", NOTHING_FAILS)?;
+    printed(&rt, &end, 0, "made 100 blocks 16 inodes\n")?;
+    assert_eq!(rt; end.image.len(), 51200);
+    assert!(rt;
+        end.image[512..].starts_with(b"\x04\0\0\0\x64\0\x2e\0\0\0\x32\0\0\0\x31\0"),
+        "s_isize, s_fsize, s_nfree and the first two addresses of the free list"
+    );
+    assert!(rt;
+        end.image[1088..].starts_with(b"\xff\x41\x02\0\0\0\0\0\0\0\x20\0\0\x04\0"),
+        "the inode of the root, as far as its first address"
+    );
+    assert!(rt; end.image == fresh_volume(rt.alloc())?);
+    checked(&rt, end.image, 0, "sound nodes 1 held 1 free 95\n")
+}
+
+// A volume is made over another one.
+#[test]
+fn nothing_is_left_of_the_volume_before(rt: HostRuntime) -> Result<(), Fail> {
+    let words = ["mkfs", "v", "100", "16"];
+    let end = run(
+        rt.alloc(),
+        &words,
+        hello_volume(rt.alloc())?,
+        "",
+        NOTHING_FAILS,
+    )?;
+    assert!(rt; end.image == fresh(rt.alloc())?);
+    Ok(())
+}
+
+// The file of the example is open by no caller and has no name: its slot's number and its link count are 0.
+#[test]
+fn nameless_swept(rt: HostRuntime) -> Result<(), Fail> {
+    let mut image = hello_volume(rt.alloc())?;
+    put(&mut image, 2080, &[0, 0]);
+    put(&mut image, 1154, &[0, 0]);
+    let before = image.to_vec(rt.alloc())?;
+    checked(&rt, image, 0, "sound nodes 2 held 2 free 94\n")?;
+    let end = expect(&rt, before, "calls = []", 0, "end 0 faults 0 seal 0\n")?;
+    checked(&rt, end.image, 0, "sound nodes 1 held 1 free 95\n")
+}
+
+// A file of ten parts: each is filled with its number and 5 more, but part 3 is a hole.
+fn ten_parts(alloc: Global) -> Result<Vec<u8>, AllocError> {
+    let mut parts = [None; 10];
+    for (number, part) in (5..15).zip(&mut parts) {
+        *part = if number == 8 {
+            None
+        } else {
+            Some([number; 512])
+        };
+    }
+    volume_with(alloc, 10 * 512, &parts)
+}
+
+fn push_hex(out: &mut String, digits: &str, count: usize) -> Result<(), AllocError> {
+    for _ in 0..count {
+        out.push_str(digits)?;
+    }
+    Ok(())
+}
+
+#[test]
+fn a_file_of_ten_parts_is_read_in_pieces(rt: HostRuntime) -> Result<(), Fail> {
+    let job = "\
+calls = ['a open /hello r', 'a read 3 1', 'a read 3 511', 'a read 3 512', 'a read 3 513', 'a read 3 65535', 'a read 3 1']
+";
+    let mut lines = String::new(rt.alloc());
+    lines.push_str("1 a open /hello r = 3\n2 a read 3 1 = 1 05\n3 a read 3 511 = 511 ")?;
+    push_hex(&mut lines, "05", 511)?;
+    lines.push_str("\n4 a read 3 512 = 512 ")?;
+    push_hex(&mut lines, "06", 512)?;
+    lines.push_str("\n5 a read 3 513 = 513 ")?;
+    push_hex(&mut lines, "07", 512)?;
+    lines.push_str("00\n6 a read 3 65535 = 3583 ")?;
+    push_hex(&mut lines, "00", 511)?;
+    for digits in ["09", "0a", "0b", "0c", "0d", "0e"] {
+        push_hex(&mut lines, digits, 512)?;
+    }
+    lines.push_str("\n7 a read 3 1 = 0\n8 a exit = 0\nend 8 faults 0 seal 8\n")?;
+    expect(&rt, ten_parts(rt.alloc())?, job, 0, lines.as_str())?;
+    Ok(())
+}

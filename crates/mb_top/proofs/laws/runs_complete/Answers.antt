@@ -1,5 +1,0 @@
-use Rattle.mb_top.proofs.Endings.{runs_complete}
-use Rattle.mb_top.proofs.laws.runs_complete.Goals as goal
-
-pub returns : goal.returns
-returns g c = runs_complete g.D.Disk.told g.D.Disk.faults

@@ -1,5 +1,0 @@
-use Rattle.mb_top.proofs.Endings.{soaks_complete}
-use Rattle.mb_top.proofs.laws.soaks_complete.Goals as goal
-
-pub returns : goal.returns
-returns g c = soaks_complete g.D.Disk.told g.D.Disk.faults c.fires_at_most.ensures c.generated_are_fit.ensures
