@@ -8,12 +8,12 @@ mod deciding;
 mod finish;
 mod laws;
 mod manners;
-mod membrane;
 mod outcomes;
+mod program;
 mod running;
 
 pub use finish::{Finish, Held};
 pub use laws::{
     check_completes, makes_complete, runs_complete, soaks_complete, survivors_complete,
 };
-pub use membrane::{membrane, membrane_alone};
+pub use program::{membrane, membrane_alone};

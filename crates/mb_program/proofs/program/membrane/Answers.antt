@@ -1,7 +1,7 @@
 use Rattle.std.proofs.Common.{sym}
 use Rattle.mb_commands.specs.Words.{command_of}
 use Rattle.mb_program.proofs.Words.{of_threads}
-use Rattle.mb_program.proofs.membrane.membrane.Goals as goal
+use Rattle.mb_program.proofs.program.membrane.Goals as goal
 
 pub returns-then-asks_threads-clause-ended : goal.returns-then-asks_threads-clause-ended
 returns-then-asks_threads-clause-ended g c = record {
