@@ -52,6 +52,16 @@ impl<'a> Addresses<'a> {
         Some(Addresses { ino, inode, index })
     }
 
+    /// The first index block, where it is not there and some of so many parts stand under it.
+    pub fn lacking_index(&self, parts: u32) -> Option<u32>
+        ensures { IfSome result (λ block. block < 262144) }
+    {
+        if parts <= DIRECT || self.index.is_some() {
+            return None;
+        }
+        inode_address(self.inode, self.ino, DIRECT)
+    }
+
     /// The block of a part, where it has one and the blocks on its way are there.
     pub fn block<V: View>(&self, view: &V, changes: &Changes, part: u32) -> Option<u32>
         requires { part < 2113674 }

@@ -1,4 +1,4 @@
-ghost use Rattle.std.specs.Prelude.{◌≤◌, ◌<◌, ◌+◌, ◌*◌};
+ghost use Rattle.std.specs.Prelude.{◌≤◌, ◌<◌};
 ghost use Rattle.mb_namei.specs.Frontiers.{LacksPart};
 
 use crate::addresses::Addresses;
@@ -7,27 +7,25 @@ use crate::slots::{Glimpse, scan_slots};
 use mb_iface::{Changes, Need, View, seen};
 use mb_kinds::Name;
 
-/// The next run of blocks that the view lacks of a directory's parts, as long as the parts that it got
-/// last do not have the name: so a search that begins anew with more blocks goes through each block about
-/// twice in all. The parts are got in a row, so the last one is there only where all are.
+/// The next blocks that the view lacks of a directory's parts, as long as the parts that it got last do not
+/// have the name: so a search that begins anew with more blocks goes through each block about twice in all,
+/// and through those of a directory of more than 16 that stand apart, which come by eight, up to five
+/// times. The parts are got in a row, so the last one is there only where all are.
 #[inline(always)]
 pub(crate) fn lacking_part<V: View>(
     view: &V,
     changes: &Changes,
     dir: u16,
     parts: u32,
-    count: u32,
     name: &Name,
 ) -> Option<Need>
-    requires few { parts ≤ 2113674 }
-    requires filled { 32 * parts < count + 32 }
-    requires slots { count ≤ 268435455 }
+    requires { parts ≤ 2113674 }
     ensures { LacksPart (V.shown view.now) changes.now dir result }
 {
     if parts < 2 {
         return None;
     }
-    lacking_of_many(view, changes, dir, parts, count, name)
+    lacking_of_many(view, changes, dir, parts, name)
 }
 
 /// The same of a directory of several parts. It stays out of its callers, whose way through one part is
@@ -38,13 +36,10 @@ fn lacking_of_many<V: View>(
     changes: &Changes,
     dir: u16,
     parts: u32,
-    count: u32,
     name: &Name,
 ) -> Option<Need>
     requires several { 2 ≤ parts }
     requires few { parts ≤ 2113674 }
-    requires filled { 32 * parts < count + 32 }
-    requires slots { count ≤ 268435455 }
     ensures { LacksPart (V.shown view.now) changes.now dir result }
 {
     let addresses = Addresses::read(view, changes, dir)?;
@@ -52,7 +47,7 @@ fn lacking_of_many<V: View>(
         return None;
     }
     let part = parts_there(view, changes, &addresses, parts);
-    if has_name_before(view, changes, &addresses, part, count, name) {
+    if has_name_before(view, changes, &addresses, part, name) {
         return None;
     }
     match fetch(view, changes, dir, part, parts) {
@@ -90,21 +85,18 @@ fn parts_there<V: View>(view: &V, changes: &Changes, addresses: &Addresses<'_>, 
     there
 }
 
-/// Whether a name stands in the parts that were got last before one: those from its half on where they
-/// stand at neighbouring blocks, else the one before it.
+/// Whether a name stands in the parts that were got last before one: those from its half on, but no more
+/// than are asked for at once.
 fn has_name_before<V: View>(
     view: &V,
     changes: &Changes,
     addresses: &Addresses<'_>,
     part: u32,
-    count: u32,
     name: &Name,
 ) -> bool
-    requires few { part < 2113674 }
-    requires slots { count ≤ 268435455 }
-    requires filled { 32 * part < count }
+    requires { part < 2113674 }
 {
-    for before in run_before(view, changes, addresses, part)..part {
+    for before in (part / 2).max(part.saturating_sub(32))..part {
         if has_name(view, changes, addresses, before, name) {
             return true;
         }
@@ -129,19 +121,4 @@ fn has_name<V: View>(
         return false;
     };
     matches!(scan_slots(bytes, 32, name), Glimpse::Named { .. })
-}
-
-/// The first of the parts that were got last before one.
-fn run_before<V: View>(view: &V, changes: &Changes, addresses: &Addresses<'_>, part: u32) -> u32
-    requires { part < 2113674 }
-{
-    if part < 2 {
-        return 0;
-    }
-    let first = addresses.block(view, changes, part / 2);
-    let last = addresses.block(view, changes, part - 1);
-    match (first, last) {
-        (Some(begin), Some(end)) if end > begin && end - begin == part - 1 - part / 2 => part / 2,
-        _ => part - 1,
-    }
 }

@@ -2,8 +2,9 @@ ghost use Rattle.std.specs.Prelude.{◌≡◌, ◌≤◌, ◌<◌, ◌+◌, None
 ghost use Rattle.mb_iface.specs.Needs.{IsNeed};
 ghost use Rattle.mb_namei.specs.Parts.{Fetches};
 
+use crate::addresses::Addresses;
 use mb_bmap::{Located, address};
-use mb_iface::{Changes, Need, View, seen};
+use mb_iface::{Changes, Need, Others, View, seen};
 
 /// A part of a file, read from its block.
 #[derive(Drop)]
@@ -44,9 +45,9 @@ pub(crate) fn fetch<'a, V: View>(
     }
 }
 
-/// What is asked for where the view lacks a part's block: its neighbours with it, as many parts as were
-/// passed before it and one more, so the runs double while a file is gone through. It stays out of its
-/// callers.
+/// What is asked for where the view lacks a part's block: as many parts as were passed before it and one
+/// more, at most 32, so what is asked for doubles while a file is gone through. Its neighbours are asked
+/// for with it, and beside them up to seven blocks that stand apart. It stays out of its callers.
 #[inline(never)]
 fn lacked<V: View>(view: &V, changes: &Changes, ino: u16, part: u32, parts: u32, block: u32) -> Need
     requires few { parts ≤ 2113674 }
@@ -58,8 +59,16 @@ fn lacked<V: View>(view: &V, changes: &Changes, ino: u16, part: u32, parts: u32,
     ensures first { result.first ≡ block }
 {
     let most = (part + 1).min(parts - part).min(32);
-    let wanted = neighbours(view, changes, ino, part, block, most);
-    Need::run(view, block, wanted)
+    if most == 1 {
+        return Need::one(block);
+    }
+    let Some(addresses) = Addresses::read(view, changes, ino) else {
+        return Need::one(block);
+    };
+    let wanted = neighbours(view, changes, &addresses, part, block, most);
+    let run = Need::run(view, block, wanted);
+    let others = others_of(view, changes, &addresses, part + run.count, part + most);
+    run.with(others)
 }
 
 /// How many parts from one on, at most so many, stand at neighbouring blocks, as far as that can be
@@ -67,7 +76,7 @@ fn lacked<V: View>(view: &V, changes: &Changes, ino: u16, part: u32, parts: u32,
 fn neighbours<V: View>(
     view: &V,
     changes: &Changes,
-    ino: u16,
+    addresses: &Addresses<'_>,
     part: u32,
     block: u32,
     most: u32,
@@ -78,14 +87,43 @@ fn neighbours<V: View>(
     ensures { 1 ≤ result }
 {
     for more in 1..most {
-        match address(view, changes, ino, part + more) {
-            Located::At(next) => {
-                if next != block + more {
-                    return more;
-                }
-            }
+        match addresses.block(view, changes, part + more) {
+            Some(next) if next == block + more => {}
             _ => return more,
         }
     }
     most
+}
+
+/// The blocks that the view lacks of the parts from one on and before another, as far as their addresses
+/// can be told: at most seven, and 0 behind them. The file's first index block is the first of them where
+/// the view lacks it and parts that are asked for next stand under it.
+fn others_of<V: View>(
+    view: &V,
+    changes: &Changes,
+    addresses: &Addresses<'_>,
+    from: u32,
+    to: u32,
+) -> Others
+    requires { to ≤ 2113674 }
+{
+    let mut others = [0; 7];
+    let mut count = 0;
+    if let Some(index) = addresses.lacking_index(2 * to + 1) {
+        others[0] = index;
+        count = 1;
+    }
+    for part in from..to {
+        let Some(block) = addresses.block(view, changes, part) else {
+            break;
+        };
+        if view.get(block).is_none() {
+            if count == 7 {
+                break;
+            }
+            others[count] = block;
+            count += 1;
+        }
+    }
+    Others::of(others)
 }

@@ -63,7 +63,7 @@ pub fn search<V: View>(view: &V, changes: &Changes, dir: u16, size: u32, name: &
 {
     let count = size / 16;
     let parts = count.div_ceil(32).min(2_113_674);
-    if let Some(need) = lacking_part(view, changes, dir, parts, count, name) {
+    if let Some(need) = lacking_part(view, changes, dir, parts, name) {
         return Sought::Need(need);
     }
     let mut empty = count;

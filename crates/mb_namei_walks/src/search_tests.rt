@@ -1,4 +1,4 @@
-use crate::volumes::{numbered, volume};
+use crate::volumes::{numbered, volume, volume_apart};
 use mb_gathering::{Gathered, gather, nothing};
 use mb_iface::Changes;
 use mb_namei::{Sought, search};
@@ -44,15 +44,55 @@ fn slots_of_a_small_directory(rt: HostRuntime) -> Result<(), Fail> {
     Ok(())
 }
 
-/// A directory of 32 neighbouring blocks is asked for in windows that double: the inode's block, the
-/// index block, and its parts in 6 runs.
+/// A directory of 32 neighbouring blocks is asked for in windows that double: the inode's block, and its
+/// parts in 6 runs, with the third of which the index block comes.
 #[test]
 fn windows_double(rt: HostRuntime) -> Result<(), Fail> {
     let disk = volume(rt.alloc())?;
     let (last, asked) = search_on(rt.alloc(), &disk, 5, 16_000, &numbered(999))?;
     assert_eq!(rt; last, Sought::Found { at: 999, ino: 4 });
-    assert_eq!(rt; asked, 8);
+    assert_eq!(rt; asked, 7);
     let (full, _) = search_on(rt.alloc(), &disk, 5, 16_000, b"none")?;
     assert_eq!(rt; full, Sought::Full);
+    Ok(())
+}
+
+/// So is a directory of 20 blocks none of which is beside another, up to 8 of them at once: in 5 windows.
+#[test]
+fn windows_of_blocks_apart_double(rt: HostRuntime) -> Result<(), Fail> {
+    let disk = volume_apart(rt.alloc())?;
+    let (full, asked) = search_on(rt.alloc(), &disk, 5, 10_240, b"none")?;
+    assert_eq!(rt; full, Sought::Full);
+    assert_eq!(rt; asked, 6);
+    let (last, _) = search_on(rt.alloc(), &disk, 5, 10_240, &numbered(639))?;
+    assert_eq!(rt; last, Sought::Found { at: 639, ino: 4 });
+    let (second, asked) = search_on(rt.alloc(), &disk, 5, 10_240, &numbered(32))?;
+    assert_eq!(rt; second, Sought::Found { at: 32, ino: 4 });
+    assert_eq!(rt; asked, 3);
+    Ok(())
+}
+
+/// A name ends the search where it stands in the parts that were got last.
+#[test]
+fn nothing_is_asked_for_behind_a_name(rt: HostRuntime) -> Result<(), Fail> {
+    let disk = volume_apart(rt.alloc())?;
+    for part in 0..20 {
+        let (found, asked) = search_on(rt.alloc(), &disk, 5, 10_240, &numbered(32 * part + 3))?;
+        assert_eq!(rt;
+            found,
+            Sought::Found {
+                at: 32 * part + 3,
+                ino: 4
+            }
+        );
+        let windows = match part {
+            0 => 1,
+            1..=2 => 2,
+            3..=6 => 3,
+            7..=14 => 4,
+            _ => 5,
+        };
+        assert_eq!(rt; asked, 1 + windows);
+    }
     Ok(())
 }
