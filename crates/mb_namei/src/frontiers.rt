@@ -3,7 +3,7 @@ ghost use Rattle.mb_namei.specs.Frontiers.{LacksPart};
 
 use crate::addresses::Addresses;
 use crate::parts::{Fetched, fetch};
-use crate::slots::{Glimpse, scan_slots};
+use crate::slots::{Glimpse, may_have_name, scan_slots};
 use mb_iface::{Changes, Need, View, seen};
 use mb_kinds::Name;
 
@@ -120,5 +120,5 @@ fn has_name<V: View>(
     let Some(bytes) = seen(view, changes, block) else {
         return false;
     };
-    matches!(scan_slots(bytes, 32, name), Glimpse::Named { .. })
+    may_have_name(bytes, name) && matches!(scan_slots(bytes, 32, name), Glimpse::Named { .. })
 }

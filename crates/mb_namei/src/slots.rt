@@ -44,6 +44,18 @@ fn has_name(bytes: &[u8; 512], place: u32, name: &Name, front: u64, back: u64) -
     eight_at(bytes, at + 2) == front && eight_at(bytes, at + 8) == back
 }
 
+/// Whether the first eight bytes of a name stand in a slot of a directory's block, in use or not. Where they
+/// do not no slot has the name; it takes less than half as long to look for them alone.
+pub(crate) fn may_have_name(bytes: &[u8; 512], name: &Name) -> bool {
+    let front = eight_at(name, 0);
+    for place in 0..32_usize {
+        if eight_at(bytes, 16 * place + 2) == front {
+            return true;
+        }
+    }
+    false
+}
+
 /// Looks for a name among the first `count` slots of a directory's block.
 pub(crate) fn scan_slots(bytes: &[u8; 512], count: u32, name: &Name) -> Glimpse
     requires { count ≤ 32 }
