@@ -5,27 +5,30 @@ use mb_iface::{Changes, Need, View, seen};
 use mb_layout::inode_block;
 use mb_word::word_at;
 
-/// What V7's pick of a free number is sure to look at, or likely to, and the view lacks: block 1, the
-/// block of the last cached number's inode, or, where no number is cached, blocks of the i-list. An
-/// operation asks for it before all else: then it chooses a number about once, and scans the i-list about
-/// once, whatever it asks for later. A demanded number is not looked for.
+/// What the choice of a new inode's number is sure to look at, or likely to, and the view lacks: block 1,
+/// and the block of the demanded number's inode; where none is demanded, the block of the last cached
+/// number's inode, or, where no number is cached, blocks of the i-list. An operation asks for it before all
+/// else: then it searches its directory about once, chooses a number about once, and scans the i-list about
+/// once, whatever it asks for later.
 pub fn lacking_number<V: View>(view: &V, changes: &Changes, demanded: Option<u16>) -> Option<Need>
-    ensures { LacksForPick (V.shown view.now) changes.now result }
-{
-    match demanded {
-        Some(_) => None,
-        None => lacking_pick(view, changes),
-    }
-}
-
-/// What a pick lacks.
-fn lacking_pick<V: View>(view: &V, changes: &Changes) -> Option<Need>
     ensures { LacksForPick (V.shown view.now) changes.now result }
 {
     let Some(first) = seen(view, changes, 1) else {
         return Some(Need::one(1));
     };
     let size = u32::from(word_at(first, 0));
+    match demanded {
+        Some(ino) => lacking_inode(view, size, ino),
+        None => lacking_pick(view, size, first),
+    }
+}
+
+/// What V7's pick of a free number lacks of the i-list, which ends before block `size`, by the bytes of
+/// block 1.
+fn lacking_pick<V: View>(view: &V, size: u32, first: &[u8; 512]) -> Option<Need>
+    requires { size ≤ 65535 }
+    ensures { LacksInList (V.shown view.now) size result }
+{
     let count = word_at(first, 208);
     if count > 100 {
         return None;

@@ -25,3 +25,4 @@ pub use erases::{erase, erase_in};
 pub use mb_alloc::Hung;
 pub use puts::put;
 pub use reads::read;
+pub use spares::lacking_free;

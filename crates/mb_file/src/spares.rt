@@ -4,8 +4,9 @@ use mb_iface::{Changes, Need, View, seen};
 use mb_word::{long_at, word_at};
 
 /// The first run of blocks that the view lacks among block 1 and the blocks that so many takes from the
-/// free chain give, as far as the chain goes (V7 alloc(9)).
-pub(crate) fn lacking_free<V: View>(view: &V, changes: &Changes, wanted: u32) -> Option<Need>
+/// free chain give, as far as the chain goes (V7 alloc(9)). An operation that takes blocks asks for it
+/// before it begins.
+pub fn lacking_free<V: View>(view: &V, changes: &Changes, wanted: u32) -> Option<Need>
     ensures { LacksFree (V.shown view.now) changes.now result }
 {
     let Some(first) = seen(view, changes, 1) else {

@@ -1,9 +1,11 @@
 -- A directory made under a new name, on a volume.
 use Rattle.std.proofs.Common.{ℕ, ◌≡◌, ◌≤◌, ◌<◌, ◌+◌, ◌⊎◌, nat_lt, arith, inl, Bool, true, List, [], Option, Some, None, Err, IfSome, sym, ap, subst, ◌∙◌}
 use Rattle.std.specs.FinMap as fin
+use Rattle.std.specs.List.{Contains}
 use Rattle.mb_word.specs.Fields.{isize_of}
 use Rattle.mb_kinds.specs.declared.errors.Errno.TheVariants.{EEXIST, EMLINK, ENOSPC}
 use Rattle.mb_tree.specs.Answers.{Answer, need, some, ◌>>◌, ◌>>=◌}
+use Rattle.mb_tree.specs.Blocks.{IsFreeChain}
 use Rattle.mb_tree.specs.Effect.{fitting, nlink_in, tree_after, with_link}
 use Rattle.mb_tree.specs.Fits.{FitsNew}
 use Rattle.mb_tree.specs.Maps.{Numbered, changed_at}
@@ -38,7 +40,7 @@ use Rattle.mb_fsops.specs.declared.places.NamePlace.TheVariants as place
 use Rattle.mb_fsops.proofs.FreeNumbers.{some_pick, v7_pick}
 use Rattle.mb_fsops.proofs.Linking.{few_links, links_are, many_links, room_there}
 use Rattle.mb_fsops.proofs.Names.{near_one, number_there}
-use Rattle.mb_fsops.proofs.Steps.{acts_fitting, asked_first, changed_there, none_within, stored_first}
+use Rattle.mb_fsops.proofs.Steps.{acts_fitting, asked_first, asked_free, changed_there, none_within, stored_first}
 
 module _ (dir : ℕ) (name : List ℕ) (new : NewInode) where
   abbrev op : FsOp
@@ -117,6 +119,14 @@ module _ (dir : ℕ) (name : List ℕ) (new : NewInode) where
       need = was.0;
       answer = λ image tree part volume fits. asked_first image (IsTouched tree op) tree need.first
           (subst (λ xs. (need.first ≡ 1) ⊎ ((2 ≤ need.first) × (need.first < isize_of (over image.at (changed xs) 1)))) is (was.1 image.at part));
+    }
+
+    pub block_asked : (none : ChangeList) → none ≡ [] → (need : Need) → IsNeed shown need × ((blocks : ℕ → List ℕ) (chain : List ℕ) → IsPart shown blocks → IsFreeChain (over blocks (changed none)) chain → (need.first ≡ 1) ⊎ Contains chain need.first)
+        → PerformsWith shown op demanded (acted.Need need)
+    block_asked none is need was opens = record {
+      need = was.0;
+      answer = λ image tree part volume fits. asked_free shown image tree part volume (IsTouched tree op) need.first
+          (λ blocks chain part listed. was.1 blocks chain part (subst (λ xs. IsFreeChain (over blocks (changed xs)) chain) (sym is) listed));
     }
 
     pub name_asked : (need : Need) → FindsName shown dir name (place.Need need) → PerformsWith shown op demanded (acted.Need need)

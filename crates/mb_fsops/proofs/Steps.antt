@@ -1,9 +1,11 @@
 -- The first steps of an operation on a volume, its last, and what it asks for.
 use Rattle.std.proofs.Common.{ℕ, ◌≡◌, ◌≢◌, ◌≤◌, ◌<◌, ◌⊎◌, inl, inr, true, false, ◌==◌, ◌||◌, List, [], Option, Some, None, Ok, Err, option_map, unwrap_or, refl, sym, ap, subst, ◌∙◌, arith}
 use Rattle.std.specs.FinMap as fin
+use Rattle.std.specs.List.{Contains}
 use Rattle.mb_kinds.specs.Image.{Image}
 use Rattle.mb_kinds.specs.declared.errors.Errno.{Errno}
 use Rattle.mb_word.specs.Fields.{isize_of}
+use Rattle.mb_tree.specs.Blocks.{IsFreeChain}
 use Rattle.mb_tree.specs.Effect.{tree_after}
 use Rattle.mb_tree.specs.Fits.{Fits}
 use Rattle.mb_tree.specs.Inodes.{kind_of}
@@ -22,7 +24,7 @@ use Rattle.mb_tree.proofs.FiniteMaps.{none_there}
 use Rattle.mb_iface.specs.Acting.{Acts, HasDone, HasRefused, Picks, PicksIf, with_changes}
 use Rattle.mb_iface.specs.Changed.{ChangeList, IsWithinView, changed}
 use Rattle.mb_iface.specs.Near.{IsNear, IsTouched}
-use Rattle.mb_iface.specs.Near.IsNear.{super_block, inode_list}
+use Rattle.mb_iface.specs.Near.IsNear.{super_block, inode_list, free}
 use Rattle.mb_iface.specs.OpenCounts.{count_of}
 use Rattle.mb_iface.specs.declared.replies.Acted.{Acted}
 use Rattle.mb_iface.specs.declared.replies.Acted.TheVariants as acted
@@ -68,6 +70,14 @@ picks_none tree op demanded makes = subst (λ b. PicksIf b tree demanded None) (
 module _ (shown : ℕ → Option (List ℕ)) (image : Image) (tree : Tree) (part : IsPart shown image.at) (volume : IsVolume image tree) where
   pub stored_first : IsStored (with_changes image []) tree volume.chain
   stored_first = subst (λ i. IsStored i tree volume.chain) (sym (itself image)) (stored_of image tree volume)
+
+  -- block 1, and a block of the free chain
+  pub asked_free : (Looks : ℕ → Type 0) (block : ℕ)
+      → ((blocks : ℕ → List ℕ) (chain : List ℕ) → IsPart shown blocks → IsFreeChain (over blocks (changed [])) chain → (block ≡ 1) ⊎ Contains chain block) → IsNear image tree Looks block
+  asked_free Looks block lacks = elim (lacks image.at volume.chain part stored_first.spare.listed) [
+    | inl first ↦ super_block first
+    | inr among ↦ free volume.chain (stored_of image tree volume).spare.listed among
+  ]
 
   -- what a step on no changes says
   pub at_first : (says : Image → Tree → List ℕ → Type 0) → OnStored shown [] says → says image tree volume.chain

@@ -4,6 +4,7 @@ ghost use Rattle.mb_fsops.specs.MakingDirs.{MakesDirAt};
 
 use crate::places::{NamePlace, find_name};
 use mb_dirs::{Chosen, Gap, NewInode, lacking_number, make_directory_in};
+use mb_file::lacking_free;
 use mb_iface::{Acted, Changes, View};
 use mb_kinds::{Errno, Name};
 use std::alloc::Global;
@@ -26,6 +27,9 @@ pub fn make_dir<V: View>(
     ensures picks { PicksAsV7 (V.shown view.now) demanded result }
 {
     if let Some(need) = lacking_number(view, &Changes::new(alloc), demanded) {
+        return Acted::Need(need);
+    }
+    if let Some(need) = lacking_free(view, &Changes::new(alloc), 1) {
         return Acted::Need(need);
     }
     match find_name(alloc, view, dir, name) {

@@ -5,16 +5,20 @@ ghost use Rattle.mb_fsops.specs.Removing.{RemovesAt};
 use crate::places::{NamePlace, find_name};
 use mb_dirs::{Advanced, clear_slot};
 use mb_file::{Hung, erase_in};
-use mb_iface::{Acted, Changes, View};
+use mb_iface::{Acted, Changes, Need, View};
 use mb_kinds::{Errno, Name};
 use std::alloc::Global;
 
 /// Removes a directory that has no names but its dots and is not open (V7 rmdir(1)): empties the slot
 /// of its name, takes the link that its `..` was from the links of the directory with the name, and
-/// erases it with the blocks that it holds.
+/// erases it with the blocks that it holds. Block 1, which the erasure wants, is asked for before the name
+/// is searched.
 pub fn remove_dir<V: View>(alloc: Global, view: &V, dir: u16, name: &Name, moment: u32) -> Acted
     ensures { PerformsAnyway (V.shown view.now) (RemoveDir dir name.now moment) result }
 {
+    if view.get(1).is_none() {
+        return Acted::Need(Need::one(1));
+    }
     match find_name(alloc, view, dir, name) {
         NamePlace::Slot { links, at, ino } => {
             let less = links.saturating_sub(1);

@@ -1,5 +1,6 @@
 use crate::volumes::{
-    Ended, ROOT, Volume, counts, creates, fresh, is_so, leads_to, makes_dir, removes_dir,
+    Ended, ROOT, Volume, asks_for, counts, creates, creation, directory_creation, fresh, is_so,
+    leads_to, makes_dir, removal, removes_dir,
 };
 use mb_kinds::Errno;
 use std::alloc::Global;
@@ -36,4 +37,24 @@ fn file_comes_in_a_new_directory(rt: HostRuntime) -> Result<(), Fail> {
     creates(&mut volume, 3, b"f", Ended::Done(Some(4)))?;
     leads_to(&volume, b"/d/../d/f", 4)?;
     counts(&volume, 3, 3)
+}
+
+/// What an operation can name without a search is asked for before it, so the directory's block, behind
+/// which nothing is asked for, is searched once.
+#[test]
+fn search_of_the_directory_comes_last(rt: HostRuntime) -> Result<(), Fail> {
+    let volume = with_directory(rt.alloc())?;
+    let made = asks_for(&volume, &creation(ROOT, b"f"), None)?;
+    assert!(rt; made.starts_with(&[1, 2]));
+    assert_eq!(rt; made.len(), 3);
+    let demanded = asks_for(&volume, &creation(ROOT, b"f"), Some(9))?;
+    assert!(rt; demanded.starts_with(&[1, 3, 2]));
+    assert_eq!(rt; demanded.len(), 4);
+    assert_eq!(rt; demanded.last(), made.last());
+    let directory = asks_for(&volume, &directory_creation(b"e"), None)?;
+    assert_eq!(rt; directory.len(), 4);
+    assert_eq!(rt; directory.last(), made.last());
+    let gone = asks_for(&volume, &removal(b"d"), None)?;
+    assert_eq!(rt; gone, made);
+    Ok(())
 }

@@ -64,6 +64,22 @@ fn acted<F: FileSys>(
     Err("an operation asks too often".into())
 }
 
+/// The first block of each of an operation's needs, one after another.
+pub fn asks_for(volume: &Volume, op: &FsOp, pick: Option<u16>) -> Result<Vec<u32>, Fail> {
+    let mut asked = Vec::new(volume.heap);
+    let mut view = nothing(volume.heap);
+    for _ in 0..100 {
+        match V7.act(volume.heap, &view, &volume.opens, op, pick) {
+            Acted::Need(need) => {
+                asked.push(need.first)?;
+                gather(&volume.blocks, &mut view, need)?;
+            }
+            _ => return Ok(asked),
+        }
+    }
+    Err("an operation asks too often".into())
+}
+
 /// Does an operation on the volume, with a demanded number or without one.
 fn perform(volume: &mut Volume, op: &FsOp, pick: Option<u16>) -> Result<Ended, Fail> {
     match acted(V7, volume.heap, &volume.blocks, &volume.opens, op, pick)? {
@@ -97,7 +113,7 @@ fn named(text: &[u8]) -> Name {
 }
 
 /// The making of a file under a name of the directory.
-fn creation(dir: u16, text: &[u8]) -> FsOp {
+pub fn creation(dir: u16, text: &[u8]) -> FsOp {
     FsOp::Create {
         dir,
         name: named(text),
@@ -122,27 +138,35 @@ pub fn creates_as(volume: &mut Volume, text: &[u8], ino: u16) -> Result<(), Fail
     }
 }
 
-/// Makes a directory under a name of the root.
-pub fn makes_dir(volume: &mut Volume, text: &[u8], wanted: Ended) -> Result<(), Fail> {
-    let op = FsOp::MakeDir {
+/// The making of a directory under a name of the root.
+pub fn directory_creation(text: &[u8]) -> FsOp {
+    FsOp::MakeDir {
         dir: ROOT,
         name: named(text),
         mode: 0o755,
         uid: 5,
         gid: 6,
         moment: 7,
-    };
-    ends(volume, &op, wanted)
+    }
+}
+
+/// Makes a directory under a name of the root.
+pub fn makes_dir(volume: &mut Volume, text: &[u8], wanted: Ended) -> Result<(), Fail> {
+    ends(volume, &directory_creation(text), wanted)
+}
+
+/// The removal of a directory by its name in the root.
+pub fn removal(text: &[u8]) -> FsOp {
+    FsOp::RemoveDir {
+        dir: ROOT,
+        name: named(text),
+        moment: 8,
+    }
 }
 
 /// Removes a directory by its name in the root.
 pub fn removes_dir(volume: &mut Volume, text: &[u8], wanted: Ended) -> Result<(), Fail> {
-    let op = FsOp::RemoveDir {
-        dir: ROOT,
-        name: named(text),
-        moment: 8,
-    };
-    ends(volume, &op, wanted)
+    ends(volume, &removal(text), wanted)
 }
 
 /// Enters a further name of an inode in the root.

@@ -1,5 +1,5 @@
 use Rattle.std.proofs.Common.{◌+◌, refl, arith}
-use Rattle.mb_fsops.proofs.MakingDirs.{dir_made_at, links_full, name_asked, name_there, number_asked}
+use Rattle.mb_fsops.proofs.MakingDirs.{block_asked, dir_made_at, links_full, name_asked, name_there, number_asked}
 use Rattle.mb_fsops.proofs.directories.make_dir.Goals as goal
 
 pub returns-in-Slot-clause-performs : goal.returns-in-Slot-clause-performs
@@ -18,3 +18,7 @@ returns-else-links-ge-MOST_LINKS-clause-performs g c =
 
 pub returns-in-Some-clause-performs : goal.returns-in-Some-clause-performs
 returns-in-Some-clause-performs g c = number_asked c.args.dir c.args.name.now c.args.new.now (g.V.View.shown c.args.view.now) c.args.demanded c.new.result c.new.ensures c.in-Some.need c.in-Some.ensures
+
+pub returns-in-Some-lacking_free-clause-performs : goal.returns-in-Some-lacking_free-clause-performs
+returns-in-Some-lacking_free-clause-performs g c =
+    block_asked c.args.dir c.args.name.now c.args.new.now (g.V.View.shown c.args.view.now) c.args.demanded c.new-2.result c.new-2.ensures c.in-Some-lacking_free.need c.in-Some-lacking_free.ensures
