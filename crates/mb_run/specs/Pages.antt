@@ -1,10 +1,12 @@
 -- What a call gathered, as the driver looks at it.
-use Rattle.std.specs.Prelude.{ℕ, ◌≡◌, ◌≤◌, ◌<◌, ◌+◌, ◌⊎◌, Bool, false, Option, Some, if◌then◌else◌, is_some, IfSome, length, nat_eq}
+use Rattle.std.specs.List.{AllByRecursion}
+use Rattle.std.specs.Prelude.{ℕ, ◌≡◌, ◌⊎◌, Bool, false, Option, Some, if◌then◌else◌, is_some, IfSome, length, nat_eq}
 use Rattle.mb_calls.specs.Following.{IsGoingFor, ViewGrows}
 use Rattle.mb_calls.specs.Performed.{FitsCall, IsRight}
 use Rattle.mb_calls.specs.declared.performing.Performed.{Performed}
 use Rattle.mb_calls.specs.declared.resuming.Performing.{Performing}
 use Rattle.mb_core_spec.specs.Copies.{PagesState, TableCopy, kept_at, no_pages, shown}
+use Rattle.mb_iface.specs.Needs.{blocks_of}
 use Rattle.mb_iface.specs.declared.replies.Need.{Need}
 use Rattle.mb_kinds.specs.declared.calls.Call.{Call}
 
@@ -30,7 +32,7 @@ IsUnderWay pages caller call way = IfSome way (λ (on : Performing). IfSome page
 
 -- none of the blocks that are asked for was gathered
 abbrev pub LacksAll : PagesState → Need → Type 0
-LacksAll pages need = (block : ℕ) → need.first ≤ block → block < need.first + need.count → has pages block ≡ false
+LacksAll pages need = AllByRecursion (λ (block : ℕ). has pages block ≡ false) (blocks_of need)
 
 -- what was gathered is there, with the same bytes, and so are the tables
 pub record Grows (before now : PagesState) : Type 0 where

@@ -267,6 +267,11 @@ fn lacks_all(pages: &Pages, need: Need) -> bool
             return false;
         }
     }
+    for other in need.others.blocks() {
+        if *other != 0 && pages.get(*other).is_some() {
+            return false;
+        }
+    }
     true
 }
 
