@@ -316,7 +316,7 @@ fn gather_on<C: EventCore, H: Hook>(
     ensures origin { C.origin core.new ≡ C.origin core.old }
     ensures right { IsOrderly (C.sight core.new) }
 {
-    keep_way(&runner.pages, need, way);
+    keep_way(&runner.pages, Need { ..need }, way);
     gather(alloc, core, hook, runner, calls, call, ticket, need)
 }
 
