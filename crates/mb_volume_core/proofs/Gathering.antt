@@ -68,7 +68,7 @@ module _ {F D : Type 0} (told : D → Option Image) (faults : D → ℕ) (core :
   module _ (mine : CallerState) (here : slice_get core.callers ticket.caller ≡ Some mine) (by : KeepsGathered told core new ticket.caller need mine before now) where
     got : Got told core.cache new.cache core.tables need.first mine by.kept before now
     got = elim (cases_lt 0 need.first) [
-      | inl some ↦ blocks_gathered told core.cache new.cache core.tables mine need.first need.count by.kept before now (by.blocks (omega (arith, some))) (omega (arith, some)) asked.some
+      | inl some ↦ blocks_gathered told core.cache new.cache core.tables mine need by.kept before now (by.blocks (omega (arith, some))) (omega (arith, some)) asked.some
       | inr none ↦ (let zero_is : 0 ≡ need.first = omega (arith, none) in
           subst (λ n. Got told core.cache new.cache core.tables n mine by.kept before now) zero_is
           (tables_gathered told core.cache new.cache core.tables mine (live_copy core.tables) by.kept before now refl (by.tables (sym zero_is))))
@@ -83,7 +83,7 @@ module _ {F D : Type 0} (told : D → Option Image) (faults : D → ℕ) (core :
     -- what the caller has grows, where it had none of the blocks
     gathered_more : LacksAll before need → Grows before now
     gathered_more lacks = elim (cases_lt 0 need.first) [
-      | inl some ↦ (let blocks = by.blocks (omega (arith, some)) in subst (Grows before) (sym blocks.got_is) (blocks_grow before need lacks (seen told core.cache) core.cache.stamps blocks.reads (omega (arith, some)) blocks.long blocks.are))
+      | inl some ↦ (let blocks = by.blocks (omega (arith, some)) in subst (Grows before) (sym blocks.got_is) (blocks_grow before need lacks blocks.reads (omega (arith, some)) blocks.numbers_are))
       | inr none ↦ (let zero_is : need.first ≡ 0 = omega (arith, none) in subst (Grows before) (sym (by.tables zero_is).got_is) (tables_grow before need lacks (live_copy core.tables) zero_is asked.some))
     ]
 

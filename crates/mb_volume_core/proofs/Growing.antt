@@ -1,20 +1,21 @@
 -- What a call gathered grows, where it asks for blocks that it has not.
-use Rattle.std.proofs.Common.{◌≡◌, ◌∙◌, ◌<◌, ◌≤◌, ◌+◌, ◌⊎◌, inl, inr, List, [], ◌∷◌, ℕ, true, false, cond, if◌then◌else◌, is_some, nat_eq, IfSome, Option, None, Some, option_map, length, refl, ap, sym, subst, arith}
-use Rattle.std.proofs.lemmas.Bool.{cases_lt}
+use Rattle.std.proofs.Common.{◌≡◌, ◌∙◌, ◌<◌, ◌≤◌, List, [], ◌∷◌, ℕ, Bool, true, false, cond, if◌then◌else◌, is_some, nat_eq, IfSome, Option, None, Some, option_map, length, refl, ap, sym, subst, arith}
 use Rattle.std.proofs.lemmas.Bool.Decides.{nat_tests}
-use Rattle.mb_kinds.specs.Image.{Image}
-use Rattle.mb_cache.specs.Stamps.{Stamps}
 use Rattle.mb_calls.specs.Following.{BeginsWalks, IsGoing, IsGoingFor}
 use Rattle.mb_calls.specs.declared.resuming.Performing.{Performing}
+use Rattle.mb_iface.proofs.NeedBlocks.{each_block}
+use Rattle.mb_iface.specs.Needs.{blocks_of}
 use Rattle.mb_iface.specs.declared.replies.Need.{Need}
 use Rattle.mb_callers.specs.Gathering.{with_blocks, with_tables}
-use Rattle.mb_callers.specs.Reads.{AreRead, stored}
+use Rattle.mb_callers.specs.Reads.{numbers, stored}
 use Rattle.mb_callers.proofs.Gatherings.{kept_stored}
+use Rattle.mb_callers.proofs.Numbers.{first_of}
 use Rattle.mb_core_spec.specs.Copies.{CopyList, KeptBlock, PagesState, TableCopy, kept_at, shown}
 use Rattle.mb_kinds.specs.declared.calls.Call.{Call}
-use Rattle.mb_run.specs.Pages.{Grows, IsUnderWay, LacksAll}
+use Rattle.mb_run.specs.Pages.{Grows, IsUnderWay, LacksAll, has}
 use Rattle.mb_tree.specs.declared.seats.Seat.{Seat}
 use Rattle.std.proofs.lemmas.Option.{same_Some}
+use Rattle.std.specs.List.{AllByRecursion}
 use Rattle.std.specs.Prelude.{slice_get, unwrap_or}
 
 -- ---- copies that are stored
@@ -22,20 +23,16 @@ use Rattle.std.specs.Prelude.{slice_get, unwrap_or}
 no_true : false ≡ true → ⊥
 no_true same = cc
 
+-- it is none of them
+abbrev IsNoneOf : ℕ → List ℕ → Type 0
+IsNoneOf block blocks = AllByRecursion (λ (other : ℕ). nat_eq block other ≡ false) blocks
+
 -- a block that was not read has its copy still
-stored_other : (view : Option Image) (stamps : Stamps) (copies reads : CopyList) (first block : ℕ) → AreRead view stamps first reads → (block < first) ⊎ (first + length reads ≤ block) → kept_at (stored copies reads) block ≡ kept_at copies block
-stored_other view stamps copies [] first block are apart = refl
-stored_other view stamps copies (read ∷ reads) first block are apart =
-    let is : read.0 ≡ first = are.0.block_is in
-    let other : nat_eq block read.0 ≡ false = (elim apart [
-      | inl low ↦ grind (arith, nat_tests, is, low)
-      | inr high ↦ grind (arith, nat_tests, is, high)
-    ]) in
-    stored_other view stamps (stored copies (read ∷ [])) reads (first + 1) block are.1 (elim apart [
-      | inl low ↦ inl (omega (arith, low))
-      | inr high ↦ inr (omega (arith, high))
-    ])
-    ∙ kept_stored copies read.0 read.1 block ∙ ap (λ b. cond b (Some read.1) (kept_at copies block)) other
+stored_other : (copies reads : CopyList) (block : ℕ) → IsNoneOf block (numbers reads) → kept_at (stored copies reads) block ≡ kept_at copies block
+stored_other copies [] block apart = refl
+stored_other copies (read ∷ reads) block apart =
+    stored_other (stored copies (read ∷ [])) reads block apart.1
+    ∙ kept_stored copies read.0 read.1 block ∙ ap (λ b. cond b (Some read.1) (kept_at copies block)) apart.0
 
 each_grows : (before now : Option KeptBlock) → (is_some before ≡ true → now ≡ before) → IfSome (option_map (λ (kept : KeptBlock). kept.bytes) before) (λ bytes. option_map (λ (kept : KeptBlock). kept.bytes) now ≡ Some bytes)
 each_grows None now same = tt
@@ -51,29 +48,36 @@ none_given : (tables : Option TableCopy) (P : TableCopy → Type 0) → is_some 
 none_given None P none = tt
 none_given (Some given) P none = absurd (no_true (sym none))
 
-module _ (pages : PagesState) (need : Need) (lacks : LacksAll pages need) where
-  -- a block that is there was not asked for
-  elsewhere : (block : ℕ) → 1 ≤ need.first → is_some (kept_at pages.blocks block) ≡ true → (block < need.first) ⊎ (need.first + need.count ≤ block)
-  elsewhere block some there = elim (cases_lt block need.first) [
-    | inl low ↦ inl low
-    | inr from ↦ elim (cases_lt block (need.first + need.count)) [
-      | inr past ↦ inr past
-      | inl inside ↦ (let number : nat_eq block 0 ≡ false = grind (arith, nat_tests, some, from) in
-          absurd (no_true (sym (lacks block from inside) ∙ ap (λ b. if b then is_some pages.tables else is_some (kept_at pages.blocks block)) number ∙ there)))
-    ]
-  ]
+module _ (pages : PagesState) (block : ℕ) (there : is_some (kept_at pages.blocks block) ≡ true) where
+  -- a block that is there is none that is lacking
+  apart_by : (other : ℕ) (test : Bool) → nat_eq block other ≡ test → 1 ≤ other → has pages other ≡ false → test ≡ false
+  apart_by other false is some lacks = refl
+  apart_by other true is some lacks =
+      let number : nat_eq other 0 ≡ false = grind (arith, nat_tests, some) in
+      let same : block ≡ other = grind (arith, nat_tests, is) in
+      let has_none : is_some (kept_at pages.blocks other) ≡ false = ap (λ b. if b then is_some pages.tables else is_some (kept_at pages.blocks other)) (sym number) ∙ lacks in
+      absurd (no_true (sym has_none ∙ sym (ap (λ n. is_some (kept_at pages.blocks n)) same) ∙ there))
 
-  pub blocks_grow : (view : Option Image) (stamps : Stamps) (reads : CopyList) → 1 ≤ need.first → length reads ≡ need.count → AreRead view stamps need.first reads → Grows pages (with_blocks pages reads)
-  blocks_grow view stamps reads some long are = record {
+  none_of : (blocks : List ℕ) → AllByRecursion (λ (other : ℕ). 1 ≤ other) blocks → AllByRecursion (λ (other : ℕ). has pages other ≡ false) blocks → IsNoneOf block blocks
+  none_of [] some lacks = tt
+  none_of (other ∷ blocks) some lacks = (apart_by other (nat_eq block other) refl some.0 lacks.0, none_of blocks some.1 lacks.1)
+
+module _ (pages : PagesState) (need : Need) (lacks : LacksAll pages need) where
+  -- the numbers that are asked for are those of blocks, not of the tables
+  numbered : 1 ≤ need.first → AllByRecursion (λ (other : ℕ). 1 ≤ other) (blocks_of need)
+  numbered some = each_block need (λ (other : ℕ). 1 ≤ other) (λ block from below. omega (arith, some, from)) (λ at below is. omega (arith, is))
+
+  pub blocks_grow : (reads : CopyList) → 1 ≤ need.first → numbers reads ≡ blocks_of need → Grows pages (with_blocks pages reads)
+  blocks_grow reads some are = record {
     blocks = λ block. each_grows (kept_at pages.blocks block) (kept_at (stored pages.blocks reads) block)
-        (λ there. stored_other view stamps pages.blocks reads need.first block are (elim (elsewhere block some there) [ inl low ↦ inl low | inr past ↦ inr (omega (arith, past, long)) ]));
+        (λ there. stored_other pages.blocks reads block (subst (IsNoneOf block) (sym are) (none_of pages block there (blocks_of need) (numbered some) lacks)));
     tables = given_stays pages.tables;
   }
 
   pub tables_grow : (now : TableCopy) → need.first ≡ 0 → 1 ≤ need.count → Grows pages (with_tables pages now)
   tables_grow now none some = record {
     blocks = λ block. each_grows (kept_at pages.blocks block) (kept_at pages.blocks block) (λ there. refl);
-    tables = none_given pages.tables (λ (given : TableCopy). Some now ≡ Some given) (lacks 0 (omega (arith, none)) (omega (arith, none, some)));
+    tables = none_given pages.tables (λ (given : TableCopy). Some now ≡ Some given) (subst (λ n. has pages n ≡ false) none (first_of need (λ (block : ℕ). has pages block ≡ false) some lacks));
   }
 
 -- ---- a call that goes on, or begins
