@@ -22,7 +22,6 @@ use Rattle.mb_run.specs.CoreSight.{is_fresh, pages_kept, seat_of, sight_of, stal
 use Rattle.mb_run.specs.Events.{Answers, Gains, Gathers}
 use Rattle.mb_run.specs.Pages.{Grows, HasTablesFor, LacksAll, has}
 use Rattle.mb_run.specs.Sights.{HasTicket}
-use Rattle.mb_cache.specs.State.{seen}
 use Rattle.mb_volume_core.proofs.Growing.{blocks_grow, tables_grow}
 use Rattle.mb_volume_core.proofs.Origins.{origin_of}
 use Rattle.mb_volume_core.proofs.Answering.{answered, open_is}
