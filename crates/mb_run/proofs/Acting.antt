@@ -13,9 +13,11 @@ use Rattle.mb_kinds.specs.declared.faults.Ticket.{Ticket}
 use Rattle.mb_run.specs.Events.{Stays, Strikes}
 use Rattle.mb_run.specs.Served.{Acts}
 use Rattle.mb_run.specs.Firsts.{KeepsFirsts}
+use Rattle.mb_run.specs.Seals.{Continues}
 use Rattle.mb_run.specs.Sights.{Sight}
 use Rattle.mb_run.proofs.Firsts.{firsts_same, firsts_still, firsts_then}
 use Rattle.mb_run.proofs.Lists.{all_both}
+use Rattle.mb_run.proofs.Trails.{trail_marks, trail_same, trail_then}
 
 pub acts_same : (caller : ℕ) (s : Sight) → Acts caller s s
 acts_same caller s = record {
@@ -35,6 +37,7 @@ acts_same caller s = record {
   calm = λ same. refl;
   floor = inr (inr refl);
   firsts = firsts_same s;
+  trail = trail_same s.trail;
 }
 
 pub acts_then : (caller : ℕ) (a b d : Sight) → Acts caller a b → Acts caller b d → Acts caller a d
@@ -64,6 +67,7 @@ acts_then caller a b d one two = record {
       let here : length b.records ≡ length a.records = omega arith in let there : length d.records ≡ length b.records = omega arith in two.calm there ∙ one.calm here);
   floor = elim two.floor [ inl none ↦ inl none | inr rest ↦ elim rest [ inl mine ↦ inr (inl mine) | inr same ↦ elim one.floor [ inl none ↦ inl (same ∙ none) | inr more ↦ elim more [ inl mine ↦ inr (inl (same ∙ mine)) | inr still ↦ inr (inr (same ∙ still)) ] ] ] ];
   firsts = firsts_then a b d one.config one.firsts two.firsts;
+  trail = trail_then a.trail b.trail d.trail one.trail two.trail;
 }
 
 -- others have no entry among those of one caller
@@ -73,8 +77,8 @@ own_apart (entry ∷ entries) caller other apart theirs =
     ap (λ b. cond b (entry ∷ own entries other) (own entries other)) (neq entry.caller other (λ same. apart (sym same ∙ theirs.0))) ∙ own_apart entries caller other apart theirs.1
 
 acts_grown : (caller : ℕ) (old new : Sight) (entries : List Entry) → Stays caller old new → new.history ≡ old.history ++ entries → AllByRecursion (λ (entry : Entry). entry.caller ≡ caller) entries
-    → (new.floor ≡ None) ⊎ (new.floor ≡ Some caller) ⊎ (new.floor ≡ old.floor) → KeepsFirsts old new → Acts caller old new
-acts_grown caller old new entries stays grown theirs floor firsts = record {
+    → (new.floor ≡ None) ⊎ (new.floor ≡ Some caller) ⊎ (new.floor ≡ old.floor) → KeepsFirsts old new → Continues old.trail new.trail → Acts caller old new
+acts_grown caller old new entries stays grown theirs floor firsts trail = record {
   config = stays.config;
   seats = stays.seats;
   own = λ other apart. ap (λ h. own h other) grown ∙ filter-append (λ (e : Entry). nat_eq e.caller other) old.history entries ∙ ap (λ es. own old.history other ++ es) (own_apart entries caller other apart theirs) ∙ append-nil (own old.history other);
@@ -91,14 +95,15 @@ acts_grown caller old new entries stays grown theirs floor firsts = record {
   calm = λ same. stays.incarnation;
   floor = floor;
   firsts = firsts;
+  trail = trail;
 }
 
-pub acts_stays : (caller : ℕ) (old new : Sight) → Stays caller old new → new.history ≡ old.history → (new.floor ≡ None) ⊎ (new.floor ≡ Some caller) ⊎ (new.floor ≡ old.floor) → KeepsFirsts old new → Acts caller old new
-acts_stays caller old new stays history floor firsts = acts_grown caller old new [] stays (history ∙ sym (append-nil old.history)) tt floor firsts
+pub acts_stays : (caller : ℕ) (old new : Sight) → Stays caller old new → new.history ≡ old.history → (new.floor ≡ None) ⊎ (new.floor ≡ Some caller) ⊎ (new.floor ≡ old.floor) → KeepsFirsts old new → Continues old.trail new.trail → Acts caller old new
+acts_stays caller old new stays history floor firsts trail = acts_grown caller old new [] stays (history ∙ sym (append-nil old.history)) tt floor firsts trail
 
 pub acts_entry : (caller : ℕ) (old new : Sight) (entry : Entry) → Stays caller old new → entry.caller ≡ caller → new.history ≡ old.history ++ entry ∷ []
-    → (new.floor ≡ None) ⊎ (new.floor ≡ Some caller) ⊎ (new.floor ≡ old.floor) → KeepsFirsts old new → Acts caller old new
-acts_entry caller old new entry stays mine more floor firsts = acts_grown caller old new (entry ∷ []) stays more (mine, tt) floor firsts
+    → (new.floor ≡ None) ⊎ (new.floor ≡ Some caller) ⊎ (new.floor ≡ old.floor) → KeepsFirsts old new → Continues old.trail new.trail → Acts caller old new
+acts_entry caller old new entry stays mine more floor firsts trail = acts_grown caller old new (entry ∷ []) stays more (mine, tt) floor firsts trail
 
 pub acts_strikes : (caller : ℕ) (old new : Sight) (ticket : Ticket) (kind : Kind) (nth : ℕ) → ticket.caller ≡ caller → Strikes old new ticket kind nth → Acts caller old new
 acts_strikes caller old new ticket kind nth mine strikes = record {
@@ -118,4 +123,5 @@ acts_strikes caller old new ticket kind nth mine strikes = record {
   calm = λ same. absurd (omega (arith, same, ap length strikes.records, length-append old.records (record { caller = ticket.caller; ordinal = ticket.ordinal; kind = kind; nth = nth } ∷ [])));
   floor = inr (inr strikes.floor);
   firsts = firsts_still old new strikes.counts.history strikes.counts.begun strikes.seats;
+  trail = trail_marks old.trail new.trail strikes.log.trail;
 }

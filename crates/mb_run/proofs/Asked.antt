@@ -33,6 +33,7 @@ whole_asks calls test asked a b r s whole = record {
   balanced = whole.balanced;
   config = whole.config;
   firsts = whole.firsts;
+  later = whole.later;
   seals = (let low = whole.seals in omega (arith, low));
 }
 

@@ -8,7 +8,7 @@ use Rattle.mb_jobs.specs.declared.jobs.Job.{Job}
 use Rattle.mb_jobs.specs.declared.jobs.JobCall.{JobCall}
 use Rattle.mb_kinds.specs.declared.entries.Entry.{Entry}
 use Rattle.mb_kinds.specs.declared.entries.Flight.{Flight}
-use Rattle.mb_run.specs.Drives.{TakesByOrder, AreNew, HasEachMoment, IsBegun, IsComplete, IsDriven, IsLinedUp, IsRunnable, RisesByOrder, new_runner}
+use Rattle.mb_run.specs.Drives.{EntersByOrder, EntersCalmly, TakesByOrder, AreNew, HasEachMoment, IsBegun, IsComplete, IsDriven, IsLinedUp, IsRunnable, RisesByOrder, new_runner}
 use Rattle.mb_run.specs.Firsts.{HasFirst}
 use Rattle.mb_run.specs.Letters.{AreLetters, HasBegunBy, letters_of}
 use Rattle.mb_run.specs.Runs.{FirstsRise, HasTakenTested}
@@ -96,14 +96,16 @@ listed job test old new callers begun none same ran config right taken seals =
       moments = subst (λ n. HasEachMoment n new.history) start (each_moment new right ran.begun);
       lined = subst (λ order. IsLinedUp order job.calls job.start new.history) (sym none) (ran.listed, subst (λ n. moments_in new.history ≡ range_with_len (n + 1) (length new.history)) start ran.moments);
       firsts = subst (λ order. RisesByOrder order job.callers new.history) (sym none) tt;
+      enters = λ runs trail. subst (λ order. EntersByOrder order job.callers job.calls test new) (sym none) tt;
       sound = ran.sound;
       taken = λ runs. subst (λ order. TakesByOrder order test new) (sym none) (taken runs);
       seals = subst (λ order. undue_in new ≤ undue_in old + asked_by order) (sym none) (omega (arith, seals));
     }
 
 pub ordered : (job : Job) (test : Option (Crossing → Bool)) (old new : Sight) (callers : ℕ) (order : List ℕ) → IsBegun job old → job.order ≡ Some order → callers ≡ length job.callers → IsComplete job.calls callers test new → new.config ≡ old.config → IsOrderly new
-    → (AreLetters (letters_of job.callers) → FirstsRise order (letters_of job.callers) new.history) → undue_in new ≤ undue_in old + asked_in order → IsDriven job test old new
-ordered job test old new callers order begun some same done config right rises seals =
+    → (AreLetters (letters_of job.callers) → FirstsRise order (letters_of job.callers) new.history)
+    → (old.stage ≡ stage.Running → old.trail ≡ [] → EntersCalmly order job.callers job.calls test new) → undue_in new ≤ undue_in old + asked_in order → IsDriven job test old new
+ordered job test old new callers order begun some same done config right rises enters seals =
     let start : new.config.start ≡ job.start = ap (λ (l : Limits). l.start) config ∙ begun.start in
     record {
       config = config;
@@ -113,6 +115,7 @@ ordered job test old new callers order begun some same done config right rises s
       moments = subst (λ n. HasEachMoment n new.history) start (each_moment new right done.begun);
       lined = subst (λ given. IsLinedUp given job.calls job.start new.history) (sym some) tt;
       firsts = subst (λ given. RisesByOrder given job.callers new.history) (sym some) rises;
+      enters = λ runs trail. subst (λ given. EntersByOrder given job.callers job.calls test new) (sym some) (enters runs trail);
       sound = done.sound;
       taken = λ runs. subst (λ given. TakesByOrder given test new) (sym some) tt;
       seals = subst (λ given. undue_in new ≤ undue_in old + asked_by given) (sym some) seals;

@@ -1,11 +1,12 @@
 -- The end of a run.
-use Rattle.std.proofs.Common.{◌≡◌, ◌≢◌, ℕ, ◌≤◌, Bool, true, false, inl, inr, refl, ap, sym, subst, ◌∙◌, arith, Option, None, Some, length}
+use Rattle.std.proofs.Common.{◌≡◌, ◌≢◌, [], ◌∷◌, ℕ, ◌≤◌, Bool, true, false, inl, inr, refl, ap, sym, subst, ◌∙◌, arith, Option, None, Some, length}
+use Rattle.mb_core_spec.specs.declared.steps.Step.TheVariants as step
 use Rattle.mb_core_spec.specs.declared.stages.Stage.{Stage}
 use Rattle.mb_core_spec.specs.declared.stages.Stage.TheVariants as stage
 use Rattle.mb_edge.specs.Causes.{Rose}
 use Rattle.mb_edge.specs.declared.crossings.Crossing.{Crossing}
 use Rattle.mb_edge.specs.declared.crossings.Crossings.{Crossings}
-use Rattle.mb_run.specs.Events.{FlushesWith}
+use Rattle.mb_run.specs.Events.{FlushesWith, sealed}
 use Rattle.mb_run.specs.Orders.{IsQuiet, IsSealedNow}
 use Rattle.mb_run.specs.Recovering.{GoOn, Steps, StrikesBy}
 use Rattle.mb_run.specs.Settling.{IsFlushed, IsSettled, Keeps}
@@ -15,9 +16,10 @@ use Rattle.mb_run.specs.declared.settles.SettleEnd.{SettleEnd}
 use Rattle.mb_run.specs.declared.settles.SettleEnd.TheVariants as end
 use Rattle.mb_cache.specs.declared.answers.Flushed.TheVariants as flushed
 use Rattle.mb_run.proofs.Quiet.{quiet_alone}
+use Rattle.mb_run.proofs.Trails.{trail_put, trail_same, trail_then}
 
 quiet_keeps : (old new : Sight) → IsQuiet old new → Keeps old new
-quiet_keeps old new quiet = record { history = quiet.counts.history; records = quiet.records; config = quiet.config; seats = quiet.seats }
+quiet_keeps old new quiet = record { history = quiet.counts.history; records = quiet.records; config = quiet.config; seats = quiet.seats; trail = quiet.trail }
 
 pub alone_keeps : (test : Option (Crossing → Bool)) (old new : Sight) (by : Option Crossings) (answer : Stepped) → GoOn None by → Steps test None by old new answer → Keeps old new
 alone_keeps test old new by answer on steps = quiet_keeps old new (quiet_alone test old new by answer on steps)
@@ -27,10 +29,10 @@ never_struck test None old new strikes = strikes
 never_struck test (Some now) old new strikes = strikes
 
 pub keeps_same : (s : Sight) → Keeps s s
-keeps_same s = record { history = refl; records = refl; config = refl; seats = λ caller. refl }
+keeps_same s = record { history = refl; records = refl; config = refl; seats = λ caller. refl; trail = trail_same s.trail }
 
 pub keeps_then : (a b d : Sight) → Keeps a b → Keeps b d → Keeps a d
-keeps_then a b d one two = record { history = two.history ∙ one.history; records = two.records ∙ one.records; config = two.config ∙ one.config; seats = λ caller. two.seats caller ∙ one.seats caller }
+keeps_then a b d one two = record { history = two.history ∙ one.history; records = two.records ∙ one.records; config = two.config ∙ one.config; seats = λ caller. two.seats caller ∙ one.seats caller; trail = trail_then a.trail b.trail d.trail one.trail two.trail }
 
 pub rose_later : (a b d : ℕ) → a ≤ b → Rose b d → Rose a d
 rose_later a b d less rose = omega (arith, less, rose)
@@ -44,12 +46,12 @@ flushed_end old mid new so_far same = same ∙ so_far ∙ ap (λ n. record old {
 
 sealed_keeps : (old new : Sight) → IsSealedNow old new → Keeps old new
 sealed_keeps old new is = elim is [
-  | inl taken ↦ subst (Keeps old) (sym taken.1) (record { history = refl; records = refl; config = refl; seats = λ caller. refl })
+  | inl taken ↦ subst (Keeps old) (sym taken.1) (record { history = refl; records = refl; config = refl; seats = λ caller. refl; trail = trail_put old.trail (step.Sealed (length old.history) ∷ []) (sealed old new).trail refl })
   | inr none ↦ subst (Keeps old) (sym none.1) (keeps_same old)
 ]
 
 pub flushed_keeps : (old new : Sight) (came : SettleEnd) → IsFlushed old new came → Keeps old new
-flushed_keeps old new came is = subst (Keeps old) (sym is.rest) (record { history = refl; records = refl; config = refl; seats = λ caller. refl })
+flushed_keeps old new came is = subst (Keeps old) (sym is.rest) (record { history = refl; records = refl; config = refl; seats = λ caller. refl; trail = trail_same old.trail })
 
 pub quiet_kept : (old new : Sight) → IsQuiet old new → Keeps old new
 quiet_kept old new quiet = quiet_keeps old new quiet

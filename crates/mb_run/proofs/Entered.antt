@@ -33,6 +33,7 @@ use Rattle.mb_run.proofs.Openings.{line_answers, line_made}
 use Rattle.mb_run.proofs.Lists.{all_map, calls_push}
 use Rattle.mb_run.proofs.Missing.{missing_most}
 use Rattle.mb_run.proofs.Places.{at_begins, at_ends, at_leaves}
+use Rattle.mb_run.proofs.Trails.{trail_marks}
 use Rattle.mb_run.proofs.Undue.{entry_undue, still_undue}
 
 old_begins : (sight : Sight) (caller : ℕ) (call : Call) (incarnation : ℕ) (before : Option Flight) → IsOld incarnation before → IsOld incarnation (Some (flight_of sight caller call before))
@@ -88,7 +89,7 @@ module _ (calls : List JobCall) (test : Option (Crossing → Bool)) (old : Sight
   pub did_leave : (new : Sight) (flight : Flight) → Leaves runner.crossings.caller flight old new → Did calls test old new runner (advanced runner) went.Ended
   did_leave new flight leaves =
       let was = subst (IsAtBy (calls_of calls runner.crossings.caller) (calls_in old.history runner.crossings.caller) runner.done (old.seats runner.crossings.caller).begun) leaves.was may.served.calls in
-      did_end new (acts_stays runner.crossings.caller old new leaves.stays leaves.counts.history (elim leaves.floor [ inl none ↦ inl none | inr same ↦ inr (inr same) ]) (firsts_leaves old new runner.crossings.caller flight may.within (counted_from flight.ordinal runner.done was.1) (was.0 ∙ sym was.1) leaves)) (line_leaves runner.crossings.caller flight old new leaves) (balanced_same old new leaves.counts) (still_undue old new leaves.stays.config leaves.log leaves.counts.history) leaves.stays.records
+      did_end new (acts_stays runner.crossings.caller old new leaves.stays leaves.counts.history (elim leaves.floor [ inl none ↦ inl none | inr same ↦ inr (inr same) ]) (firsts_leaves old new runner.crossings.caller flight may.within (counted_from flight.ordinal runner.done was.1) (was.0 ∙ sym was.1) leaves) (trail_marks old.trail new.trail leaves.log.trail)) (line_leaves runner.crossings.caller flight old new leaves) (balanced_same old new leaves.counts) (still_undue old new leaves.stays.config leaves.log leaves.counts.history) leaves.stays.records
       (rw (leaves.mine, leaves.counts.history) (at_leaves (calls_of calls runner.crossings.caller) (calls_in old.history runner.crossings.caller) runner.done (old.seats runner.crossings.caller).begun flight leaves.answered was))
       (ap (λ (s : Seat). s.flight) leaves.mine)
 
@@ -99,7 +100,7 @@ module _ (calls : List JobCall) (test : Option (Crossing → Bool)) (old : Sight
       → (Answers runner.crossings.caller flight answer old new → CameFrom old new runner.crossings.caller flight) → Did calls test old new runner (advanced runner) went.Ended
   did_answer new flight answer answers lacks here line came =
       let entry = entry_of runner.crossings.caller flight None answer in
-      did_end new (acts_entry runner.crossings.caller old new entry answers.stays refl answers.history (elim answers.floor [ inl none ↦ inl none | inr same ↦ inr (inr same) ]) (firsts_answers old new runner.crossings.caller flight answer may.within (counted_from flight.ordinal runner.done here.1) (came answers) answers)) (λ lined. line_answers runner.crossings.caller flight answer old new answers lacks (line answers lined)) (balanced_answers runner.crossings.caller flight answer old new answers) (entry_undue old new answers.stays.config entry answers.log answers.history) answers.stays.records
+      did_end new (acts_entry runner.crossings.caller old new entry answers.stays refl answers.history (elim answers.floor [ inl none ↦ inl none | inr same ↦ inr (inr same) ]) (firsts_answers old new runner.crossings.caller flight answer may.within (counted_from flight.ordinal runner.done here.1) (came answers) answers) (trail_marks old.trail new.trail answers.log.trail)) (λ lined. line_answers runner.crossings.caller flight answer old new answers lacks (line answers lined)) (balanced_answers runner.crossings.caller flight answer old new answers) (entry_undue old new answers.stays.config entry answers.log answers.history) answers.stays.records
       (rw (answers.mine, answers.history, calls_push old.history entry runner.crossings.caller refl)
       (at_ends (calls_of calls runner.crossings.caller) (calls_in old.history runner.crossings.caller) runner.done flight.ordinal flight lacks here))
       (ap (λ (s : Seat). s.flight) answers.mine)
@@ -144,7 +145,7 @@ module _ (calls : List JobCall) (test : Option (Crossing → Bool)) (old : Sight
           nears = record {
             same = refl;
             counts = may.counts;
-            acts = acts_stays runner.crossings.caller old new begins.stays begins.history (inr (inr begins.floor)) (firsts_in new (flight_of old runner.crossings.caller call (old.seats runner.crossings.caller).flight) refl refl refl refl begins);
+            acts = acts_stays runner.crossings.caller old new begins.stays begins.history (inr (inr begins.floor)) (firsts_in new (flight_of old runner.crossings.caller call (old.seats runner.crossings.caller).flight) refl refl refl refl begins) (trail_marks old.trail new.trail begins.log.trail);
             lined = line_enters runner.crossings.caller call (flight_of old runner.crossings.caller call (old.seats runner.crossings.caller).flight) old new begins refl refl;
             balanced = balanced_begins runner.crossings.caller (flight_of old runner.crossings.caller call (old.seats runner.crossings.caller).flight) old new begins;
             served = record {
@@ -217,7 +218,7 @@ module _ (calls : List JobCall) (test : Option (Crossing → Bool)) (old : Sight
         let nears : Nears calls test old new runner now = record {
           same = goes.nears.same;
           counts = goes.nears.counts;
-          acts = acts_then runner.crossings.caller old mid new (acts_stays runner.crossings.caller old mid begins.stays begins.history (inr (inr begins.floor)) (firsts_in mid (record (flight_of old runner.crossings.caller call (old.seats runner.crossings.caller).flight) { ticket = Some ticket }) refl refl refl refl begins)) goes.nears.acts;
+          acts = acts_then runner.crossings.caller old mid new (acts_stays runner.crossings.caller old mid begins.stays begins.history (inr (inr begins.floor)) (firsts_in mid (record (flight_of old runner.crossings.caller call (old.seats runner.crossings.caller).flight) { ticket = Some ticket }) refl refl refl refl begins) (trail_marks old.trail mid.trail begins.log.trail)) goes.nears.acts;
           lined = λ line. goes.nears.lined (line_enters runner.crossings.caller call (record (flight_of old runner.crossings.caller call (old.seats runner.crossings.caller).flight) { ticket = Some ticket }) old mid begins refl refl line);
           balanced = λ even. goes.nears.balanced (balanced_begins runner.crossings.caller (record (flight_of old runner.crossings.caller call (old.seats runner.crossings.caller).flight) { ticket = Some ticket }) old mid begins even);
           served = goes.nears.served;

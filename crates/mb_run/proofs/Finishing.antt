@@ -1,6 +1,7 @@
 -- What a call that finishes was performed over, a checkpoint after it was logged, and a call that is given up.
-use Rattle.std.proofs.Common.{◌≡◌, List, ℕ, ◌<◌, ◌≤◌, Bool, true, false, if◌then◌else◌, is_some, refl, ap, sym, subst, ◌∙◌, arith, Option, None, Some, option_map}
+use Rattle.std.proofs.Common.{◌≡◌, List, [], ◌∷◌, length, ℕ, ◌<◌, ◌≤◌, Bool, true, false, if◌then◌else◌, is_some, refl, ap, sym, subst, ◌∙◌, arith, Option, None, Some, option_map}
 use Rattle.std.proofs.lemmas.Option.{same_Some}
+use Rattle.mb_core_spec.specs.declared.steps.Step.TheVariants as step
 use Rattle.mb_edge.specs.declared.crossings.Crossing.{Crossing}
 use Rattle.mb_calls.specs.declared.performing.Performed.TheVariants as performed
 use Rattle.mb_calls.specs.declared.performing.Ready.{Ready}
@@ -21,6 +22,7 @@ use Rattle.mb_run.specs.declared.runner.At.{At}
 use Rattle.mb_run.specs.declared.runner.At.TheVariants as at
 use Rattle.mb_run.specs.declared.runner.Runner.{Runner}
 use Rattle.mb_run.proofs.Lists.{neq}
+use Rattle.mb_run.proofs.Trails.{trail_put, trail_then}
 
 -- ---- pages
 
@@ -77,6 +79,7 @@ asked_there test old mid before m ticket kind asks there = subst (λ (r : Runner
 
 acts_sealed : (caller : ℕ) (old mid new : Sight) → Acts caller old mid → Acts caller old (sealed mid new)
 acts_sealed caller old mid new acts = record {
+  trail = trail_then old.trail mid.trail (sealed mid new).trail acts.trail (trail_put mid.trail (step.Sealed (length mid.history) ∷ []) (sealed mid new).trail refl);
   config = acts.config;
   seats = acts.seats;
   own = acts.own;

@@ -1,7 +1,8 @@
 -- A call inside gathers, finishes and leaves.
-use Rattle.std.proofs.Common.{◌≡◌, ◌≢◌, List, ℕ, ◌+◌, ◌-◌, ◌*◌, ◌<◌, ◌≤◌, min, Bool, true, false, cond, length, inl, inr, refl, ap, sym, subst, ◌∙◌, arith, Option, Some}
+use Rattle.std.proofs.Common.{◌≡◌, ◌≢◌, List, [], ◌∷◌, ℕ, ◌+◌, ◌-◌, ◌*◌, ◌<◌, ◌≤◌, min, Bool, true, false, cond, length, inl, inr, refl, ap, sym, subst, ◌∙◌, arith, Option, Some}
 use Rattle.std.proofs.lemmas.Bool.{eq-eqb}
 use Rattle.std.proofs.lemmas.Option.{same_Some, slice_get_within}
+use Rattle.mb_core_spec.specs.declared.steps.Step.TheVariants as step
 use Rattle.mb_edge.specs.declared.crossings.Crossing.{Crossing}
 use Rattle.mb_kinds.specs.declared.calls.Call.{Call}
 use Rattle.mb_kinds.specs.declared.entries.Flight.{Flight}
@@ -35,6 +36,7 @@ use Rattle.mb_run.proofs.Places.{at_logs}
 use Rattle.mb_run.proofs.Entered.{did_answer, did_leave}
 use Rattle.mb_run.proofs.Openings.{line_open}
 use Rattle.mb_run.proofs.Struck.{IsIn, Stands, did_asked, did_back, may_counted}
+use Rattle.mb_run.proofs.Trails.{trail_marks, trail_put}
 use Rattle.mb_run.proofs.Undue.{logs_undue, still_undue}
 
 -- ---- the hook let the call go on
@@ -120,7 +122,7 @@ module _ (calls : List JobCall) (test : Option (Crossing → Bool)) (old : Sight
           nears = record {
             same = refl;
             counts = may.counts;
-            acts = acts_stays runner.crossings.caller old new gains.stays gains.counts.history (inr (inr gains.floor)) (firsts_stays old new runner.crossings.caller gains.stays.seats gains.mine gains.counts.history gains.counts.begun);
+            acts = acts_stays runner.crossings.caller old new gains.stays gains.counts.history (inr (inr gains.floor)) (firsts_stays old new runner.crossings.caller gains.stays.seats gains.mine gains.counts.history gains.counts.begun) (trail_marks old.trail new.trail gains.log.trail);
             lined = line_same runner.crossings.caller old new gains.stays.config gains.counts gains.mine;
             balanced = balanced_same old new gains.counts;
             served = record {
@@ -184,7 +186,7 @@ module _ (calls : List JobCall) (test : Option (Crossing → Bool)) (old : Sight
           nears = record {
             same = refl;
             counts = may.counts;
-            acts = acts_stays runner.crossings.caller old new stale.stays stale.counts.history (elim stale.floor [ inl none ↦ inl none | inr mine ↦ inr (inl mine) ]) (firsts_stays old new runner.crossings.caller stale.stays.seats stale.mine stale.counts.history stale.counts.begun);
+            acts = acts_stays runner.crossings.caller old new stale.stays stale.counts.history (elim stale.floor [ inl none ↦ inl none | inr mine ↦ inr (inl mine) ]) (firsts_stays old new runner.crossings.caller stale.stays.seats stale.mine stale.counts.history stale.counts.begun) (trail_marks old.trail new.trail stale.log.trail);
             lined = line_same runner.crossings.caller old new stale.stays.config stale.counts stale.mine;
             balanced = balanced_same old new stale.counts;
             served = record {
@@ -225,7 +227,7 @@ module _ (calls : List JobCall) (test : Option (Crossing → Bool)) (old : Sight
           nears = record {
             same = refl;
             counts = may.counts;
-            acts = acts_entry runner.crossings.caller old new entry logs.stays refl logs.history (inl logs.floor) (firsts_logs old new runner.crossings.caller ticket may.within logs (counted_from logs.flight.ordinal runner.done here.1));
+            acts = acts_entry runner.crossings.caller old new entry logs.stays refl logs.history (inl logs.floor) (firsts_logs old new runner.crossings.caller ticket may.within logs (counted_from logs.flight.ordinal runner.done here.1)) (trail_put old.trail (step.Logged ticket ∷ []) new.trail logs.trail);
             balanced = balanced_logs runner.crossings.caller old new ticket logs;
             lined = λ line. rw logs.mine (line_logs runner.crossings.caller logs.flight old new entry logs.was lacks logs.stays.config logs.begun refl logs.history line);
             served = record {

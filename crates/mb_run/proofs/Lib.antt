@@ -5,6 +5,7 @@ pub mod Tallying
 pub mod TallySteps
 pub mod TallyRolls
 pub mod Firsts
+pub mod Trails
 pub mod Acting
 pub mod InTime
 pub mod Sealings
@@ -17,6 +18,7 @@ pub mod Entered
 pub mod Inside
 pub mod Finishing
 pub mod Rolling
+pub mod Calmly
 pub mod Lengthening
 pub mod Going
 pub mod Everybody
@@ -39,4 +41,5 @@ pub mod Beginning
 pub mod Ending
 pub mod Letters
 pub mod Starting
+pub mod Calm
 pub mod UnderWay

@@ -1,9 +1,10 @@
 -- What leaves all calls as they are.
-use Rattle.std.proofs.Common.{◌≡◌, List, [], ℕ, ◌+◌, ◌<◌, ◌≤◌, Bool, true, inl, inr, refl, ap, sym, subst, ◌∙◌, arith, Option, None, Some, length}
+use Rattle.std.proofs.Common.{◌≡◌, List, [], ◌∷◌, ℕ, ◌+◌, ◌<◌, ◌≤◌, Bool, true, inl, inr, refl, ap, sym, subst, ◌∙◌, arith, Option, None, Some, length}
 use Rattle.std.proofs.lemmas.List.{append-nil}
 use Rattle.std.proofs.lemmas.Option.{slice_get_within}
 use Rattle.mb_cache.specs.declared.answers.Flushed.{Flushed}
 use Rattle.mb_cache.specs.declared.answers.Flushed.TheVariants as flushed
+use Rattle.mb_core_spec.specs.declared.steps.Step.TheVariants as step
 use Rattle.mb_edge.specs.declared.crossings.Crossing.{Crossing}
 use Rattle.mb_edge.specs.declared.crossings.Crossings.{Crossings}
 use Rattle.mb_jobs.specs.declared.jobs.JobCall.{JobCall}
@@ -20,6 +21,7 @@ use Rattle.mb_run.proofs.Balance.{balanced_same}
 use Rattle.mb_run.proofs.Firsts.{firsts_still}
 use Rattle.mb_run.proofs.Moving.{grows_same}
 use Rattle.mb_run.proofs.Rolling.{not_running, other_served}
+use Rattle.mb_run.proofs.Trails.{trail_marks, trail_put, trail_same}
 
 pub quiet_acts : (caller : ℕ) (old new : Sight) → IsQuiet old new → Acts caller old new
 quiet_acts caller old new quiet = record {
@@ -39,6 +41,7 @@ quiet_acts caller old new quiet = record {
   calm = λ same. quiet.incarnation;
   floor = elim quiet.floor [ inl none ↦ inl none | inr same ↦ inr (inr same) ];
   firsts = firsts_still old new quiet.counts.history quiet.counts.begun quiet.seats;
+  trail = quiet.trail;
 }
 
 pub quiet_whole : (calls : List JobCall) (test : Option (Crossing → Bool)) (asked : ℕ) (old new : Sight) (runners : List Runner) → Underway calls test old runners → IsQuiet old new → undue_in new ≤ undue_in old + asked → IsOrderly new → IsWhole calls test asked old new runners runners
@@ -58,6 +61,7 @@ quiet_whole calls test asked old new runners underway quiet seals right = record
   balanced = balanced_same old new quiet.counts;
   config = quiet.config;
   firsts = firsts_still old new quiet.counts.history quiet.counts.begun quiet.seats;
+  later = record { entries = []; history = quiet.counts.history ∙ sym (append-nil old.history); trail = quiet.trail };
   seals = seals;
 }
 
@@ -69,6 +73,7 @@ quiet_same old new same = subst (IsQuiet old) (sym same) (record {
   seats = λ caller. refl;
   counts = record { history = refl; begun = refl; open_calls = refl };
   floor = inr refl;
+  trail = trail_same old.trail;
   runs = λ running. running;
   copies = λ running caller. refl;
   stales = λ running caller. refl;
@@ -82,6 +87,7 @@ quiet_sealed old new same = subst (IsQuiet old) (sym same) (record {
   seats = λ caller. refl;
   counts = record { history = refl; begun = refl; open_calls = refl };
   floor = inr refl;
+  trail = trail_put old.trail (step.Sealed (length old.history) ∷ []) (sealed old new).trail refl;
   runs = λ running. running;
   copies = λ running caller. refl;
   stales = λ running caller. refl;
@@ -95,6 +101,7 @@ quiet_flush old new flushed.One flushes = subst (IsQuiet old) (sym flushes.1) (r
   seats = λ caller. refl;
   counts = record { history = refl; begun = refl; open_calls = refl };
   floor = inr refl;
+  trail = trail_same old.trail;
   runs = λ running. running;
   copies = λ running caller. refl;
   stales = λ running caller. refl;
@@ -110,6 +117,7 @@ quiet_waits old new waits records recovered = record {
   seats = waits.seats;
   counts = waits.counts;
   floor = waits.floor;
+  trail = trail_marks old.trail new.trail waits.log.trail;
   runs = λ running. absurd (not_running old recovered running);
   copies = λ running caller. absurd (not_running old recovered running);
   stales = λ running caller. absurd (not_running old recovered running);

@@ -32,6 +32,7 @@ use Rattle.mb_run.proofs.Lines.{line_same}
 use Rattle.mb_run.proofs.Firsts.{firsts_still}
 use Rattle.mb_run.proofs.Lists.{all_map, all_both}
 use Rattle.mb_run.proofs.Struck.{one_most, rank_old}
+use Rattle.mb_run.proofs.Trails.{trail_marks}
 use Rattle.mb_run.proofs.Undue.{waits_undue}
 
 pub not_running : (s : Sight) → recovers s.stage ≡ true → s.stage ≡ stage.Running → ⊥
@@ -55,6 +56,7 @@ acts_waits caller old new more waits recovered records mine = record {
   calm = λ same. waits.incarnation;
   floor = elim waits.floor [ inl none ↦ inl none | inr same ↦ inr (inr same) ];
   firsts = firsts_still old new waits.counts.history waits.counts.begun waits.seats;
+  trail = trail_marks old.trail new.trail waits.log.trail;
 }
 
 -- a call that is outside, or has an older ticket, stands as before

@@ -151,17 +151,17 @@ lettered_at [] place letter here = absurd (never_letter letter (sym (slice_get_p
 lettered_at (first ∷ callers) zero letter here = (first, refl, same_Some first.letter letter here)
 lettered_at (first ∷ callers) (suc place) letter here = lettered_at callers place letter here
 
-letter_here : (callers : List Caller) (place : ℕ) (caller : Caller) → slice_get callers place ≡ Some caller → letter_of (letters_of callers) place ≡ Some caller.letter
+pub letter_here : (callers : List Caller) (place : ℕ) (caller : Caller) → slice_get callers place ≡ Some caller → letter_of (letters_of callers) place ≡ Some caller.letter
 letter_here [] place caller here = absurd (never_caller caller (sym (slice_get_past [] place (omega arith)) ∙ here))
 letter_here (first ∷ callers) zero caller here = ap (λ (c : Caller). Some c.letter) (same_Some first caller here)
 letter_here (first ∷ callers) (suc place) caller here = letter_here callers place caller here
 
-all_at : (P : ℕ → Type 0) (xs : List ℕ) (place x : ℕ) → AllByRecursion P xs → slice_get xs place ≡ Some x → P x
+pub all_at : (P : ℕ → Type 0) (xs : List ℕ) (place x : ℕ) → AllByRecursion P xs → slice_get xs place ≡ Some x → P x
 all_at P [] place x all here = absurd (never_letter x (sym (slice_get_past [] place (omega arith)) ∙ here))
 all_at P (first ∷ xs) zero x all here = subst P (same_Some first x here) all.0
 all_at P (first ∷ xs) (suc place) x all here = all_at P xs place x all.1 here
 
-one_place : (xs : List ℕ) (place other x : ℕ) → AreApart xs → slice_get xs place ≡ Some x → slice_get xs other ≡ Some x → place ≡ other
+pub one_place : (xs : List ℕ) (place other x : ℕ) → AreApart xs → slice_get xs place ≡ Some x → slice_get xs other ≡ Some x → place ≡ other
 one_place [] place other x apart here there = absurd (never_letter x (sym (slice_get_past [] place (omega arith)) ∙ here))
 one_place (first ∷ xs) zero zero x apart here there = refl
 one_place (first ∷ xs) zero (suc other) x apart here there = absurd (all_at (λ (y : ℕ). first ≢ y) xs other x apart.0 there (same_Some first x here))
@@ -172,14 +172,14 @@ no_both : true ≡ false → ⊥
 no_both same = cc
 
 -- a small letter, as it stands or as its capital
-letter_or : (letter character : ℕ) → is_letter_of letter character ≡ true → (character ≡ letter) ⊎ (character + 32 ≡ letter)
+pub letter_or : (letter character : ℕ) → is_letter_of letter character ≡ true → (character ≡ letter) ⊎ (character + 32 ≡ letter)
 letter_or letter character is = by_first (nat_eq character letter) (nat_eq (character + 32) letter) refl refl is where
   by_first : (one other : Bool) → nat_eq character letter ≡ one → nat_eq (character + 32) letter ≡ other → (one || other) ≡ true → (character ≡ letter) ⊎ (character + 32 ≡ letter)
   by_first true other same there is = inl (eqb-true character letter same)
   by_first false true apart same is = inr (eqb-true (character + 32) letter same)
   by_first false false apart there is = absurd (no_both (sym is))
 
-letter_yes : (letter character : ℕ) → (character ≡ letter) ⊎ (character + 32 ≡ letter) → is_letter_of letter character ≡ true
+pub letter_yes : (letter character : ℕ) → (character ≡ letter) ⊎ (character + 32 ≡ letter) → is_letter_of letter character ≡ true
 letter_yes letter character is = elim is [
   | inl same ↦ rw (eq-eqb character letter same) refl
   | inr capital ↦ by_first (nat_eq character letter) capital
@@ -188,13 +188,13 @@ letter_yes letter character is = elim is [
   by_first true capital = refl
   by_first false capital = eq-eqb (character + 32) letter capital
 
-lower_is : (letter character : ℕ) → 97 ≤ letter → letter ≤ 122 → is_letter_of letter character ≡ true → to_ascii_lowercase character ≡ letter
+pub lower_is : (letter character : ℕ) → 97 ≤ letter → letter ≤ 122 → is_letter_of letter character ≡ true → to_ascii_lowercase character ≡ letter
 lower_is letter character low high is = elim (letter_or letter character is) [
   | inl same ↦ (let here : 91 ≤ character = omega arith in grind (arith, nat_tests, same, here))
   | inr capital ↦ grind (arith, nat_tests, capital)
 ]
 
-lower_from : (letter character : ℕ) → 97 ≤ letter → letter ≤ 122 → to_ascii_lowercase character ≡ letter → (character ≡ letter) ⊎ (character + 32 ≡ letter)
+pub lower_from : (letter character : ℕ) → 97 ≤ letter → letter ≤ 122 → to_ascii_lowercase character ≡ letter → (character ≡ letter) ⊎ (character + 32 ≡ letter)
 lower_from letter character low high is = grind (arith, nat_tests, is)
 
 -- a blank, `*`, `=` and `>` are no letters

@@ -19,7 +19,7 @@ use Rattle.mb_run.proofs.Everybody.{got, may_of, put_underway, some_call}
 use Rattle.mb_run.proofs.GivingUp.{waits_by}
 use Rattle.mb_run.proofs.Rolling.{not_running}
 
-same_gets : (runners : List Runner) (caller : ℕ) (x d : Runner) → caller < length runners → get_or runners caller x ≡ get_or runners caller d
+pub same_gets : (runners : List Runner) (caller : ℕ) (x d : Runner) → caller < length runners → get_or runners caller x ≡ get_or runners caller d
 same_gets runners caller x d low = same_Some (get_or runners caller x) (get_or runners caller d) (sym (got runners caller x low) ∙ got runners caller d low)
 
 pub letter_may : (calls : List JobCall) (test : Option (Crossing → Bool)) (sight : Sight) (runners : List Runner) (caller : ℕ) (x d : Runner) (call : Call) → Underway calls test sight runners → caller < length runners

@@ -8,9 +8,10 @@ use Rattle.mb_jobs.specs.declared.jobs.Caller.{Caller}
 use Rattle.mb_jobs.specs.declared.jobs.Job.{Job}
 use Rattle.mb_jobs.specs.declared.jobs.JobCall.{JobCall}
 use Rattle.mb_kinds.specs.declared.entries.Entry.{Entry}
+use Rattle.mb_run.specs.Calm.{AreAllPlain, HoldsNowhere}
 use Rattle.mb_run.specs.Letters.{AreLetters, letters_of}
 use Rattle.mb_run.specs.Orders.{asked_by}
-use Rattle.mb_run.specs.Runs.{FirstsRise, HasTakenTested}
+use Rattle.mb_run.specs.Runs.{EntersFirst, FirstsRise, HasTakenTested}
 use Rattle.mb_run.specs.Served.{AreSound, AreSoundBy, IsListed, calls_in, calls_of, moments_in}
 use Rattle.mb_run.specs.Sights.{AreApart, IsOrderly, Sight, undue_in}
 use Rattle.mb_core_spec.specs.Copies.{no_pages}
@@ -61,6 +62,16 @@ abbrev pub RisesByOrder : Option (List ℕ) → List Caller → List Entry → T
 RisesByOrder None callers history = Unit {0}
 RisesByOrder (Some order) callers history = AreLetters (letters_of callers) → FirstsRise order (letters_of callers) history
 
+-- where no fault comes and no call is given up, the trace begins, but for its checkpoints, with the entering of the callers whose
+-- letters stand at the beginning of an order, as far as that tells it (`calm_prefix`)
+abbrev pub EntersCalmly : List ℕ → List Caller → List JobCall → Option (Crossing → Bool) → Sight → Type 0
+EntersCalmly order callers calls test sight =
+    HoldsNowhere test → AreLetters (letters_of callers) → AreAllPlain sight.history → EntersFirst calls (letters_of callers) order sight.trail
+
+abbrev pub EntersByOrder : Option (List ℕ) → List Caller → List JobCall → Option (Crossing → Bool) → Sight → Type 0
+EntersByOrder None callers calls test sight = Unit {0}
+EntersByOrder (Some order) callers calls test sight = EntersCalmly order callers calls test sight
+
 -- in list order the faults that the test has at the first crossings are taken
 abbrev pub TakesByOrder : Option (List ℕ) → Option (Crossing → Bool) → Sight → Type 0
 TakesByOrder None test sight = HasTakenTested test sight.history sight.records
@@ -75,6 +86,7 @@ pub record IsDriven (job : Job) (test : Option (Crossing → Bool)) (old new : S
   pub moments : HasEachMoment job.start new.history
   pub lined : IsLinedUp job.order job.calls job.start new.history
   pub firsts : RisesByOrder job.order job.callers new.history
+  pub enters : old.stage ≡ stage.Running → old.trail ≡ [] → EntersByOrder job.order job.callers job.calls test new
   pub sound : AreSound test new.records
   pub taken : old.stage ≡ stage.Running → TakesByOrder job.order test new
   -- of the checkpoints no more were taken where none was due than the order asks for

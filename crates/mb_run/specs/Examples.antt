@@ -54,11 +54,14 @@ WorkedOrders =
     × (calm_prefix letters capitals ≡ capitals) × (begun_from both letters [] capitals ≡ 0 ∷ 1 ∷ [])
     × (calm_prefix letters floored ≡ 65 ∷ 32 ∷ 66 ∷ [])
 
--- traces that begin so
+-- traces that begin so; under `bbaa` it is no such trace where a entered first, nor under `AB` where a call was logged before b
+-- entered
 abbrev pub WorkedEntering : Type 0
 WorkedEntering =
     EntersFirst both letters bbaa (step.Entered (ticket 1 1) ∷ step.Entered (ticket 0 2) ∷ step.Struck 1 ∷ [])
     × EntersFirst both letters capitals (step.Entered (ticket 0 1) ∷ step.Sealed 0 ∷ step.Entered (ticket 1 2) ∷ step.Logged (ticket 0 1) ∷ [])
+    × (EntersFirst both letters bbaa (step.Entered (ticket 0 1) ∷ step.Entered (ticket 1 2) ∷ []) → ⊥)
+    × (EntersFirst both letters capitals (step.Entered (ticket 0 1) ∷ step.Logged (ticket 0 1) ∷ step.Entered (ticket 1 2) ∷ []) → ⊥)
 
 -- a call whose gather is struck at its first and its second crossing
 abbrev pub struck : List FaultRecord

@@ -14,5 +14,6 @@ pub mod Settling
 pub mod Runs
 pub mod Tallies
 pub mod Letters
+pub mod Calm
 pub mod Drives
 pub mod Examples

@@ -1,14 +1,18 @@
 -- What the steps of an order make of the callers of a job.
-use Rattle.std.specs.Prelude.{ℕ, ◌+◌, ◌<◌, ◌≤◌, ◌≡◌, ◌≢◌, ◌⊎◌, List, Bool, true, false, Option, Some, None, count_by, length, nat_eq, slice_get, slice_index, take}
+use Rattle.std.specs.Prelude.{ℕ, ◌+◌, ◌<◌, ◌≤◌, ◌≡◌, ◌≢◌, ◌⊎◌, List, ◌++◌, Bool, true, false, Option, Some, None, count_by, length, nat_eq, slice_get, slice_index, take}
 use Rattle.mb_edge.specs.declared.crossings.Crossing.{Crossing}
 use Rattle.mb_core_spec.specs.declared.stages.Stage.TheVariants as stage
 use Rattle.mb_jobs.specs.declared.jobs.Caller.{Caller}
 use Rattle.mb_jobs.specs.declared.jobs.JobCall.{JobCall}
+use Rattle.mb_kinds.specs.declared.entries.Entry.{Entry}
 use Rattle.mb_run.specs.Events.{Counts, sealed}
 use Rattle.mb_run.specs.Firsts.{KeepsFirsts}
-use Rattle.mb_run.specs.Pages.{HasTablesFor}
+use Rattle.mb_run.specs.Pages.{HasTablesFor, has}
+use Rattle.mb_run.specs.Seals.{Continues}
 use Rattle.mb_run.specs.Served.{IsBalanced, Nears, Underway, calls_of}
 use Rattle.mb_run.specs.Sights.{Sight, undue_in}
+use Rattle.mb_run.specs.declared.progress.Early.{Early}
+use Rattle.mb_run.specs.declared.progress.Early.TheVariants as early
 use Rattle.mb_run.specs.declared.progress.Next.{Next}
 use Rattle.mb_run.specs.declared.progress.Next.TheVariants as next
 use Rattle.mb_run.specs.declared.runner.At.{At}
@@ -25,11 +29,17 @@ MayLookAt sight runner _ = Unit {0}
 abbrev pub MayLook : Sight → Runner → Type 0
 MayLook sight runner = MayLookAt sight runner runner.at
 
--- want of memory is met by a call inside alone, and a call that is outside enters next
+-- a call that is outside enters, and one that is inside may gather what it lacks
+abbrev pub IsEarlyAt : Runner → Early → Type 0
+IsEarlyAt runner early.Enter = runner.at ≡ at.Outside
+IsEarlyAt runner (early.Gather ticket need) =
+    (runner.at ≡ at.Inside ticket) × (has runner.pages need.first ≡ false) × (need.first < 262144) × (1 ≤ need.count) × (need.count ≤ 32)
+
+-- what a call does next; want of memory is met by a call inside alone, and a call that is outside enters next
 abbrev pub Ahead : Runner → Next → Type 0
+Ahead runner (next.Early early) = IsEarlyAt runner early
 Ahead runner next.NoMemory = runner.answered ≡ false
 Ahead runner next.Late = runner.at ≢ at.Outside
-Ahead runner _ = Unit {0}
 
 -- steps of a caller's call, with which it was answered, or not
 pub record Moves (calls : List JobCall) (test : Option (Crossing → Bool)) (old new : Sight) (before now : Runner) : Type 0 where
@@ -66,6 +76,12 @@ abbrev pub asked_by : Option (List ℕ) → ℕ
 asked_by None = 0
 asked_by (Some order) = asked_in order
 
+-- history and trace only grew
+pub record Lengthens (old new : Sight) : Type 0 where
+  pub entries : List Entry
+  pub history : new.history ≡ old.history ++ entries
+  pub trail : Continues old.trail new.trail
+
 -- a job is still under way, later on; so many checkpoints were asked for
 pub record IsWhole (calls : List JobCall) (test : Option (Crossing → Bool)) (asked : ℕ) (old new : Sight) (before now : List Runner) : Type 0 where
   pub underway : Underway calls test new now
@@ -73,6 +89,7 @@ pub record IsWhole (calls : List JobCall) (test : Option (Crossing → Bool)) (a
   pub balanced : IsBalanced old → IsBalanced new
   pub config : new.config ≡ old.config
   pub firsts : KeepsFirsts old new
+  pub later : Lengthens old new
   -- no more were taken where none was due
   pub seals : undue_in new ≤ undue_in old + asked
 
@@ -84,6 +101,7 @@ pub record IsQuiet (old new : Sight) : Type 0 where
   pub seats : (caller : ℕ) → new.seats caller ≡ old.seats caller
   pub counts : Counts old new
   pub floor : (new.floor ≡ None) ⊎ (new.floor ≡ old.floor)
+  pub trail : Continues old.trail new.trail
   pub runs : old.stage ≡ stage.Running → new.stage ≡ stage.Running
   pub copies : old.stage ≡ stage.Running → (caller : ℕ) → new.copies caller ≡ old.copies caller
   pub stales : old.stage ≡ stage.Running → (caller : ℕ) → new.stales caller ≡ old.stales caller

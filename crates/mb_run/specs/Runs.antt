@@ -214,6 +214,9 @@ abbrev pub is_seal : Step → Bool
 is_seal (step.Sealed n) = true
 is_seal _ = false
 
+abbrev pub without_seals : List Step → List Step
+without_seals trail = filter (λ (one : Step). not (is_seal one)) trail
+
 -- the trace without its checkpoints begins with these callers' entering, each with its first call
 abbrev pub BeginsWith : List ℕ → List Step → Type 0
 BeginsWith [] trail = Unit {0}
@@ -221,4 +224,4 @@ BeginsWith (caller ∷ callers) (step.Entered ticket ∷ trail) = (ticket.caller
 BeginsWith (caller ∷ callers) _ = ⊥
 
 abbrev pub EntersFirst : List JobCall → List ℕ → List ℕ → List Step → Type 0
-EntersFirst calls letters order trail = BeginsWith (begun_from calls letters [] (calm_prefix letters order)) (filter (λ s. not (is_seal s)) trail)
+EntersFirst calls letters order trail = BeginsWith (begun_from calls letters [] (calm_prefix letters order)) (without_seals trail)

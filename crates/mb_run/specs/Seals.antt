@@ -48,6 +48,11 @@ pub record Marks (before now : List Step) : Type 0 where
   pub whole : now ≡ before ++ steps
   pub others : AllByRecursion (λ (one : Step). is_other one ≡ true) steps
 
+-- the trace goes on
+pub record Continues (before now : List Step) : Type 0 where
+  pub steps : List Step
+  pub whole : now ≡ before ++ steps
+
 -- the call with that ticket was sync(2), as its entry tells
 abbrev pub is_sync_of : List Entry → Ticket → Bool
 is_sync_of history ticket = list_any (λ (entry : Entry). (nat_eq entry.caller ticket.caller && nat_eq entry.ordinal ticket.ordinal) && is_sync entry.call) history

@@ -18,6 +18,7 @@ use Rattle.mb_run.specs.Recovering.{crossing_of, next_of}
 use Rattle.mb_run.specs.Sights.{Sight, Seat, HasTicket, IsOld, IsOrderly, IsWaiting, one_if, recovers, undue_in}
 use Rattle.mb_run.specs.Events.{Strikes}
 use Rattle.mb_run.specs.Firsts.{KeepsFirsts}
+use Rattle.mb_run.specs.Seals.{Continues}
 use Rattle.mb_jobs.specs.declared.jobs.JobCall.{JobCall}
 use Rattle.mb_run.specs.declared.runner.At.{At}
 use Rattle.mb_run.specs.declared.runner.At.TheVariants as at
@@ -138,6 +139,7 @@ pub record Acts (caller : ℕ) (old new : Sight) : Type 0 where
   pub calm : length new.records ≡ length old.records → new.incarnation ≡ old.incarnation
   pub floor : (new.floor ≡ None) ⊎ (new.floor ≡ Some caller) ⊎ (new.floor ≡ old.floor)
   pub firsts : KeepsFirsts old new
+  pub trail : Continues old.trail new.trail
 
 -- ---- how much is left of a call
 

@@ -1,17 +1,18 @@
 -- What the end of a run leaves.
 use Rattle.std.specs.Prelude.{ℕ, ◌<◌, ◌≡◌, false, length, Option, None, Some}
-use Rattle.mb_run.specs.Seals.{AreAskedFor}
+use Rattle.mb_run.specs.Seals.{AreAskedFor, Continues}
 use Rattle.mb_core_spec.specs.declared.stages.Stage.TheVariants as stage
 use Rattle.mb_run.specs.Sights.{Sight, recovers, undue_in}
 use Rattle.mb_run.specs.declared.settles.SettleEnd.{SettleEnd}
 use Rattle.mb_run.specs.declared.settles.SettleEnd.TheVariants as end
 
--- history and fault records stay, and so does what each caller began and has in flight
+-- history and fault records stay, and so does what each caller began and has in flight; the trace goes on
 pub record Keeps (old new : Sight) : Type 0 where
   pub history : new.history ≡ old.history
   pub records : new.records ≡ old.records
   pub config : new.config ≡ old.config
   pub seats : (caller : ℕ) → new.seats caller ≡ old.seats caller
+  pub trail : Continues old.trail new.trail
 
 -- one step of a recovery that nobody's call runs: the end, or fewer steps are left
 abbrev pub Calms : Sight → Sight → Option SettleEnd → Type 0

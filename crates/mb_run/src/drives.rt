@@ -1,7 +1,8 @@
 ghost use Rattle.std.specs.Prelude.{[], ◌+◌, ◌≡◌, ◌≢◌, ◌<◌, ◌≤◌, true, length};
 ghost use Rattle.std.specs.List.{AllByRecursion};
 ghost use Rattle.mb_jobs.specs.declared.jobs.JobCall.{JobCall};
-ghost use Rattle.mb_run.specs.Drives.{AreNew, Ends, IsBegun, IsComplete, IsDriven, IsRunnable};
+ghost use Rattle.mb_run.specs.Calm.{IsCalm};
+ghost use Rattle.mb_run.specs.Drives.{AreNew, Ends, EntersCalmly, IsBegun, IsComplete, IsDriven, IsRunnable};
 ghost use Rattle.mb_run.specs.Indexes.{IsIndexOf};
 ghost use Rattle.mb_run.specs.Letters.{AreLetters, HasBegunBy, letters_of};
 ghost use Rattle.mb_run.specs.Orders.{AreRunOut, IsReached, IsWhole, asked_in};
@@ -115,6 +116,7 @@ fn run_by_order<C: EventCore, H: Hook>(
     requires balanced { IsBalanced (C.sight core.old) }
     ensures complete { result ≡ true → IsComplete calls.now (length runners.old) (H.test hook.old) (C.sight core.new) }
     ensures firsts { result ≡ true → AreLetters (letters_of callers.now) → HasBegunBy (letters_of callers.now) calls.now [] (C.sight core.old) → FirstsRise order.now (letters_of callers.now) (C.sight core.new).history }
+    ensures enters { result ≡ true → IsCalm (letters_of callers.now) calls.now [] (C.sight core.old) runners.old → EntersCalmly order.now callers.now calls.now (H.test hook.old) (C.sight core.new) }
     ensures config { result ≡ true → (C.sight core.new).config ≡ (C.sight core.old).config }
     ensures seals { result ≡ true → undue_in (C.sight core.new) ≤ undue_in (C.sight core.old) + asked_in order.now }
     ensures origin { C.origin core.new ≡ C.origin core.old }
@@ -202,8 +204,9 @@ fn drive_core<C: EventCore, H: Hook>(
 /// At every end but `NoMemory` each caller's own entries are its calls of the job, in its order; the moments of `n`
 /// entries are `start + 1` to `start + n`, each once, and in list order one after another; by an order, the moments of
 /// the callers' first calls rise as their letters first stand in it, and those of callers without a letter in it come
-/// last; and each fault record is at a crossing where the fault injector faults, no two at one whose `nth` is below
-/// 4294967295. In list order, over a core that runs at the beginning, a call with a plain reply has a record of each of its
+/// last; where the injector faults nowhere and no call was given up, the event trace begins, but for its checkpoints, as the
+/// order tells it, with the callers' first calls that enter; and each fault record is at a crossing where the fault injector
+/// faults, no two at one whose `nth` is below 4294967295. In list order, over a core that runs at the beginning, a call with a plain reply has a record of each of its
 /// first crossings at Enter, Gather, Finish and Leave where the injector's test holds, and, where it was struck inside, at
 /// Remount; and a record of Enter, Finish or Remount has an `nth` of at most one more than the records before it.
 pub fn drive<C: EventCore, H: Hook>(alloc: Global, core: C, job: &Job, hook: &mut H) -> Driven<C>

@@ -1,20 +1,24 @@
-ghost use Rattle.std.specs.Prelude.{[], ◌∷◌, ◌≡◌, ◌≢◌, ◌<◌, ◌≤◌, IfSome, None, Some, true, length};
+ghost use Rattle.std.specs.Prelude.{[], ◌∷◌, ◌≡◌, ◌≢◌, ◌<◌, ◌≤◌, IfSome, None, Some, true, false, length};
+ghost use Rattle.mb_run.specs.Calm.{AreAllPlain, HoldsNowhere, IsCalm, IsStill, KeepsCalm, StepsCalmly, TurnsCalmly};
 ghost use Rattle.mb_run.specs.Indexes.{IsIndexOf};
 ghost use Rattle.mb_run.specs.Letters.{AreLetters, BeginsAlone, BeginsByLetter, HasBegun, HasBegunBy, LacksLetter, letters_of};
-ghost use Rattle.mb_run.specs.Orders.{asked_in, Ahead, HasLetter, IsOpenAt, IsQuiet, IsSealedNow, IsWhole, MayLook, Moved};
-ghost use Rattle.mb_run.specs.Served.{MayStep, Underway};
+ghost use Rattle.mb_run.specs.Orders.{asked_in, Ahead, HasLetter, IsEarlyAt, IsOpenAt, IsQuiet, IsSealedNow, IsWhole, MayLook, Moved};
+ghost use Rattle.mb_run.specs.Runs.{EntersFirst};
+ghost use Rattle.mb_run.specs.Served.{Did, MayStep, Underway};
 ghost use Rattle.mb_run.specs.Sights.{IsOrderly, recovers, undue_in};
+ghost use Rattle.mb_run.specs.declared.progress.Went.TheVariants as went;
 
 use crate::answers::Stepped;
 use crate::call_index::{CallIndex, find_call};
 use crate::event_core::EventCore;
-use crate::progress::{Next, Went};
+use crate::progress::{Early, Next, Went};
 use crate::runner::{At, Runner};
 use crate::runs::{give_up, roll};
-use crate::steps::{has_tables, step};
+use crate::steps::{enter, gather, has_tables, step};
 use mb_calls::Performed;
 use mb_core_spec::Stage;
 use mb_edge::Hook;
+use mb_iface::Need;
 use mb_jobs::{Caller, JobCall};
 use mb_kinds::Call;
 use std::alloc::Global;
@@ -25,17 +29,17 @@ fn look<C: EventCore>(alloc: Global, core: &C, runner: &Runner, call: &Call) -> 
     ensures { Ahead runner.now result }
 {
     match runner.at {
-        At::Outside => Next::Early,
+        At::Outside => Next::Early(Early::Enter),
         At::Logged(_) => Next::Late,
         At::Inside(ticket) => {
             if !has_tables(&runner.pages) {
-                return Next::Early;
+                return Next::Early(Early::Gather(ticket, Need::tables()));
             }
             let mut way = None;
             match core.perform(alloc, &runner.pages, &ticket, call, &mut way) {
-                Performed::Need(_) => Next::Early,
-                Performed::Ready(_) => Next::Late,
-                Performed::NoMemory => Next::NoMemory,
+                Performed::Need(need) => return Next::Early(Early::Gather(ticket, need)),
+                Performed::Ready(_) => return Next::Late,
+                Performed::NoMemory => return Next::NoMemory,
             }
         }
     }
@@ -53,6 +57,7 @@ fn step_once<C: EventCore, H: Hook>(
     requires { MayStep calls.now (H.test hook.old) (C.sight core.old) runner.old call.now }
     ensures moved { Moved calls.now (H.test hook.old) (C.sight core.old) (C.sight core.new) runner.old runner.new result }
     ensures begins { result ≡ true → ((C.sight core.new).seats runner.old.crossings.caller).begun ≢ 0 }
+    ensures calm { result ≡ true → StepsCalmly false (H.test hook.old) (C.sight core.old) (C.sight core.new) runner.old runner.new }
     ensures test { H.test hook.new ≡ H.test hook.old }
     ensures origin { C.origin core.new ≡ C.origin core.old }
     ensures right { IsOrderly (C.sight core.new) }
@@ -71,9 +76,36 @@ fn step_once<C: EventCore, H: Hook>(
     }
 }
 
-/// Steps of a caller, whose next call is that one, as long as its next fault point is that of entering or gathering. They
-/// end too after a step with which the call was answered, struck, turned away with an old ticket, or met a recovery. False
-/// is want of memory; the call then has no entry.
+/// The step at a fault point of entering or gathering, as `look` found it.
+fn step_early<C: EventCore, H: Hook>(
+    alloc: Global,
+    core: &mut C,
+    hook: &mut H,
+    runner: &mut Runner,
+    calls: &[JobCall],
+    call: &Call,
+    early: Early,
+) -> Went
+    requires may { MayStep calls.now (H.test hook.old) (C.sight core.old) runner.old call.now }
+    requires ahead { IsEarlyAt runner.old early }
+    ensures did { Did calls.now (H.test hook.old) (C.sight core.old) (C.sight core.new) runner.old runner.new result }
+    ensures begins { result ≢ went.NoMemory → ((C.sight core.new).seats runner.old.crossings.caller).begun ≢ 0 }
+    ensures calm { result ≢ went.NoMemory → StepsCalmly true (H.test hook.old) (C.sight core.old) (C.sight core.new) runner.old runner.new }
+    ensures test { H.test hook.new ≡ H.test hook.old }
+    ensures origin { C.origin core.new ≡ C.origin core.old }
+    ensures right { IsOrderly (C.sight core.new) }
+{
+    match early {
+        Early::Enter => enter(alloc, core, hook, runner, calls, call),
+        Early::Gather(ticket, need) => {
+            gather(alloc, core, hook, runner, calls, call, &ticket, need)
+        }
+    }
+}
+
+/// Steps of a caller, whose next call is that one, as long as its next fault point is that of entering or gathering: it
+/// enters and gathers, and never finishes. They end too after a step with which the call was answered, struck, turned away
+/// with an old ticket, or met a recovery. False is want of memory; the call then has no entry.
 fn step_to_finish<C: EventCore, H: Hook>(
     alloc: Global,
     core: &mut C,
@@ -85,21 +117,21 @@ fn step_to_finish<C: EventCore, H: Hook>(
     requires { MayStep calls.now (H.test hook.old) (C.sight core.old) runner.old call.now }
     ensures moved { Moved calls.now (H.test hook.old) (C.sight core.old) (C.sight core.new) runner.old runner.new result }
     ensures begins { result ≡ true → ((C.sight core.new).seats runner.old.crossings.caller).begun ≢ 0 }
+    ensures calm { result ≡ true → StepsCalmly true (H.test hook.old) (C.sight core.old) (C.sight core.new) runner.old runner.new }
     ensures test { H.test hook.new ≡ H.test hook.old }
     ensures origin { C.origin core.new ≡ C.origin core.old }
     ensures right { IsOrderly (C.sight core.new) }
 {
     'steps: loop {
-        match look(alloc, core, runner, call) {
-            Next::Early => {}
+        let early = match look(alloc, core, runner, call) {
+            Next::Early(early) => early,
             Next::Late => return true,
             Next::NoMemory => {
                 give_up(core, runner);
                 return false;
             }
-        }
-        let mut way = None;
-        match step(alloc, core, hook, runner, calls, call, &mut way) {
+        };
+        match step_early(alloc, core, hook, runner, calls, call, early) {
             Went::On => {}
             Went::Ended => return true,
             Went::Back => return true,
@@ -130,6 +162,7 @@ fn step_letter<C: EventCore, H: Hook>(
     ensures whole { result ≡ true → IsWhole calls.now (H.test hook.old) 0 (C.sight core.old) (C.sight core.new) runners.old runners.new }
     ensures begins { result ≡ true → HasBegun calls.now caller (C.sight core.new) }
     ensures alone { result ≡ true → BeginsAlone (Some caller) (C.sight core.old) (C.sight core.new) }
+    ensures calm { result ≡ true → TurnsCalmly calls.now (H.test hook.old) capital caller (C.sight core.old) (C.sight core.new) runners.old runners.new }
     ensures length { length runners.new ≡ length runners.old }
     ensures test { H.test hook.new ≡ H.test hook.old }
     ensures origin { C.origin core.new ≡ C.origin core.old }
@@ -217,6 +250,7 @@ fn recover_once<C: EventCore, H: Hook>(
     requires underway { Underway calls.now (H.test hook.old) (C.sight core.old) runners.old }
     ensures whole { result ≡ true → IsWhole calls.now (H.test hook.old) 0 (C.sight core.old) (C.sight core.new) runners.old runners.new }
     ensures alone { result ≡ true → BeginsAlone None (C.sight core.old) (C.sight core.new) }
+    ensures idle { recovers (C.sight core.old).stage ≡ false → (C.sight core.new ≡ C.sight core.old) × (runners.new ≡ runners.old) }
     ensures length { length runners.new ≡ length runners.old }
     ensures test { H.test hook.new ≡ H.test hook.old }
     ensures origin { C.origin core.new ≡ C.origin core.old }
@@ -271,6 +305,7 @@ fn flush<C: EventCore>(core: &mut C)
     requires right { IsOrderly (C.sight core.old) }
     ensures quiet { IsQuiet (C.sight core.old) (C.sight core.new) }
     ensures seals { undue_in (C.sight core.new) ≤ undue_in (C.sight core.old) }
+    ensures still { IsStill (C.sight core.old) (C.sight core.new) }
     ensures origin { C.origin core.new ≡ C.origin core.old }
     ensures right { IsOrderly (C.sight core.new) }
 {
@@ -309,6 +344,7 @@ fn step_character<C: EventCore, H: Hook>(
     requires callers { length callers.now ≡ length runners.old }
     ensures whole { result ≡ true → IsWhole calls.now (H.test hook.old) (asked_in (character ∷ [])) (C.sight core.old) (C.sight core.new) runners.old runners.new }
     ensures letters { result ≡ true → AreLetters (letters_of callers.now) → BeginsByLetter (letters_of callers.now) calls.now character (C.sight core.old) (C.sight core.new) }
+    ensures calm { result ≡ true → HoldsNowhere (H.test hook.old) → AreLetters (letters_of callers.now) → KeepsCalm (letters_of callers.now) calls.now character (C.sight core.old) (C.sight core.new) runners.old runners.new }
     ensures length { length runners.new ≡ length runners.old }
     ensures test { H.test hook.new ≡ H.test hook.old }
     ensures origin { C.origin core.new ≡ C.origin core.old }
@@ -351,6 +387,7 @@ pub fn run_order<C: EventCore, H: Hook>(
     requires callers { length callers.now ≡ length runners.old }
     ensures whole { result ≡ true → IsWhole calls.now (H.test hook.old) (asked_in order.now) (C.sight core.old) (C.sight core.new) runners.old runners.new }
     ensures firsts { result ≡ true → AreLetters (letters_of callers.now) → HasBegunBy (letters_of callers.now) calls.now [] (C.sight core.old) → HasBegunBy (letters_of callers.now) calls.now order.now (C.sight core.new) }
+    ensures enters { result ≡ true → HoldsNowhere (H.test hook.old) → AreLetters (letters_of callers.now) → IsCalm (letters_of callers.now) calls.now [] (C.sight core.old) runners.old → AreAllPlain (C.sight core.new).history → EntersFirst calls.now (letters_of callers.now) order.now (C.sight core.new).trail }
     ensures length { length runners.new ≡ length runners.old }
     ensures test { H.test hook.new ≡ H.test hook.old }
     ensures origin { C.origin core.new ≡ C.origin core.old }

@@ -1,3 +1,4 @@
+use mb_iface::Need;
 use mb_kinds::Ticket;
 
 /// What one step of a caller came to.
@@ -17,11 +18,20 @@ pub enum Went {
     NoMemory,
 }
 
+/// A fault point of entering or gathering, and what the call does there.
+#[derive(Clone, Copy, Debug, PartialEq, Drop)]
+pub enum Early {
+    /// It enters.
+    Enter,
+    /// It gathers these blocks, with this ticket.
+    Gather(Ticket, Need),
+}
+
 /// What the next fault point of a caller's call is.
-#[derive(Clone, Copy, Debug, PartialEq, Eq, Drop)]
+#[derive(Clone, Copy, Debug, PartialEq, Drop)]
 pub enum Next {
     /// That of entering or gathering, or none, where its reply is at hand.
-    Early,
+    Early(Early),
     /// That of finishing or leaving.
     Late,
     /// There was no memory to tell.

@@ -1,6 +1,7 @@
 ghost use Rattle.std.specs.Prelude.{◌≡◌, ◌≢◌, ◌<◌, ◌≤◌, ◌⊎◌, None, Some, IfSome, true, false};
 ghost use Rattle.mb_calls.specs.declared.performing.Performed.TheVariants as performed;
 ghost use Rattle.mb_core_spec.specs.declared.stages.Stage.TheVariants as stage;
+ghost use Rattle.mb_run.specs.Calm.{HoldsNowhere, PassesBy, StepsCalmly};
 ghost use Rattle.mb_run.specs.Pages.{GrowsBy, IsUnderWay, LacksAll, Performs, has};
 ghost use Rattle.mb_run.specs.Served.{Asks, Did, GoesIn, MayStep};
 ghost use Rattle.mb_run.specs.Sights.{IsOrderly, IsTicketOf};
@@ -61,6 +62,7 @@ fn go_in<C: EventCore, H: Hook>(
     requires inside { runner.old.at ≡ at.Inside ticket.now }
     ensures did { GoesIn calls.now (H.test hook.old) (C.sight core.old) (C.sight core.new) runner.old runner.new result }
     ensures tallied { IsEntering (H.test hook.old) (C.sight core.old) runner.old ticket.now → TalliedBy (H.test hook.old) (C.sight core.new) runner.new result }
+    ensures calm { HoldsNowhere (H.test hook.old) → PassesBy (C.sight core.old) (C.sight core.new) runner.old runner.new }
     ensures test { H.test hook.new ≡ H.test hook.old }
     ensures origin { C.origin core.new ≡ C.origin core.old }
     ensures right { IsOrderly (C.sight core.new) }
@@ -71,7 +73,8 @@ fn go_in<C: EventCore, H: Hook>(
     Went::On
 }
 
-fn enter<C: EventCore, H: Hook>(
+/// The call enters: the one in flight, or a new one where none is.
+pub(crate) fn enter<C: EventCore, H: Hook>(
     alloc: Global,
     core: &mut C,
     hook: &mut H,
@@ -83,6 +86,7 @@ fn enter<C: EventCore, H: Hook>(
     requires outside { runner.old.at ≡ at.Outside }
     ensures did { Did calls.now (H.test hook.old) (C.sight core.old) (C.sight core.new) runner.old runner.new result }
     ensures begins { result ≢ went.NoMemory → ((C.sight core.new).seats runner.old.crossings.caller).begun ≢ 0 }
+    ensures calm { result ≢ went.NoMemory → StepsCalmly false (H.test hook.old) (C.sight core.old) (C.sight core.new) runner.old runner.new }
     ensures tallied { Tallies (H.test hook.old) (C.sight core.old) (C.sight core.new) runner.old runner.new result }
     ensures test { H.test hook.new ≡ H.test hook.old }
     ensures origin { C.origin core.new ≡ C.origin core.old }
@@ -104,7 +108,8 @@ fn enter<C: EventCore, H: Hook>(
     }
 }
 
-fn gather<C: EventCore, H: Hook>(
+/// The call inside gathers blocks, or at block 0 the tables.
+pub(crate) fn gather<C: EventCore, H: Hook>(
     alloc: Global,
     core: &mut C,
     hook: &mut H,
@@ -122,6 +127,7 @@ fn gather<C: EventCore, H: Hook>(
     requires count { need.count ≤ 32 }
     ensures grown { GrowsBy need runner.old.pages runner.new.pages }
     ensures did { Did calls.now (H.test hook.old) (C.sight core.old) (C.sight core.new) runner.old runner.new result }
+    ensures calm { result ≢ went.NoMemory → StepsCalmly true (H.test hook.old) (C.sight core.old) (C.sight core.new) runner.old runner.new }
     ensures tallied { Tallies (H.test hook.old) (C.sight core.old) (C.sight core.new) runner.old runner.new result }
     ensures test { H.test hook.new ≡ H.test hook.old }
     ensures origin { C.origin core.new ≡ C.origin core.old }
@@ -276,14 +282,14 @@ fn lacks_all(pages: &Pages, need: Need) -> bool
 }
 
 /// Has a call begin anew that asks for a block that is there: its bytes may be others once it is read again.
-pub fn keep_way(pages: &Pages, need: Need, way: &mut Option<Performing>)
-    requires lacks { has pages.now need.first ≡ false }
-    requires some { 1 ≤ need.first }
-    requires first { need.first < 262144 }
-    requires count { need.count ≤ 32 }
-    ensures { (way.new ≡ None) ⊎ ((way.new ≡ way.old) × LacksAll pages.now need) }
+pub fn keep_way(pages: &Pages, need: &Need, way: &mut Option<Performing>)
+    requires lacks { has pages.now need.now.first ≡ false }
+    requires some { 1 ≤ need.now.first }
+    requires first { need.now.first < 262144 }
+    requires count { need.now.count ≤ 32 }
+    ensures { (way.new ≡ None) ⊎ ((way.new ≡ way.old) × LacksAll pages.now need.now) }
 {
-    if !lacks_all(pages, need) {
+    if !lacks_all(pages, *need) {
         *way = None;
     }
 }
@@ -311,12 +317,13 @@ fn gather_on<C: EventCore, H: Hook>(
     requires going { IsUnderWay runner.old.pages runner.old.crossings.caller call.now way.old }
     ensures going { IsUnderWay runner.new.pages runner.new.crossings.caller call.now way.new }
     ensures did { Did calls.now (H.test hook.old) (C.sight core.old) (C.sight core.new) runner.old runner.new result }
+    ensures calm { result ≢ went.NoMemory → StepsCalmly true (H.test hook.old) (C.sight core.old) (C.sight core.new) runner.old runner.new }
     ensures tallied { Tallies (H.test hook.old) (C.sight core.old) (C.sight core.new) runner.old runner.new result }
     ensures test { H.test hook.new ≡ H.test hook.old }
     ensures origin { C.origin core.new ≡ C.origin core.old }
     ensures right { IsOrderly (C.sight core.new) }
 {
-    keep_way(&runner.pages, Need { ..need }, way);
+    keep_way(&runner.pages, &need, way);
     gather(alloc, core, hook, runner, calls, call, ticket, need)
 }
 
@@ -335,6 +342,7 @@ fn go_on<C: EventCore, H: Hook>(
     requires going { IsUnderWay runner.old.pages runner.old.crossings.caller call.now way.old }
     ensures going { IsUnderWay runner.new.pages runner.new.crossings.caller call.now way.new }
     ensures did { Did calls.now (H.test hook.old) (C.sight core.old) (C.sight core.new) runner.old runner.new result }
+    ensures calm { result ≢ went.NoMemory → StepsCalmly false (H.test hook.old) (C.sight core.old) (C.sight core.new) runner.old runner.new }
     ensures tallied { Tallies (H.test hook.old) (C.sight core.old) (C.sight core.new) runner.old runner.new result }
     ensures test { H.test hook.new ≡ H.test hook.old }
     ensures origin { C.origin core.new ≡ C.origin core.old }
@@ -381,6 +389,7 @@ pub fn step<C: EventCore, H: Hook>(
     ensures going { IsUnderWay runner.new.pages runner.new.crossings.caller call.now way.new }
     ensures did { Did calls.now (H.test hook.old) (C.sight core.old) (C.sight core.new) runner.old runner.new result }
     ensures begins { result ≢ went.NoMemory → ((C.sight core.new).seats runner.old.crossings.caller).begun ≢ 0 }
+    ensures calm { result ≢ went.NoMemory → StepsCalmly false (H.test hook.old) (C.sight core.old) (C.sight core.new) runner.old runner.new }
     ensures tallied { Tallies (H.test hook.old) (C.sight core.old) (C.sight core.new) runner.old runner.new result }
     ensures test { H.test hook.new ≡ H.test hook.old }
     ensures origin { C.origin core.new ≡ C.origin core.old }

@@ -3,6 +3,9 @@ use Rattle.mb_run.specs.Drives.{IsComplete}
 use Rattle.mb_run.proofs.Completing.{complete}
 use Rattle.mb_run.proofs.Letters.{order_rises}
 use Rattle.mb_run.proofs.drives.run_by_order.Goals as goal
+use Rattle.mb_run.specs.Letters.{letters_of}
+use Rattle.mb_run.proofs.Calm.{enters_on}
+use Rattle.mb_run.proofs.Calmly.{plain_before}
 
 pub returns-clause-complete : goal.returns-clause-complete
 returns-clause-complete g c = λ so.
@@ -26,3 +29,8 @@ returns-clause-seals g c = λ so.
     let one = (c.if-not-run_order.ensures.whole refl).seals in
     let two = (c.run_out.ensures.whole so).seals in
     omega (arith, one, two)
+
+pub returns-clause-enters : goal.returns-clause-enters
+returns-clause-enters g c = λ so calm nowhere letters plain.
+    let later = (c.run_out.ensures.whole so).later in
+    enters_on c.args.calls.now (letters_of c.args.callers.now) c.args.order.now (g.C.EventCore.sight c.run_order.new.core).trail (g.C.EventCore.sight c.run_out.new.core).trail later.trail (c.if-not-run_order.ensures.enters refl nowhere letters calm (plain_before (g.C.EventCore.sight c.run_order.new.core) (g.C.EventCore.sight c.run_out.new.core) later.entries later.history plain))

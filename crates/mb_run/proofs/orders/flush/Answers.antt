@@ -1,3 +1,4 @@
+use Rattle.mb_run.proofs.Calm.{flushed_still}
 use Rattle.mb_run.proofs.Quiet.{quiet_flush}
 use Rattle.mb_run.proofs.Undue.{flushes_undue}
 use Rattle.mb_run.proofs.orders.flush.Goals as goal
@@ -7,3 +8,6 @@ returns-clause-quiet g c = quiet_flush _ _ _ c.flush_one.ensures.flushes
 
 pub returns-clause-seals : goal.returns-clause-seals
 returns-clause-seals g c = flushes_undue _ _ _ c.flush_one.ensures.flushes
+
+pub returns-clause-still : goal.returns-clause-still
+returns-clause-still g c = flushed_still _ _ _ c.flush_one.ensures.flushes

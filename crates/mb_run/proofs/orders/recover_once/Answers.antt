@@ -1,4 +1,4 @@
-use Rattle.std.proofs.Common.{◌≡◌, ◌<◌, ◌∙◌, ap, sym, arith, length, slice_set}
+use Rattle.std.proofs.Common.{Bool, true, false, ◌≡◌, ◌<◌, ◌∙◌, ap, sym, arith, length, slice_set}
 use Rattle.std.proofs.Math.ListN.{length-set}
 use Rattle.mb_run.proofs.Moving.{moved_whole}
 use Rattle.mb_run.proofs.Quiet.{quiet_whole}
@@ -6,6 +6,9 @@ use Rattle.mb_run.proofs.Waiting.{letter_may, open_has, open_low, open_rests, op
 use Rattle.mb_run.specs.Sights.{recovers}
 use Rattle.mb_run.proofs.Starting.{open_rolls, quiet_alone}
 use Rattle.mb_run.proofs.orders.recover_once.Goals as goal
+
+never_over : {b : Bool} → b ≡ false → b ≡ true → ⊥
+never_over none some = (let both : false ≡ true = sym none ∙ some in cc)
 
 pub returns-in_default-clause-alone : goal.returns-in_default-clause-alone
 returns-in_default-clause-alone g c = λ so. quiet_alone _ _ c.recover_alone.ensures.quiet
@@ -47,8 +50,12 @@ pub returns-in_default-roll : goal.returns-in_default-roll
 returns-in_default-roll g c = record {
   whole = λ so. moved_whole _ _ _ _ _ _ _ _ c.requires.underway (open_low _ _ _ _ _ c.requires.underway c.in-Some.ensures) (rolled_move _ _ _ _ _ _ c.roll.result c.roll.ensures.rolled) c.roll.ensures.right;
   alone = λ so. open_rolls _ _ _ _ _ _ _ _ _ c.requires.underway c.in-Some.ensures c.roll.ensures.rolled;
+  idle = λ over. absurd (never_over over (ap recovers (sym c.stage.ensures) ∙ sym c.is_recovering.ensures ∙ c.if-not-is_recovering.false));
   length = length-set c.args.runners.now c.in-Some.caller c.roll.new.runner;
   origin = c.roll.ensures.origin;
   test = c.roll.ensures.test;
   right = c.roll.ensures.right;
 }
+
+pub returns-in_default-clause-idle : goal.returns-in_default-clause-idle
+returns-in_default-clause-idle g c = λ over. absurd (never_over over (ap recovers (sym c.stage.ensures) ∙ sym c.is_recovering.ensures ∙ c.if-not-is_recovering.false))

@@ -3,9 +3,10 @@ use Rattle.std.proofs.lemmas.Option.{slice_get_within}
 use Rattle.mb_run.proofs.Asked.{asked_seals, whole_asks}
 use Rattle.mb_run.proofs.Moving.{whole_same}
 use Rattle.mb_run.proofs.Quiet.{quiet_whole}
-use Rattle.std.proofs.Common.{refl}
+use Rattle.std.proofs.Common.{refl, sym}
 use Rattle.mb_run.proofs.Starting.{lacked_begins, letter_begins, no_letter_begins, no_letter_is, quiet_alone, same_alone}
 use Rattle.mb_run.proofs.orders.step_character.Goals as goal
+use Rattle.mb_run.proofs.Calm.{lacked_keeps, letter_keeps, no_letter_keeps, sealed_still, star_keeps, still_same}
 
 pub returns-then-character-eq61-clause-whole : goal.returns-then-character-eq61-clause-whole
 returns-then-character-eq61-clause-whole g c = λ so. quiet_whole _ _ _ _ _ _ c.requires.underway c.seal_now.ensures.quiet (asked_seals c.args.character (g.C.EventCore.sight c.args.core.now) (g.C.EventCore.sight c.seal_now.new.core) c.if-character-eq61.true (c.seal_now.ensures.sealed so)) c.seal_now.ensures.right
@@ -47,3 +48,21 @@ returns-in_default-clause-whole g c = λ so. whole_asks _ _ _ _ _ _ _ (whole_sam
 
 pub returns-clause-whole : goal.returns-clause-whole
 returns-clause-whole g c = λ so. whole_asks _ _ _ _ _ _ _ (c.step_letter.ensures.whole so)
+
+pub returns-then-character-eq32-clause-calm : goal.returns-then-character-eq32-clause-calm
+returns-then-character-eq32-clause-calm g c = λ so nowhere letters. no_letter_keeps _ _ (g.C.EventCore.sight c.args.core.now) (g.C.EventCore.sight c.args.core.now) _ _ letters _ (no_letter_is _ 32 c.if-character-eq32.true (omega arith)) (still_same (g.C.EventCore.sight c.args.core.now)) refl
+
+pub returns-then-character-eq61-clause-calm : goal.returns-then-character-eq61-clause-calm
+returns-then-character-eq61-clause-calm g c = λ so nowhere letters. no_letter_keeps _ _ (g.C.EventCore.sight c.args.core.now) (g.C.EventCore.sight c.seal_now.new.core) _ _ letters _ (no_letter_is _ 61 c.if-character-eq61.true (omega arith)) (sealed_still _ _ (c.seal_now.ensures.sealed so)) refl
+
+pub returns-then-character-eq62-clause-calm : goal.returns-then-character-eq62-clause-calm
+returns-then-character-eq62-clause-calm g c = λ so nowhere letters. no_letter_keeps _ _ (g.C.EventCore.sight c.args.core.now) (g.C.EventCore.sight c.flush.new.core) _ _ letters _ (no_letter_is _ 62 c.if-character-eq62.true (omega arith)) c.flush.ensures.still refl
+
+pub returns-then-character-eq42-clause-calm : goal.returns-then-character-eq42-clause-calm
+returns-then-character-eq42-clause-calm g c = λ so nowhere letters. star_keeps _ _ (g.C.EventCore.sight c.args.core.now) (g.C.EventCore.sight c.recover_once.new.core) _ _ letters _ (no_letter_is _ 42 c.if-character-eq42.true (omega arith)) c.recover_once.ensures.idle
+
+pub returns-in_default-clause-calm : goal.returns-in_default-clause-calm
+returns-in_default-clause-calm g c = λ so nowhere letters. lacked_keeps _ _ (g.C.EventCore.sight c.args.core.now) (g.C.EventCore.sight c.args.core.now) _ _ letters _ (rw c.to_ascii_lowercase-letter.ensures.value at c.in_default.ensures.lacks refl) refl refl
+
+pub returns-clause-calm : goal.returns-clause-calm
+returns-clause-calm g c = λ so nowhere letters. letter_keeps _ _ (g.C.EventCore.sight c.args.core.now) (g.C.EventCore.sight c.step_letter.new.core) _ _ letters _ c.in-Some.caller c.is_ascii_uppercase-capital.result (g.H.Hook.test c.args.hook.now) (rw c.to_ascii_lowercase-letter.ensures.value at c.in-Some.ensures.found) (sym c.is_ascii_uppercase-capital.ensures.value) (c.step_letter.ensures.calm so) nowhere

@@ -36,3 +36,18 @@ returns-in-Shut-clause-begins g c = λ so. c.in-Shut.ensures.begins shut_goes
 
 pub returns-in-Busy-clause-begins : goal.returns-in-Busy-clause-begins
 returns-in-Busy-clause-begins g c = λ so. c.in-Busy.ensures.begins (busy_goes c.in-Busy.field-0)
+
+pub returns-in-Ended-clause-calm : goal.returns-in-Ended-clause-calm
+returns-in-Ended-clause-calm g c = λ so. c.in-Ended.ensures.calm ended_goes
+
+pub returns-in-On-clause-calm : goal.returns-in-On-clause-calm
+returns-in-On-clause-calm g c = λ so. c.in-On.ensures.calm on_goes
+
+pub returns-in-Back-clause-calm : goal.returns-in-Back-clause-calm
+returns-in-Back-clause-calm g c = λ so. c.in-Back.ensures.calm back_goes
+
+pub returns-in-Shut-clause-calm : goal.returns-in-Shut-clause-calm
+returns-in-Shut-clause-calm g c = λ so. c.in-Shut.ensures.calm shut_goes
+
+pub returns-in-Busy-clause-calm : goal.returns-in-Busy-clause-calm
+returns-in-Busy-clause-calm g c = λ so. c.in-Busy.ensures.calm (busy_goes c.in-Busy.field-0)

@@ -1,9 +1,12 @@
 use Rattle.mb_run.proofs.Entered.{did_done, did_shut, may_inside, did_inside, did_not_enter}
 use Rattle.mb_run.proofs.Inside.{room}
 use Rattle.mb_run.proofs.Starting.{ended_begun, inside_begun, kept_begun, shut_begun}
-use Rattle.std.proofs.Common.{refl}
+use Rattle.std.proofs.Common.{false, refl}
+use Rattle.mb_core_spec.specs.Copies.{no_pages}
+use Rattle.mb_run.specs.declared.runner.At.TheVariants as at
 use Rattle.mb_run.proofs.TallySteps.{entering_done, entering_inside, entering_shut}
 use Rattle.mb_run.proofs.steps.enter.Goals as goal
+use Rattle.mb_run.proofs.Calmly.{entered_done, entered_inside, entered_shut}
 
 pub returns-in-Done-clause-begins : goal.returns-in-Done-clause-begins
 returns-in-Done-clause-begins g c = λ goes. ended_begun _ _ _ _ _ _ (did_done _ _ _ _ _ c.requires.may _ _ c.in-Done.ensures.enters)
@@ -43,3 +46,13 @@ returns-in-NoMemory-clause-tallied g c = λ tally. tt
 
 pub returns-in-Inside-clause-tallied : goal.returns-in-Inside-clause-tallied
 returns-in-Inside-clause-tallied g c = λ tally. c.go_in.ensures.tallied (rw c.clear.ensures (entering_inside _ _ _ _ _ c.requires.may c.requires.outside _ _ _ c.in-Inside.ensures.enters refl tally))
+
+pub returns-in-Done-clause-calm : goal.returns-in-Done-clause-calm
+returns-in-Done-clause-calm g c = λ goes. entered_done (g.H.Hook.test c.args.hook.now) (g.C.EventCore.sight c.args.core.now) (g.C.EventCore.sight c.enter.new.self) c.args.runner.now c.args.call.now c.requires.outside _ c.in-Done.field-0 c.in-Done.ensures.enters
+
+pub returns-in-Shut-clause-calm : goal.returns-in-Shut-clause-calm
+returns-in-Shut-clause-calm g c = λ goes. entered_shut (g.H.Hook.test c.args.hook.now) (g.C.EventCore.sight c.args.core.now) (g.C.EventCore.sight c.enter.new.self) c.args.runner.now c.args.call.now c.requires.outside _ c.in-Shut.ensures.enters
+
+pub returns-in-Inside-clause-calm : goal.returns-in-Inside-clause-calm
+returns-in-Inside-clause-calm g c = λ goes. entered_inside (g.H.Hook.test c.args.hook.now) (g.C.EventCore.sight c.args.core.now) (g.C.EventCore.sight c.enter.new.self) (g.C.EventCore.sight c.go_in.new.core) c.args.runner.now
+    (record c.args.runner.now { at = at.Inside c.in-Inside.ticket; asked = false; pages = no_pages }) c.go_in.new.runner c.args.call.now c.in-Inside.ticket c.requires.outside c.in-Inside.ensures.enters refl refl (rw c.clear.ensures at c.go_in.ensures.calm)

@@ -1,4 +1,4 @@
-use Rattle.std.proofs.Common.{inl, inr, ap, sym, subst, ◌∙◌}
+use Rattle.std.proofs.Common.{inl, inr, ap, sym, subst, refl, true, ◌∙◌}
 use Rattle.mb_run.specs.Pages.{Grows, GrowsBy}
 use Rattle.mb_run.specs.declared.runner.Runner.{Runner}
 use Rattle.mb_run.proofs.UnderWay.{grows_same}
@@ -9,6 +9,7 @@ use Rattle.mb_run.proofs.Inside.{has_ticket}
 use Rattle.mb_run.proofs.Places.{of_ticket}
 use Rattle.mb_run.proofs.TallySteps.{gathering_device, gathering_done, gathering_skip, gathering_struck}
 use Rattle.mb_run.proofs.steps.gather.Goals as goal
+use Rattle.mb_run.proofs.Calmly.{gathered_device, gathered_done, gathered_skip, struck_calm}
 
 pub returns-then-is_struck-clause-did : goal.returns-then-is_struck-clause-did
 returns-then-is_struck-clause-did g c = inside_asked _ _ _ _ _ c.requires.may _ c.requires.inside _ _ kind.Gather c.is_struck.ensures.right c.if-is_struck.ensures.asks
@@ -60,3 +61,18 @@ returns-in-NoMemory-clause-grown g c = inr (λ lacks. subst (λ p. Grows c.args.
 
 pub returns-in-Done-clause-grown : goal.returns-in-Done-clause-grown
 returns-in-Done-clause-grown g c = subst (λ p. GrowsBy c.args.need p c.gather.new.pages) (ap (λ (r : Runner). r.pages) c.if-is_struck.ensures.asks.1) (inr c.in-Done.ensures.gathers.1.grows)
+
+pub returns-then-is_struck-clause-calm : goal.returns-then-is_struck-clause-calm
+returns-then-is_struck-clause-calm g c = λ goes. struck_calm true (g.H.Hook.test c.args.hook.now) (g.C.EventCore.sight c.args.core.now) (g.C.EventCore.sight c.is_struck.new.core) _ c.args.runner.now c.is_struck.new.runner _ c.args.ticket.now kind.Gather c.if-is_struck.ensures.asks
+
+pub returns-in-Skip-clause-calm : goal.returns-in-Skip-clause-calm
+returns-in-Skip-clause-calm g c = λ goes. gathered_skip c.args.calls.now (g.H.Hook.test c.args.hook.now) (g.C.EventCore.sight c.args.core.now) (g.C.EventCore.sight c.is_struck.new.core) (g.C.EventCore.sight c.gather.new.self) c.args.runner.now c.is_struck.new.runner _ c.args.call.now c.args.ticket.now c.requires.may c.requires.inside c.if-is_struck.ensures.asks c.args.need c.gather.new.pages c.in-Skip.mine c.in-Skip.now c.in-Skip.ensures.gathers
+
+pub returns-in-Device-clause-calm : goal.returns-in-Device-clause-calm
+returns-in-Device-clause-calm g c = λ goes. gathered_device c.args.calls.now (g.H.Hook.test c.args.hook.now) (g.C.EventCore.sight c.args.core.now) (g.C.EventCore.sight c.is_struck.new.core) (g.C.EventCore.sight c.gather.new.self) c.args.runner.now c.is_struck.new.runner _ c.args.call.now c.args.ticket.now c.requires.may c.requires.inside c.if-is_struck.ensures.asks c.args.need c.gather.new.pages c.in-Device.ensures.gathers
+
+pub returns-in-Done-clause-calm : goal.returns-in-Done-clause-calm
+returns-in-Done-clause-calm g c = λ goes. gathered_done c.args.calls.now (g.H.Hook.test c.args.hook.now) (g.C.EventCore.sight c.args.core.now) (g.C.EventCore.sight c.is_struck.new.core) (g.C.EventCore.sight c.gather.new.self) c.args.runner.now c.is_struck.new.runner _ c.args.call.now c.args.ticket.now c.requires.may c.requires.inside c.if-is_struck.ensures.asks c.args.need c.gather.new.pages refl c.in-Done.ensures.gathers
+
+pub returns-in-NoMemory-clause-calm : goal.returns-in-NoMemory-clause-calm
+returns-in-NoMemory-clause-calm g c = λ goes. absurd (goes refl)
