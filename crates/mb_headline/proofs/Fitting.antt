@@ -1,11 +1,10 @@
 -- A job that a text writes can be run, its rules fire early, and its callers have letters of their own.
-use Rattle.std.proofs.Common.{◌≡◌, List, ℕ, ◌<◌, ◌≤◌, Ok, length, ap, sym, subst, ◌∙◌, arith}
+use Rattle.std.proofs.Common.{◌≡◌, ◌<◌, ◌≤◌, length, ap, sym, subst, ◌∙◌, arith}
 use Rattle.std.specs.List.{AllByRecursion}
 use Rattle.std.proofs.lemmas.List.{length-map}
 use Rattle.std.proofs.lemmas.Nat.{mul-le}
 use Rattle.mb_core_spec.specs.Bounds.{IsConfig}
 use Rattle.mb_core_spec.specs.declared.config.Config.{Config}
-use Rattle.mb_jobs.specs.Job.{job_in}
 use Rattle.mb_jobs.specs.Lists.{with_exits}
 use Rattle.mb_jobs.specs.declared.jobs.Caller.{Caller}
 use Rattle.mb_jobs.specs.declared.jobs.Job.{Job}

@@ -1,5 +1,5 @@
 -- A job that is generated from a number can be run.
-use Rattle.std.proofs.Common.{◌≡◌, ◌≢◌, List, [], ◌∷◌, ℕ, ◌+◌, ◌*◌, ◌≤◌, length, ap, sym, subst, ◌∙◌, arith}
+use Rattle.std.proofs.Common.{◌≡◌, List, [], ◌∷◌, ℕ, ◌+◌, ◌*◌, ◌≤◌, length, ap, sym, subst, ◌∙◌, arith}
 use Rattle.std.specs.List.{AllByRecursion}
 use Rattle.std.proofs.lemmas.List.{length-map}
 use Rattle.mb_core_spec.specs.Bounds.{IsConfig}
@@ -9,7 +9,7 @@ use Rattle.mb_gen.specs.Laws.{GeneratedAreFit, IsFitToRun, StrikesFirst}
 use Rattle.mb_jobs.specs.declared.jobs.Caller.{Caller}
 use Rattle.mb_jobs.specs.declared.jobs.Job.{Job}
 use Rattle.mb_plan.specs.declared.rules.Rule.{Rule}
-use Rattle.mb_run.specs.Letters.{AreLetters, letters_of}
+use Rattle.mb_run.specs.Letters.{AreLetters}
 use Rattle.mb_run.specs.Runs.{AllStrike}
 use Rattle.mb_headline.specs.Headline.{IsConfigOf}
 use Rattle.mb_headline.specs.Laws.{IsEarly, IsFitJob, SoaksAreFit}

@@ -1,5 +1,5 @@
 -- What a run of a job over a disk gives: the promise on its history, its fault records, and the image that it leaves.
-use Rattle.std.specs.Prelude.{List, [], ℕ, ◌+◌, ◌-◌, ◌^◌, ◌<◌, ◌≤◌, ◌≡◌, Option, Some, None, length, map, count_by}
+use Rattle.std.specs.Prelude.{List, [], false, ℕ, ◌+◌, ◌-◌, ◌^◌, ◌<◌, ◌≤◌, ◌≡◌, Option, Some, None, length, map, count_by}
 use Rattle.std.specs.List.{AllByRecursion}
 use Rattle.mb_core_spec.specs.Callers.{EachCaller}
 use Rattle.mb_core_spec.specs.Faults.{FewDevices, is_device}
@@ -8,6 +8,7 @@ use Rattle.mb_core_spec.specs.Right.{Right}
 use Rattle.mb_core_spec.specs.State.{CoreState}
 use Rattle.mb_core_spec.specs.declared.config.Config.{Config}
 use Rattle.mb_core_spec.specs.declared.stages.Stage.TheVariants as stage
+use Rattle.mb_core_spec.specs.declared.steps.Step.{Step}
 use Rattle.mb_jobs.specs.declared.jobs.Caller.{Caller}
 use Rattle.mb_jobs.specs.declared.jobs.Job.{Job}
 use Rattle.mb_kinds.specs.Image.{Image}
@@ -17,7 +18,7 @@ use Rattle.mb_kinds.specs.declared.faults.FaultRecord.{FaultRecord}
 use Rattle.mb_run.specs.Drives.{HasEachMoment, IsLinedUp}
 use Rattle.mb_run.specs.Letters.{letters_of}
 use Rattle.mb_plan.specs.declared.rules.Rule.{Rule}
-use Rattle.mb_run.specs.Runs.{FirstsRise, HasFailed, HasRecords, HasTakenFaults}
+use Rattle.mb_run.specs.Runs.{EntersFirst, FirstsRise, HasFailed, HasRecords, HasTakenFaults}
 use Rattle.mb_run.specs.Seals.{AreAskedFor, AreInTime}
 use Rattle.mb_run.specs.Served.{calls_in, calls_of}
 use Rattle.mb_tree.specs.History.{Legal, after_first}
@@ -60,6 +61,18 @@ abbrev pub RiseAsOrdered : Option (List ℕ) → List Caller → List Entry → 
 RiseAsOrdered None callers history = Unit {0}
 RiseAsOrdered (Some order) callers history = FirstsRise order (letters_of callers) history
 
+-- the disk ended no call
+abbrev pub HasNoDevice : List Entry → Type 0
+HasNoDevice history = AllByRecursion (λ (entry : Entry). is_device entry.reply ≡ false) history
+
+-- by an order, where no fault is planned and the disk ended no call, the trace begins, but for its checkpoints, with one `Entered`
+-- for each caller that has a call and whose letter stands in the order's longest prefix in which no caller's letter, small or
+-- capital, stands more than twice and no small letter stands after its capital (`calm_prefix`): in the order of their first
+-- letters, each with the ordinal 1
+abbrev pub EntersAsOrdered : Option (List ℕ) → Job → List Entry → List Step → Type 0
+EntersAsOrdered None job history trail = Unit {0}
+EntersAsOrdered (Some order) job history trail = job.plan ≡ [] → HasNoDevice history → EntersFirst job.calls (letters_of job.callers) order trail
+
 -- each caller's entries have the ordinals from 1 on, each in its place
 abbrev pub HasOrdinals : Job → List Entry → Type 0
 HasOrdinals job history = (caller : ℕ) → caller < length job.callers → AreInPlace (own history caller)
@@ -89,10 +102,12 @@ TakesPlanned None plan history records = HasTakenFaults plan history records
 TakesPlanned (Some order) plan history records = Unit {0}
 
 -- where one thread ran the job: without an order its calls stand in the job's order, entry by entry and moment by moment, and
--- the faults of its plan were taken; by an order the first calls begin as the callers' letters first stand in it
-pub record KeepsOrder (job : Job) (history : List Entry) (records : List FaultRecord) : Type 0 where
+-- the faults of its plan were taken; by an order the first calls begin as the callers' letters first stand in it, and without
+-- faults the trace begins with these calls
+pub record KeepsOrder (job : Job) (history : List Entry) (records : List FaultRecord) (trail : List Step) : Type 0 where
   pub lined : IsLinedUp job.order job.calls job.start history
   pub firsts : RiseAsOrdered job.order job.callers history
+  pub enters : EntersAsOrdered job.order job history trail
   pub taken : TakesPlanned job.order job.plan history records
 
 -- ---- the end of a run

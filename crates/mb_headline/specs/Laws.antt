@@ -65,10 +65,13 @@ pub record IsBegunFor {F D : Type 0} (told : D → Option Image) (faults : D →
 abbrev pub DrivesApart : Type 0
 DrivesApart = (job : Job) (test : Option (Crossing → Bool)) (old new : Sight) → IsDriven job test old new → IsDrivenApart job (asked_by job.order) (λ (caller : ℕ). test) old new
 
--- what one thread leaves of such a job keeps the job's order, and the faults of its plan were taken
-abbrev pub DrivesKeepOrder : Type 0
-DrivesKeepOrder = (job : Job) (old new : Sight)
-    → IsFitJob job → old.stage ≡ stage.Running → IsDriven job (Some (fires job.plan)) old new → KeepsOrder job new.history new.records
+-- what one thread leaves of such a job, over a core that was begun for it, keeps the job's order, and the faults of its plan were
+-- taken
+abbrev pub DrivesKeepOrder : (F D : Type 0) → (D → Option Image) → (D → ℕ) → Type 0
+DrivesKeepOrder F D told faults = (fs : F) (job : Job) (disk : D) (begun driven : CoreState F D)
+    → IsFitJob job → IsBegunFor told faults fs job disk begun → Right told faults driven → driven.config ≡ begun.config
+    → IsDriven job (Some (fires job.plan)) (sight_of begun) (sight_of driven)
+    → KeepsOrder job driven.journal.history driven.journal.records driven.journal.trail
 
 -- a core that was begun runs
 abbrev pub BegunRuns : (F D : Type 0) → (D → Option Image) → (D → ℕ) → Type 0

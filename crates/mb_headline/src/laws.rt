@@ -27,9 +27,9 @@ pub fn drives_apart()
 {}
 
 /// What that driver leaves keeps the job's order: that of its list, or that of its `order` as far as the callers' first calls go.
-/// In list order the faults of the plan were taken.
-pub fn drives_keep_order()
-    ensures { DrivesKeepOrder }
+/// In list order the faults of the plan were taken; by an order without faults the event trace begins with those calls.
+pub fn drives_keep_order<F, D: Disk>()
+    ensures { DrivesKeepOrder F D D.told D.faults }
 {}
 
 /// A core that was begun for a job runs.

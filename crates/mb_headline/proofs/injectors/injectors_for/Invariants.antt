@@ -1,6 +1,5 @@
 use Rattle.std.proofs.Common.{◌≡◌, [], None}
 use Rattle.std.specs.Prelude.{replicate}
-use Rattle.mb_plan.specs.Hooked.{Hooked}
 use Rattle.mb_headline.proofs.injectors.injectors_for.Given as goal
 
 abbrev pub invariant-loop-caller : goal.invariant-loop-caller

@@ -3,4 +3,4 @@ use Rattle.mb_run.proofs.Planned.{planned}
 use Rattle.mb_headline.proofs.laws.drives_keep_order.Goals as goal
 
 pub returns : goal.returns
-returns c = λ job old new fit runs. order_kept job old new planned fit.strikes fit.letters runs
+returns g c = λ fs job disk begun driven fit over right config. order_kept g.D.Disk.told g.D.Disk.faults fs job disk begun driven over planned fit.strikes fit.letters right
