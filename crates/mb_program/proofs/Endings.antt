@@ -1,9 +1,7 @@
 -- Which ends a run can have.
 use Rattle.std.proofs.Common.{List, [], ◌∷◌, length, ℕ, ◌+◌, ◌≤◌, ◌≡◌, ◌≢◌, ◌⊎◌, inl, inr, take, ap, arith, sym, subst, ◌∙◌, Option, Some, Result, Ok, refl, IfSome}
 use Rattle.mb_check.specs.Whole.{IsUnsound}
-use Rattle.mb_commands.specs.Words.{command_of}
 use Rattle.mb_commands.specs.declared.commands.Command.{Command}
-use Rattle.mb_commands.specs.declared.commands.Command.TheVariants.{Soak}
 use Rattle.mb_gen.specs.Generator.{generated}
 use Rattle.mb_gen.specs.Laws.{GeneratedAreFit, StrikesFirst}
 use Rattle.mb_jobs.specs.Job.{job_in}

@@ -1,5 +1,5 @@
 -- What comes of a run, from the laws on its path.
-use Rattle.std.proofs.Common.{List, ℕ, ◌≤◌, ◌≡◌, ◌≢◌, ◌⊎◌, Option, Some, inl, inr, ap, arith, sym, subst, ◌∙◌, refl}
+use Rattle.std.proofs.Common.{List, ℕ, ◌≤◌, ◌≡◌, ◌≢◌, ◌⊎◌, Option, None, Some, inl, inr, ap, arith, sym, subst, ◌∙◌, refl}
 use Rattle.mb_core_events.specs.Beginning.{TellsVolume}
 use Rattle.mb_core_spec.specs.Right.{Right}
 use Rattle.mb_core_spec.specs.State.{CoreState}
@@ -7,7 +7,7 @@ use Rattle.mb_core_spec.specs.declared.stages.Stage.{Stage}
 use Rattle.mb_core_spec.specs.declared.stages.Stage.TheVariants as stage
 use Rattle.mb_edge.specs.Causes.{Rose}
 use Rattle.mb_fsops.specs.declared.v7.V7.{V7}
-use Rattle.mb_headline.specs.Headline.{FewerDevices, IsDone, IsGivenUp, IsRun, KeepsOrder, LeavesImage}
+use Rattle.mb_headline.specs.Headline.{EntersAsOrdered, FewerDevices, IsDone, IsGivenUp, IsRun, KeepsOrder, LeavesImage}
 use Rattle.mb_headline.specs.Laws.{DrivesKeepOrder, DrivesApart, IsBegunFor, IsFitJob, IsPath, PathsAreRuns, PathsEnd, PathsFail}
 use Rattle.mb_jobs.specs.declared.jobs.Job.{Job}
 use Rattle.mb_kinds.specs.Image.{Image}
@@ -15,7 +15,12 @@ use Rattle.mb_kinds.specs.declared.entries.Entry.{Entry}
 use Rattle.mb_plan.specs.Fires.{fires}
 use Rattle.mb_plan.specs.declared.rules.Rule.{Rule}
 use Rattle.mb_print.specs.Transcript.{end_text, failed_text}
+use Rattle.mb_core_spec.specs.declared.steps.Step.{Step}
+use Rattle.mb_kinds.specs.declared.faults.FaultRecord.{FaultRecord}
+use Rattle.mb_run.proofs.Calm.{enters_on}
 use Rattle.mb_run.specs.CoreSight.{sight_of}
+use Rattle.mb_run.specs.Letters.{letters_of}
+use Rattle.mb_run.specs.Seals.{Continues}
 use Rattle.mb_run.specs.Drives.{IsDriven, IsDrivenApart}
 use Rattle.mb_run.specs.Orders.{asked_by}
 use Rattle.mb_run.specs.Settling.{IsSettled, Keeps, SealsAtEnd}
@@ -75,7 +80,7 @@ unsettled told faults manner job disk core outcome run order fewer rose said =
 
 -- ---- the path of a run
 
-order_of : {D : Type 0} (manner : Manner) (job : Job) (core : CoreState V7 D) → KeepsOrder job core.journal.history core.journal.records → KeepsOrderIfAlone manner job core
+order_of : {D : Type 0} (manner : Manner) (job : Job) (core : CoreState V7 D) → KeepsOrder job core.journal.history core.journal.records core.journal.trail → KeepsOrderIfAlone manner job core
 order_of manners.Alone job core order = order
 order_of manners.Threads job core order = tt
 order_of manners.Soak job core order = order
@@ -88,9 +93,9 @@ asked_alone manners.Soak job alone = refl
 
 -- one thread drove a core that was begun for a job, with a fault injector that goes by the job's plan
 pub driven_alone : {D : Type 0} (told : D → Option Image) (faults : D → ℕ) (manner : Manner) (fs : V7) (job : Job) (disk : D) (begun driven : CoreState V7 D) (rules : List Rule)
-    → DrivesApart → DrivesKeepOrder → IsAlone manner → IsFitJob job → rules ≡ job.plan → IsBegunFor told faults fs job disk begun → origin_of driven ≡ origin_of begun
+    → DrivesApart → DrivesKeepOrder V7 D told faults → Right told faults driven → IsAlone manner → IsFitJob job → rules ≡ job.plan → IsBegunFor told faults fs job disk begun → origin_of driven ≡ origin_of begun
     → IsDriven job (Some (fires rules)) (sight_of begun) (sight_of driven) → IsDrivenFor told faults manner fs job disk driven
-driven_alone {D = D} told faults manner fs job disk begun driven rules apart law alone fit same over on drives =
+driven_alone {D = D} told faults manner fs job disk begun driven rules apart law right alone fit same over on drives =
     let by_plan : IsDriven job (Some (fires job.plan)) (sight_of begun) (sight_of driven) = subst (λ (r : List Rule). IsDriven job (Some (fires r)) (sight_of begun) (sight_of driven)) same drives in
     record {
       begun = begun;
@@ -98,17 +103,31 @@ driven_alone {D = D} told faults manner fs job disk begun driven rules apart law
       first = ap (λ (o : Origin D). o.first) on;
       config = ap (λ (o : Origin D). o.config) on;
       drives = subst (λ n. IsDrivenApart job n (λ (caller : ℕ). Some (fires job.plan)) (sight_of begun) (sight_of driven)) (asked_alone manner job alone) (apart job (Some (fires job.plan)) (sight_of begun) (sight_of driven) by_plan);
-      order = order_of manner job driven (law job (sight_of begun) (sight_of driven) fit (ap (λ (c : CoreState V7 D). c.stage) over.over.begun) by_plan);
+      order = order_of manner job driven (law fs job disk begun driven fit over right (ap (λ (o : Origin D). o.config) on) by_plan);
     }
 
--- history and fault records stay at the end of a run
-order_stays : {D : Type 0} (manner : Manner) (job : Job) (driven ended : CoreState V7 D) → ended.journal.history ≡ driven.journal.history → ended.journal.records ≡ driven.journal.records
-    → KeepsOrderIfAlone manner job driven → KeepsOrderIfAlone manner job ended
-order_stays manners.Threads job driven ended history records order = tt
-order_stays manners.Alone job driven ended history records order =
-    subst (λ (h : List Entry). KeepsOrder job h ended.journal.records) (sym history) (subst (KeepsOrder job driven.journal.history) (sym records) order)
-order_stays manners.Soak job driven ended history records order =
-    subst (λ (h : List Entry). KeepsOrder job h ended.journal.records) (sym history) (subst (KeepsOrder job driven.journal.history) (sym records) order)
+-- what a trace begins with stays
+entered_stays : (order : Option (List ℕ)) (job : Job) (history : List Entry) (trail now : List Step) → Continues trail now → EntersAsOrdered order job history trail → EntersAsOrdered order job history now
+entered_stays None job history trail now goes enters = tt
+entered_stays (Some order) job history trail now goes enters = λ none device. enters_on job.calls (letters_of job.callers) order trail now goes (enters none device)
+
+-- history and fault records stay at the end of a run, and the trace goes on
+kept_stays : {D : Type 0} (job : Job) (driven ended : CoreState V7 D) → Keeps (sight_of driven) (sight_of ended) → KeepsOrder job driven.journal.history driven.journal.records driven.journal.trail
+    → KeepsOrder job ended.journal.history ended.journal.records ended.journal.trail
+kept_stays job driven ended keeps order =
+    subst (λ (h : List Entry). KeepsOrder job h ended.journal.records ended.journal.trail) (sym keeps.history)
+    (subst (λ (r : List FaultRecord). KeepsOrder job driven.journal.history r ended.journal.trail) (sym keeps.records)
+    (record {
+      lined = order.lined;
+      firsts = order.firsts;
+      enters = entered_stays job.order job driven.journal.history driven.journal.trail ended.journal.trail keeps.trail order.enters;
+      taken = order.taken;
+    }))
+
+order_stays : {D : Type 0} (manner : Manner) (job : Job) (driven ended : CoreState V7 D) → Keeps (sight_of driven) (sight_of ended) → KeepsOrderIfAlone manner job driven → KeepsOrderIfAlone manner job ended
+order_stays manners.Threads job driven ended keeps order = tt
+order_stays manners.Alone job driven ended keeps order = kept_stays job driven ended keeps order
+order_stays manners.Soak job driven ended keeps order = kept_stays job driven ended keeps order
 
 module _ {D : Type 0} (told : D → Option Image) (faults : D → ℕ) (manner : Manner) (job : Job) (disk : D) (fs : V7) (driven ended : CoreState V7 D)
     (drives : IsDrivenFor told faults manner fs job disk driven) (ended_on : origin_of ended ≡ origin_of driven)
@@ -126,7 +145,7 @@ module _ {D : Type 0} (told : D → Option Image) (faults : D → ℕ) (manner :
   }
 
   order : KeepsOrderIfAlone manner job ended
-  order = order_stays manner job driven ended keeps.history keeps.records drives.order
+  order = order_stays manner job driven ended keeps drives.order
 
   pub comes_settled : (outcome : Outcome) → PathsAreRuns V7 D told faults → PathsEnd V7 D told faults → IsFitJob job → IsSettled (sight_of driven) (sight_of ended)
       → (ended.stage ≡ stage.Failed → Says GivenUp (told_text manner failed_text job ended) outcome)

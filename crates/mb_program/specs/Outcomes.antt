@@ -82,11 +82,12 @@ unsettled_text manners.Alone job core = transcript_text job core.journal.history
 unsettled_text manners.Threads job core = transcript_text job core.journal.history ++ codes "disk fault\n"
 unsettled_text manners.Soak job core = codes "disk fault\n"
 
--- where one thread runs the job, the history keeps the job's order, and in list order the plan's faults were taken
+-- where one thread runs the job, the history keeps the job's order, in list order the plan's faults were taken, and by an order
+-- without faults the trace begins with the callers' first calls
 abbrev pub KeepsOrderIfAlone : {D : Type 0} → Manner → Job → CoreState V7 D → Type 0
-KeepsOrderIfAlone manners.Alone job core = KeepsOrder job core.journal.history core.journal.records
+KeepsOrderIfAlone manners.Alone job core = KeepsOrder job core.journal.history core.journal.records core.journal.trail
 KeepsOrderIfAlone manners.Threads job core = Unit {0}
-KeepsOrderIfAlone manners.Soak job core = KeepsOrder job core.journal.history core.journal.records
+KeepsOrderIfAlone manners.Soak job core = KeepsOrder job core.journal.history core.journal.records core.journal.trail
 
 -- how many checkpoints a job asks for: as many as its order does, where one thread runs it, and none without an order or with threads
 abbrev pub asked_for : Manner → Job → ℕ

@@ -86,9 +86,10 @@ fn run_begun<D: Disk>(alloc: Global, manner: Manner, core: Core<V7, D>, job: &Jo
     ensures later { D.faults core.first ≤ D.faults (held_disk result.held) }
 {
     drives_apart();
-    drives_keep_order();
+    drives_keep_order::<V7, D>();
     let mut hook = job.plan.hook();
     let Driven { core, end } = drive(alloc, VolumeCore { core }, job, &mut hook);
+    in_order(&core.core);
     end_run(alloc, manner, core, end, job)
 }
 

@@ -9,5 +9,5 @@ drive-core-requires-clause-runnable g c = c.requires.fit.runnable
 pub returns-clause-core : goal.returns-clause-core
 returns-clause-core g c = λ disk fs over.
     c.end_run.ensures.core disk fs (λ going.
-    driven_alone g.D.Disk.told g.D.Disk.faults c.args.manner fs c.args.job.now disk c.args.core c.drive-core.result.core.core _ c.drives_apart.ensures c.drives_keep_order.ensures c.requires.alone c.requires.fit
+    driven_alone g.D.Disk.told g.D.Disk.faults c.args.manner fs c.args.job.now disk c.args.core c.drive-core.result.core.core _ c.drives_apart.ensures c.drives_keep_order.ensures c.in_order.ensures c.requires.alone c.requires.fit
     (ap (λ (h : Hooked). h.rules) c.hook-hook.ensures) over c.drive-core.ensures.origin (c.drive-core.ensures.driven going))
