@@ -4,10 +4,12 @@ use Rattle.std.specs.List.{AllByRecursion}
 use Rattle.mb_core_spec.specs.declared.stages.Stage.TheVariants as stage
 use Rattle.mb_core_spec.specs.declared.steps.Step.TheVariants as step
 use Rattle.mb_edge.specs.declared.crossings.Crossing.{Crossing}
+use Rattle.mb_jobs.specs.declared.jobs.Caller.{Caller}
 use Rattle.mb_jobs.specs.declared.jobs.JobCall.{JobCall}
 use Rattle.mb_kinds.specs.declared.calls.Call.{Call}
 use Rattle.mb_kinds.specs.declared.entries.Entry.{Entry}
 use Rattle.mb_kinds.specs.declared.faults.Ticket.{Ticket}
+use Rattle.mb_run.specs.Letters.{AreLetters, letters_of}
 use Rattle.mb_run.specs.Pages.{has}
 use Rattle.mb_run.specs.Runs.{begun_from, has_call, has_capital, is_begun, is_calm_next, letter_of, used, without_seals}
 use Rattle.mb_run.specs.Seals.{is_plain}
@@ -129,7 +131,16 @@ pub record IsCalm (letters : List ℕ) (calls : List JobCall) (seen : List ℕ) 
   pub each : (caller letter : ℕ) (runner : Runner) → letter_of letters caller ≡ Some letter → slice_get runners caller ≡ Some runner
       → IsInTurn letters calls seen sight caller letter runner
 
+-- none was seen yet
+abbrev pub StartsCalm : List Caller → List JobCall → Sight → List Runner → Type 0
+StartsCalm callers calls sight runners = IsCalm (letters_of callers) calls [] sight runners
+
 -- one character more, which may follow those that were seen
 abbrev pub KeepsCalm : List ℕ → List JobCall → ℕ → Sight → Sight → List Runner → List Runner → Type 0
 KeepsCalm letters calls character old new before now = (seen : List ℕ) → is_calm_next letters seen character ≡ true
     → IsCalm letters calls seen old before → AreAllPlain new.history → IsCalm letters calls (seen ++ character ∷ []) new now
+
+-- the same for callers with letters of their own, where no fault comes
+abbrev pub KeepsCalmly : List Caller → List JobCall → Option (Crossing → Bool) → ℕ → Sight → Sight → List Runner → List Runner → Type 0
+KeepsCalmly callers calls test character old new before now =
+    HoldsNowhere test → AreLetters (letters_of callers) → KeepsCalm (letters_of callers) calls character old new before now

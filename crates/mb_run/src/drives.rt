@@ -1,7 +1,7 @@
 ghost use Rattle.std.specs.Prelude.{[], ◌+◌, ◌≡◌, ◌≢◌, ◌<◌, ◌≤◌, true, length};
 ghost use Rattle.std.specs.List.{AllByRecursion};
 ghost use Rattle.mb_jobs.specs.declared.jobs.JobCall.{JobCall};
-ghost use Rattle.mb_run.specs.Calm.{IsCalm};
+ghost use Rattle.mb_run.specs.Calm.{StartsCalm};
 ghost use Rattle.mb_run.specs.Drives.{AreNew, Ends, EntersCalmly, IsBegun, IsComplete, IsDriven, IsRunnable};
 ghost use Rattle.mb_run.specs.Indexes.{IsIndexOf};
 ghost use Rattle.mb_run.specs.Letters.{AreLetters, HasBegunBy, letters_of};
@@ -116,7 +116,7 @@ fn run_by_order<C: EventCore, H: Hook>(
     requires balanced { IsBalanced (C.sight core.old) }
     ensures complete { result ≡ true → IsComplete calls.now (length runners.old) (H.test hook.old) (C.sight core.new) }
     ensures firsts { result ≡ true → AreLetters (letters_of callers.now) → HasBegunBy (letters_of callers.now) calls.now [] (C.sight core.old) → FirstsRise order.now (letters_of callers.now) (C.sight core.new).history }
-    ensures enters { result ≡ true → IsCalm (letters_of callers.now) calls.now [] (C.sight core.old) runners.old → EntersCalmly order.now callers.now calls.now (H.test hook.old) (C.sight core.new) }
+    ensures enters { result ≡ true → StartsCalm callers.now calls.now (C.sight core.old) runners.old → EntersCalmly order.now callers.now calls.now (H.test hook.old) (C.sight core.new) }
     ensures config { result ≡ true → (C.sight core.new).config ≡ (C.sight core.old).config }
     ensures seals { result ≡ true → undue_in (C.sight core.new) ≤ undue_in (C.sight core.old) + asked_in order.now }
     ensures origin { C.origin core.new ≡ C.origin core.old }

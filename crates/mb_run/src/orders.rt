@@ -1,9 +1,9 @@
 ghost use Rattle.std.specs.Prelude.{[], ◌∷◌, ◌≡◌, ◌≢◌, ◌<◌, ◌≤◌, IfSome, None, Some, true, false, length};
-ghost use Rattle.mb_run.specs.Calm.{AreAllPlain, HoldsNowhere, IsCalm, IsStill, KeepsCalm, StepsCalmly, TurnsCalmly};
+ghost use Rattle.mb_run.specs.Calm.{IsStill, KeepsCalmly, StartsCalm, StepsCalmly, TurnsCalmly};
+ghost use Rattle.mb_run.specs.Drives.{EntersCalmly};
 ghost use Rattle.mb_run.specs.Indexes.{IsIndexOf};
 ghost use Rattle.mb_run.specs.Letters.{AreLetters, BeginsAlone, BeginsByLetter, HasBegun, HasBegunBy, LacksLetter, letters_of};
 ghost use Rattle.mb_run.specs.Orders.{asked_in, Ahead, HasLetter, IsEarlyAt, IsOpenAt, IsQuiet, IsSealedNow, IsWhole, MayLook, Moved};
-ghost use Rattle.mb_run.specs.Runs.{EntersFirst};
 ghost use Rattle.mb_run.specs.Served.{Did, MayStep, Underway};
 ghost use Rattle.mb_run.specs.Sights.{IsOrderly, recovers, undue_in};
 ghost use Rattle.mb_run.specs.declared.progress.Went.TheVariants as went;
@@ -344,7 +344,7 @@ fn step_character<C: EventCore, H: Hook>(
     requires callers { length callers.now ≡ length runners.old }
     ensures whole { result ≡ true → IsWhole calls.now (H.test hook.old) (asked_in (character ∷ [])) (C.sight core.old) (C.sight core.new) runners.old runners.new }
     ensures letters { result ≡ true → AreLetters (letters_of callers.now) → BeginsByLetter (letters_of callers.now) calls.now character (C.sight core.old) (C.sight core.new) }
-    ensures calm { result ≡ true → HoldsNowhere (H.test hook.old) → AreLetters (letters_of callers.now) → KeepsCalm (letters_of callers.now) calls.now character (C.sight core.old) (C.sight core.new) runners.old runners.new }
+    ensures calm { result ≡ true → KeepsCalmly callers.now calls.now (H.test hook.old) character (C.sight core.old) (C.sight core.new) runners.old runners.new }
     ensures length { length runners.new ≡ length runners.old }
     ensures test { H.test hook.new ≡ H.test hook.old }
     ensures origin { C.origin core.new ≡ C.origin core.old }
@@ -387,7 +387,7 @@ pub fn run_order<C: EventCore, H: Hook>(
     requires callers { length callers.now ≡ length runners.old }
     ensures whole { result ≡ true → IsWhole calls.now (H.test hook.old) (asked_in order.now) (C.sight core.old) (C.sight core.new) runners.old runners.new }
     ensures firsts { result ≡ true → AreLetters (letters_of callers.now) → HasBegunBy (letters_of callers.now) calls.now [] (C.sight core.old) → HasBegunBy (letters_of callers.now) calls.now order.now (C.sight core.new) }
-    ensures enters { result ≡ true → HoldsNowhere (H.test hook.old) → AreLetters (letters_of callers.now) → IsCalm (letters_of callers.now) calls.now [] (C.sight core.old) runners.old → AreAllPlain (C.sight core.new).history → EntersFirst calls.now (letters_of callers.now) order.now (C.sight core.new).trail }
+    ensures enters { result ≡ true → StartsCalm callers.now calls.now (C.sight core.old) runners.old → EntersCalmly order.now callers.now calls.now (H.test hook.old) (C.sight core.new) }
     ensures length { length runners.new ≡ length runners.old }
     ensures test { H.test hook.new ≡ H.test hook.old }
     ensures origin { C.origin core.new ≡ C.origin core.old }

@@ -33,4 +33,4 @@ returns-clause-seals g c = λ so.
 pub returns-clause-enters : goal.returns-clause-enters
 returns-clause-enters g c = λ so calm nowhere letters plain.
     let later = (c.run_out.ensures.whole so).later in
-    enters_on c.args.calls.now (letters_of c.args.callers.now) c.args.order.now (g.C.EventCore.sight c.run_order.new.core).trail (g.C.EventCore.sight c.run_out.new.core).trail later.trail (c.if-not-run_order.ensures.enters refl nowhere letters calm (plain_before (g.C.EventCore.sight c.run_order.new.core) (g.C.EventCore.sight c.run_out.new.core) later.entries later.history plain))
+    enters_on c.args.calls.now (letters_of c.args.callers.now) c.args.order.now (g.C.EventCore.sight c.run_order.new.core).trail (g.C.EventCore.sight c.run_out.new.core).trail later.trail (c.if-not-run_order.ensures.enters refl calm nowhere letters (plain_before (g.C.EventCore.sight c.run_order.new.core) (g.C.EventCore.sight c.run_out.new.core) later.entries later.history plain))

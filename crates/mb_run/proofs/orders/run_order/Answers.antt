@@ -33,5 +33,5 @@ returns-clause-whole g c = λ so. subst (λ (steps : List ℕ). IsWhole c.args.c
     (take_all c.loop-character.character-index c.args.order.now c.loop-character-test.false) c.loop-character.invariant.whole
 
 pub returns-clause-enters : goal.returns-clause-enters
-returns-clause-enters g c = λ so nowhere letters calm plain. subst (λ (seen : List ℕ). EntersFirst c.args.calls.now (letters_of c.args.callers.now) seen (g.C.EventCore.sight c.loop-character.core).trail)
+returns-clause-enters g c = λ so calm nowhere letters plain. subst (λ (seen : List ℕ). EntersFirst c.args.calls.now (letters_of c.args.callers.now) seen (g.C.EventCore.sight c.loop-character.core).trail)
     (take_all c.loop-character.character-index c.args.order.now c.loop-character-test.false) (c.loop-character.invariant.told nowhere letters calm plain).enters
