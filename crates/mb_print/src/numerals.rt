@@ -1,20 +1,16 @@
 ghost use Rattle.std.specs.Prelude.{◌≡◌, ◌++◌, IfOk, OnOk, decimal};
 ghost use Rattle.mb_print.specs.Replies.{octal};
 
+use itoa::Buffer;
 use std::alloc::{AllocError, Global};
 
 /// Appends a label and a number in decimal.
-pub(crate) fn push_field(
-    alloc: Global,
-    out: &mut Vec<u8>,
-    label: &[u8],
-    number: u64,
-) -> Result<(), AllocError>
+pub(crate) fn push_field(out: &mut Vec<u8>, label: &[u8], number: u64) -> Result<(), AllocError>
     ensures { OnOk result (out.new.items ≡ out.old.items ++ label.now ++ decimal number) }
 {
-    let digits = format!(in alloc; "{number}")?;
+    let mut digits = Buffer::new();
     out.extend_from_slice(label)?;
-    out.extend_from_slice(digits.as_bytes())?;
+    out.extend_from_slice(digits.format(number).as_bytes())?;
     Ok(())
 }
 
@@ -23,7 +19,7 @@ pub(crate) fn field(alloc: Global, label: &[u8], number: u64) -> Result<Vec<u8>,
     ensures { IfOk result (λ text. text.items ≡ label.now ++ decimal number) }
 {
     let mut out = Vec::new(alloc);
-    push_field(alloc, &mut out, label, number)?;
+    push_field(&mut out, label, number)?;
     Ok(out)
 }
 

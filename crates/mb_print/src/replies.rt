@@ -27,13 +27,13 @@ fn fields_of(alloc: Global, stat: &Stat) -> Result<Vec<u8>, AllocError>
     let mut out = field(alloc, b"ino ", u64::from(stat.ino))?;
     out.extend_from_slice(b" mode ")?;
     out.extend_from_slice(&octal_digits(stat.mode))?;
-    push_field(alloc, &mut out, b" nlink ", u64::from(stat.nlink))?;
-    push_field(alloc, &mut out, b" uid ", u64::from(stat.uid))?;
-    push_field(alloc, &mut out, b" gid ", u64::from(stat.gid))?;
-    push_field(alloc, &mut out, b" size ", u64::from(stat.size))?;
-    push_field(alloc, &mut out, b" atime ", u64::from(stat.atime))?;
-    push_field(alloc, &mut out, b" mtime ", u64::from(stat.mtime))?;
-    push_field(alloc, &mut out, b" ctime ", u64::from(stat.ctime))?;
+    push_field(&mut out, b" nlink ", u64::from(stat.nlink))?;
+    push_field(&mut out, b" uid ", u64::from(stat.uid))?;
+    push_field(&mut out, b" gid ", u64::from(stat.gid))?;
+    push_field(&mut out, b" size ", u64::from(stat.size))?;
+    push_field(&mut out, b" atime ", u64::from(stat.atime))?;
+    push_field(&mut out, b" mtime ", u64::from(stat.mtime))?;
+    push_field(&mut out, b" ctime ", u64::from(stat.ctime))?;
     Ok(out)
 }
 
@@ -42,7 +42,7 @@ fn restarted(alloc: Global, first: u32, second: u32) -> Result<Vec<u8>, AllocErr
     ensures { IfOk result (λ text. text.items ≡ reply_text (Reply.Restart first second)) }
 {
     let mut out = field(alloc, b"EIO restart ", u64::from(first))?;
-    push_field(alloc, &mut out, b" ", u64::from(second))?;
+    push_field(&mut out, b" ", u64::from(second))?;
     Ok(out)
 }
 

@@ -16,10 +16,12 @@ fn line_head(
     number: u64,
     callers: &[Caller],
     caller: u8,
+    more: usize,
 ) -> Result<Vec<u8>, AllocError>
     ensures { IfOk result (λ head. head.items ≡ decimal number ++ codes " " ++ letter_text callers.now caller) }
 {
-    let mut head = field(alloc, b"", number)?;
+    let mut head = Vec::with_capacity(alloc, more.saturating_add(64))?;
+    push_field(&mut head, b"", number)?;
     head.extend_from_slice(b" ")?;
     if let Some(one) = callers.get(usize::from(caller)) {
         head.push(one.letter)?;
@@ -56,7 +58,7 @@ pub fn transcript(alloc: Global, job: &Job, history: &[Entry]) -> Result<Text, A
     let mut out = Vec::new(alloc);
     'entries: for (index, entry) in history.iter().enumerate() {
         let text = next_text(calls, &mut places, entry.caller);
-        let head = line_head(alloc, index as u64 + 1, callers, entry.caller)?;
+        let head = line_head(alloc, index as u64 + 1, callers, entry.caller, text.len())?;
         out.extend_from_slice(&line_of(alloc, head, text, &entry.reply)?)?;
     }
     Ok(Text::from_vec(out))
@@ -74,8 +76,8 @@ fn counts_line(
     ensures { IfOk result (λ text. text ≡ counts_text label.now entries faults seal) }
 {
     let mut line = field(alloc, label, entries)?;
-    push_field(alloc, &mut line, b" faults ", faults)?;
-    push_field(alloc, &mut line, b" seal ", seal)?;
+    push_field(&mut line, b" faults ", faults)?;
+    push_field(&mut line, b" seal ", seal)?;
     line.push(b'\n')?;
     Ok(Text::from_vec(line))
 }
@@ -152,10 +154,10 @@ pub fn soak_line(
     ensures { IfOk result (λ text. text ≡ soak_text history.now faults seal) }
 {
     let mut line = field(alloc, b"soak entries ", history.len() as u64)?;
-    push_field(alloc, &mut line, b" faults ", faults)?;
-    push_field(alloc, &mut line, b" refused ", refused_in(history))?;
-    push_field(alloc, &mut line, b" restarts ", restarts_in(history))?;
-    push_field(alloc, &mut line, b" seal ", seal)?;
+    push_field(&mut line, b" faults ", faults)?;
+    push_field(&mut line, b" refused ", refused_in(history))?;
+    push_field(&mut line, b" restarts ", restarts_in(history))?;
+    push_field(&mut line, b" seal ", seal)?;
     line.push(b'\n')?;
     Ok(Text::from_vec(line))
 }
