@@ -4,14 +4,21 @@ ghost use Rattle.mb_print.specs.Replies.{octal};
 use itoa::Buffer;
 use std::alloc::{AllocError, Global};
 
+/// Appends a number in decimal.
+pub(crate) fn push_number(out: &mut Vec<u8>, number: u64) -> Result<(), AllocError>
+    ensures { OnOk result (out.new.items ≡ out.old.items ++ decimal number) }
+{
+    let mut digits = Buffer::new();
+    out.extend_from_slice(digits.format(number).as_bytes())?;
+    Ok(())
+}
+
 /// Appends a label and a number in decimal.
 pub(crate) fn push_field(out: &mut Vec<u8>, label: &[u8], number: u64) -> Result<(), AllocError>
     ensures { OnOk result (out.new.items ≡ out.old.items ++ label.now ++ decimal number) }
 {
-    let mut digits = Buffer::new();
     out.extend_from_slice(label)?;
-    out.extend_from_slice(digits.format(number).as_bytes())?;
-    Ok(())
+    push_number(out, number)
 }
 
 /// A label and a number in decimal.

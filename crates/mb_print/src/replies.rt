@@ -1,23 +1,23 @@
-ghost use Rattle.std.specs.Prelude.{◌≡◌, IfOk};
+ghost use Rattle.std.specs.Prelude.{◌≡◌, ◌++◌, IfOk, OnOk};
 ghost use Rattle.mb_print.specs.Replies.{got_text, info_text, reply_text};
 
-use crate::numerals::{field, octal_digits, push_field};
+use crate::numerals::{field, octal_digits, push_field, push_number};
 use mb_kinds::{Octets, Reply, Stat};
 use std::alloc::{AllocError, Global};
 
-/// The text of the bytes of a read.
-fn bytes_got(alloc: Global, bytes: &Octets) -> Result<Vec<u8>, AllocError>
-    ensures { IfOk result (λ text. text.items ≡ got_text bytes.now) }
+/// Appends the text of the bytes of a read.
+fn push_got(alloc: Global, out: &mut Vec<u8>, bytes: &Octets) -> Result<(), AllocError>
+    ensures { OnOk result (out.new.items ≡ out.old.items ++ got_text bytes.now) }
 {
     let bytes = bytes.as_slice();
     if bytes.is_empty() {
-        return b"0".to_vec(alloc);
+        return push_text(out, b"0");
     }
-    let mut out = field(alloc, b"", bytes.len() as u64)?;
+    push_number(out, bytes.len() as u64)?;
     let digits = hex::encode(alloc, bytes)?;
     out.extend_from_slice(b" ")?;
     out.extend_from_slice(digits.as_bytes())?;
-    Ok(out)
+    Ok(())
 }
 
 /// The text of the fields of an inode.
@@ -37,26 +37,34 @@ fn fields_of(alloc: Global, stat: &Stat) -> Result<Vec<u8>, AllocError>
     Ok(out)
 }
 
-/// The text of the numbers of two fault records.
-fn restarted(alloc: Global, first: u32, second: u32) -> Result<Vec<u8>, AllocError>
-    ensures { IfOk result (λ text. text.items ≡ reply_text (Reply.Restart first second)) }
+/// Appends the text of the numbers of two fault records.
+fn push_restart(out: &mut Vec<u8>, first: u32, second: u32) -> Result<(), AllocError>
+    ensures { OnOk result (out.new.items ≡ out.old.items ++ reply_text (Reply.Restart first second)) }
 {
-    let mut out = field(alloc, b"EIO restart ", u64::from(first))?;
-    push_field(&mut out, b" ", u64::from(second))?;
-    Ok(out)
+    push_field(out, b"EIO restart ", u64::from(first))?;
+    push_field(out, b" ", u64::from(second))?;
+    Ok(())
 }
 
-/// The printed text of a reply.
-pub(crate) fn text_of_reply(alloc: Global, reply: &Reply) -> Result<Vec<u8>, AllocError>
-    ensures { IfOk result (λ text. text.items ≡ reply_text reply.now) }
+/// Appends a text.
+fn push_text(out: &mut Vec<u8>, text: &[u8]) -> Result<(), AllocError>
+    ensures { OnOk result (out.new.items ≡ out.old.items ++ text.now) }
+{
+    out.extend_from_slice(text)?;
+    Ok(())
+}
+
+/// Appends the printed text of a reply.
+pub(crate) fn push_reply(alloc: Global, out: &mut Vec<u8>, reply: &Reply) -> Result<(), AllocError>
+    ensures { OnOk result (out.new.items ≡ out.old.items ++ reply_text reply.now) }
 {
     match reply {
-        Reply::Num(number) => field(alloc, b"", u64::from(*number)),
-        Reply::Got(bytes) => bytes_got(alloc, bytes),
-        Reply::Info(stat) => fields_of(alloc, stat),
-        Reply::Refused(error) => error.name().as_bytes().to_vec(alloc),
-        Reply::Restart { first, second } => restarted(alloc, *first, *second),
-        Reply::Device => b"EIO device".to_vec(alloc),
-        Reply::Failed { faults } => field(alloc, b"FAILED ", u64::from(*faults)),
+        Reply::Num(number) => push_number(out, u64::from(*number)),
+        Reply::Got(bytes) => push_got(alloc, out, bytes),
+        Reply::Info(stat) => push_text(out, &fields_of(alloc, stat)?),
+        Reply::Refused(error) => push_text(out, error.name().as_bytes()),
+        Reply::Restart { first, second } => push_restart(out, *first, *second),
+        Reply::Device => push_text(out, b"EIO device"),
+        Reply::Failed { faults } => push_field(out, b"FAILED ", u64::from(*faults)),
     }
 }

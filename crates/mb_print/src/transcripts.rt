@@ -1,45 +1,51 @@
-ghost use Rattle.std.specs.Prelude.{◌≡◌, ◌++◌, ◌∷◌, [], IfOk, codes, decimal};
+ghost use Rattle.std.specs.Prelude.{◌≡◌, ◌++◌, ◌∷◌, [], IfOk, OnOk, codes, decimal};
 ghost use Rattle.mb_print.specs.Replies.{reply_text};
 ghost use Rattle.std.specs.List.{count_by};
 ghost use Rattle.mb_print.specs.Transcript.{counts_text, end_text, failed_text, is_refused, is_restart, letter_text, line_text, soak_text, transcript_text};
 
-use crate::numerals::{field, push_field};
+use crate::numerals::{field, push_field, push_number};
 use crate::places::{first_places, next_text};
-use crate::replies::text_of_reply;
+use crate::replies::push_reply;
 use mb_jobs::{Caller, Job, Text};
 use mb_kinds::{Entry, Reply};
 use std::alloc::{AllocError, Global};
 
-/// A line's number, a blank, and the caller's letter.
-fn line_head(
-    alloc: Global,
+/// Appends a line's number, a blank, and the caller's letter.
+fn push_head(
+    out: &mut Vec<u8>,
     number: u64,
     callers: &[Caller],
     caller: u8,
-    more: usize,
-) -> Result<Vec<u8>, AllocError>
-    ensures { IfOk result (λ head. head.items ≡ decimal number ++ codes " " ++ letter_text callers.now caller) }
+) -> Result<(), AllocError>
+    ensures { OnOk result (out.new.items ≡ out.old.items ++ decimal number ++ codes " " ++ letter_text callers.now caller) }
 {
-    let mut head = Vec::with_capacity(alloc, more.saturating_add(64))?;
-    push_field(&mut head, b"", number)?;
-    head.extend_from_slice(b" ")?;
+    push_number(out, number)?;
+    out.extend_from_slice(b" ")?;
     if let Some(one) = callers.get(usize::from(caller)) {
-        head.push(one.letter)?;
+        out.push(one.letter)?;
     }
-    Ok(head)
+    Ok(())
 }
 
-/// One line of a transcript.
-fn line_of(alloc: Global, head: Vec<u8>, text: &[u8], reply: &Reply) -> Result<Vec<u8>, AllocError>
-    ensures { IfOk result (λ line. line.items ≡ head.items ++ codes " " ++ text.now ++ codes " = " ++ reply_text reply.now ++ 10 ∷ []) }
+/// Appends one line of a transcript.
+fn push_line(
+    alloc: Global,
+    out: &mut Vec<u8>,
+    number: u64,
+    callers: &[Caller],
+    caller: u8,
+    text: &[u8],
+    reply: &Reply,
+) -> Result<(), AllocError>
+    ensures { OnOk result (out.new.items ≡ out.old.items ++ line_text number (letter_text callers.now caller) text.now reply.now) }
 {
-    let mut line = head;
-    line.extend_from_slice(b" ")?;
-    line.extend_from_slice(text)?;
-    line.extend_from_slice(b" = ")?;
-    line.extend_from_slice(&text_of_reply(alloc, reply)?)?;
-    line.push(b'\n')?;
-    Ok(line)
+    push_head(out, number, callers, caller)?;
+    out.extend_from_slice(b" ")?;
+    out.extend_from_slice(text)?;
+    out.extend_from_slice(b" = ")?;
+    push_reply(alloc, out, reply)?;
+    out.push(b'\n')?;
+    Ok(())
 }
 
 /// The printed text of a history: one line for each entry, `N CALLER TEXT = REPLY`, in order. N counts
@@ -58,8 +64,15 @@ pub fn transcript(alloc: Global, job: &Job, history: &[Entry]) -> Result<Text, A
     let mut out = Vec::new(alloc);
     'entries: for (index, entry) in history.iter().enumerate() {
         let text = next_text(calls, &mut places, entry.caller);
-        let head = line_head(alloc, index as u64 + 1, callers, entry.caller, text.len())?;
-        out.extend_from_slice(&line_of(alloc, head, text, &entry.reply)?)?;
+        push_line(
+            alloc,
+            &mut out,
+            index as u64 + 1,
+            callers,
+            entry.caller,
+            text,
+            &entry.reply,
+        )?;
     }
     Ok(Text::from_vec(out))
 }

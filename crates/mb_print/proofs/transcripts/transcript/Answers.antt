@@ -10,8 +10,7 @@ entries-init c = rw c.new-out.ensures.items (Goes-start _ _ _ _ c.first_places-p
 
 pub entries-preserved : goal.entries-preserved
 entries-preserved c =
-    let line = rw c.in_ok-head.ensures at c.in_ok-line_of.ensures in
-    rw (c.in_ok-extend_from_slice.ensures.items, c.deref.ensures.value, line)
+    rw c.in_ok-push_line.ensures
     (Goes-more _ _ _ _ _ _ _ _ c.index-history-index.result c.entries-test.true c.index-history-index.is c.next_text-text.ensures.text c.next_text-text.ensures.taken c.next_text-text.ensures.others c.entries.invariant)
 
 pub returns : goal.returns
