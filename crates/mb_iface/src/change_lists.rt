@@ -16,10 +16,10 @@ use std::marker::Model;
 #[derive(Drop)]
 pub struct Changes {
     map: IndexMap<u32, [u8; 512]>,
-    /// By a block's number modulo 128, one more than the place in the list where such a block was last
+    /// By a block's number modulo 16, one more than the place in the list where such a block was last
     /// written or found, so that most look-ups need no search; 0 where none is changed. What is not 0 is
     /// a guess, which is looked at before it is believed.
-    guesses: [u8; 128],
+    guesses: [u8; 16],
 }
 
 impl Model for Changes {
@@ -44,10 +44,10 @@ fn write_at(into: &mut [u8; 512], at: usize, bytes: &[u8])
 
 /// Where the guess for a block stands.
 fn guess_of(block: u32) -> usize
-    ensures place { result ≡ block % 128 }
-    ensures within { result < 128 }
+    ensures place { result ≡ block % 16 }
+    ensures within { result < 16 }
 {
-    (block % 128) as usize
+    (block % 16) as usize
 }
 
 /// The guess for a place, from 1 on. Places from 254 on have one guess, which is of use for the first alone.
@@ -133,7 +133,7 @@ impl Changes {
     {
         Changes {
             map: IndexMap::new(alloc),
-            guesses: [0; 128],
+            guesses: [0; 16],
         }
     }
 
@@ -144,7 +144,7 @@ impl Changes {
     {
         Ok(Changes {
             map: IndexMap::with_capacity(alloc, blocks)?,
-            guesses: [0; 128],
+            guesses: [0; 16],
         })
     }
 
@@ -286,7 +286,7 @@ impl Changes {
         ensures err { OnErr result (self.new ≡ self.old) }
     {
         self.map.append(&mut later.map)?;
-        self.guesses = [1; 128];
+        self.guesses = [1; 16];
         Ok(())
     }
 }

@@ -13,9 +13,9 @@ invariant_of-self-2 c =
     let before = subst (All IsChange) (sym c.in_ok-reserve.ensures.entries) c.self.invariant.list.each in
     let first = subst (All IsChange) (sym c.in-Ok.ensures.entries) (each_inserted c.reserve.new.self.entries c.args.block c.args.bytes.now before (record { below = omega arith; sized = omega arith })) in
     let marks = subst (AreMarked c.self.inside.guesses) (sym c.in_ok-reserve.ensures.entries) c.self.invariant.marked in
-    let long : length c.self.inside.guesses ≡ 128 = omega arith in
+    let long : length c.self.inside.guesses ≡ 16 = omega arith in
     let one = marked_put c.self.inside.guesses c.reserve.new.self.entries c.write_page.new.map.entries c.args.block c.guess_of.result c.in-Ok.guess c.args.bytes.now long marks c.guess_of.ensures.place c.in-Ok.ensures.guess c.in-Ok.ensures.updates.0 in
-    let still : length (slice_set c.self.inside.guesses c.guess_of.result c.in-Ok.guess) ≡ 128 = length-set c.self.inside.guesses c.guess_of.result c.in-Ok.guess ∙ long in
+    let still : length (slice_set c.self.inside.guesses c.guess_of.result c.in-Ok.guess) ≡ 16 = length-set c.self.inside.guesses c.guess_of.result c.in-Ok.guess ∙ long in
     record {
       list = record {
         each = subst (All IsChange) (sym c.in-Ok-write_page.ensures.entries) (each_inserted c.write_page.new.map.entries c.args.then c.args.after.now first (record { below = omega arith; sized = omega arith }));
