@@ -78,7 +78,8 @@ impl Reads {
         self.count = 0;
     }
 
-    /// Reads a block as it is seen, behind the others.
+    /// Reads a block as it is seen, behind the others. It stands in its caller, who reads run and others by it.
+    #[inline(always)]
     fn read<D: Disk>(&mut self, cache: &mut Cache<D>, block: u32) -> Result<(), ReadFault>
         ensures rest { cache.new ≡ record cache.old { disk = cache.new.disk; room = record cache.old.room { clean = cache.new.room.clean } } }
         ensures told { D.told cache.new.disk ≡ D.told cache.old.disk }

@@ -108,7 +108,8 @@ pub(crate) fn enter<C: EventCore, H: Hook>(
     }
 }
 
-/// The call inside gathers blocks, or at block 0 the tables.
+/// The call inside gathers blocks, or at block 0 the tables. It stands in each of its callers: most calls gather several times.
+#[inline(always)]
 pub(crate) fn gather<C: EventCore, H: Hook>(
     alloc: Global,
     core: &mut C,
