@@ -16,4 +16,5 @@ pub use finish::{Finish, Held};
 pub use laws::{
     check_completes, makes_complete, runs_complete, soaks_complete, survivors_complete,
 };
-pub use program::{membrane, membrane_alone};
+pub use outcomes::Outcome;
+pub use program::{membrane, membrane_alone, print};

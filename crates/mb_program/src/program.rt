@@ -69,8 +69,8 @@ pub fn membrane_alone<S: Source, D: Disk, K: Sink>(
     Finish { status, held }
 }
 
-// Prints an outcome's text, and gives its status. Want of memory stays so where its line cannot be written.
-fn print<K: Sink>(out: &mut K, outcome: &Outcome) -> u8
+/// Prints an outcome's text, and gives its status: 7 where it cannot be written. Want of memory stays 6 then.
+pub fn print<K: Sink>(out: &mut K, outcome: &Outcome) -> u8
     ensures printed { IsPrinted outcome.now (K.taken out.old) (K.taken out.new) result }
     ensures output { result ≡ 7 → Rose (K.faults out.old) (K.faults out.new) }
 {
@@ -110,27 +110,5 @@ fn text_of(outcome: &Outcome) -> &[u8]
         | Outcome::Unsettled(text)
         | Outcome::GivenUp(text)
         | Outcome::Ran(text) => text.as_slice(),
-    }
-}
-
-#[cfg(test)]
-mod tests {
-    use super::*;
-    use mb_edge::{Fails, MemSink};
-    use std::test::Fail;
-
-    #[test]
-    fn want_of_memory_stays_where_its_line_cannot_be_written(rt: HostRuntime) -> Result<(), Fail> {
-        for (write, outcome, status) in [
-            (1, Outcome::OutOfMemory, 6),
-            (2, Outcome::OutOfMemory, 6),
-            (1, Outcome::DiskFault, 7),
-            (2, Outcome::DiskFault, 5),
-        ] {
-            let fails = Fails::from_vec([write].to_vec(rt.alloc())?);
-            let mut out = MemSink::new(rt.alloc(), 64, fails)?;
-            assert_eq!(rt; print(&mut out, &outcome), status);
-        }
-        Ok(())
     }
 }

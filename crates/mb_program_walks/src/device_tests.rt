@@ -6,8 +6,8 @@ use crate::trials::{
     End, Failing, NOTHING_FAILS, disk, first_read, fresh, printed, run, words_alone,
 };
 use crate::volumes::{changed_volume, hello_volume};
-use mb_edge::{Bytes, SureSource};
-use mb_program::{Finish, membrane_alone};
+use mb_edge::{Bytes, Fails, MemSink, SureSource};
+use mb_program::{Finish, Outcome, membrane_alone, print};
 use std::alloc::{AllocError, Global};
 use std::process::Abort;
 use std::test::Fail;
@@ -411,6 +411,21 @@ fn the_first_cause_ends_the_run(rt: HostRuntime) -> Result<(), Fail> {
     ] {
         let end = run(rt.alloc(), list, Vec::new(rt.alloc()), job, failing)?;
         printed(&rt, &end, status, line)?;
+    }
+    Ok(())
+}
+
+#[test]
+fn want_of_memory_stays_where_its_line_cannot_be_written(rt: HostRuntime) -> Result<(), Fail> {
+    for (write, outcome, status) in [
+        (1, Outcome::OutOfMemory, 6),
+        (2, Outcome::OutOfMemory, 6),
+        (1, Outcome::DiskFault, 7),
+        (2, Outcome::DiskFault, 5),
+    ] {
+        let fails = Fails::from_vec([write].to_vec(rt.alloc())?);
+        let mut out = MemSink::new(rt.alloc(), 64, fails)?;
+        assert_eq!(rt; print(&mut out, &outcome), status);
     }
     Ok(())
 }
