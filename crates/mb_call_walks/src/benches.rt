@@ -36,9 +36,9 @@ fn gather_for(disk: &Gathered, view: &mut Gathered, performed: Performed) -> Res
     ensures { ViewGrows (changed view.old.blocks) (changed view.new.blocks) }
 {
     match performed {
-        Performed::Need(need) => gather(disk, view, need),
-        Performed::NoMemory => Ok(()),
-        Performed::Ready(_) => Err("a call that is ready does not go on".into()),
+        Performed::Need(need) => return gather(disk, view, need),
+        Performed::NoMemory => return Ok(()),
+        Performed::Ready(_) => return Err("a call that is ready does not go on".into()),
     }
 }
 

@@ -10,7 +10,7 @@ use crate::spots::link_spot;
 use crate::walks::cut;
 use mb_iface::{Acted, Asked, FileSys, Need, Opens, Query, View};
 use mb_kinds::{Call, Cred, Errno, Path, Reply, Stat};
-use mb_tree::{Fds, Files, FsOp, Seat, SessionChange};
+use mb_tree::{CallPlan, Fds, Files, FsOp, Seat, SessionChange};
 use std::alloc::Global;
 use std::test::Fail;
 
@@ -117,36 +117,44 @@ fn calls_that_ask_nothing_are_ready_without_a_block(rt: HostRuntime) -> Result<(
     Ok(())
 }
 
+/// The first block that a plan asks for.
+fn first_asked(plan: &Result<CallPlan, Halt>) -> Option<u32> {
+    match plan {
+        Err(Halt::Need(need)) => Some(need.first),
+        _ => None,
+    }
+}
+
+/// What a call asks for.
+fn asked_by(performed: &Performed) -> Option<&Need> {
+    match performed {
+        Performed::Need(need) => Some(need),
+        _ => None,
+    }
+}
+
 #[test]
 fn stat_asks_for_what_it_lacks(rt: HostRuntime) -> Result<(), Fail> {
     let path = Path::from_vec(b"a/b".to_vec(rt.alloc())?);
-    let asked = match by_one(rt.alloc(), &Call::Stat { path }) {
-        Performed::Need(need) => Some(need),
-        _ => None,
+    let performed = by_one(rt.alloc(), &Call::Stat { path });
+    let Some(need) = asked_by(&performed) else {
+        return Err("nothing is asked for".into());
     };
-    assert_eq!(rt; asked, Some(Need::one(1)));
+    assert_eq!(rt; *need, Need::one(1));
     Ok(())
 }
 
 #[test]
 fn second_path_of_link_does_not_overtake_the_first(rt: HostRuntime) {
-    let need = Need::one(9);
     let missing = Err(Halt::Refused(Errno::ENOENT));
-    let refused = match link_spot(&seat(), 5, missing, Err(Halt::Need(need))) {
+    let refused = match link_spot(&seat(), 5, missing, Err(Halt::Need(Need::one(9)))) {
         Err(Halt::Refused(error)) => Some(error),
         _ => None,
     };
     assert_eq!(rt; refused, Some(Errno::ENOENT));
-    let asked = match link_spot(
-        &seat(),
-        5,
-        Err(Halt::Need(need)),
-        Err(Halt::Refused(Errno::EACCES)),
-    ) {
-        Err(Halt::Need(need)) => Some(need),
-        _ => None,
-    };
-    assert_eq!(rt; asked, Some(need));
+    let first = Err(Halt::Need(Need::one(9)));
+    let plan = link_spot(&seat(), 5, first, Err(Halt::Refused(Errno::EACCES)));
+    assert_eq!(rt; first_asked(&plan), Some(9));
 }
 
 #[test]
