@@ -10,7 +10,8 @@ use std::alloc::Global;
 ///
 /// Contracts say what an answer means where the view is a part of an image that is a volume of a
 /// tree: then a query is answered as the reference tree answers it, an operation's changes make a
-/// volume of the tree after its effect, and only blocks near the query or operation are asked for.
+/// volume of the tree after its effect, and the first block that is asked for is near the query or
+/// operation.
 /// That is said of a query that can be asked of the tree (`IsAskable`) and of an operation that fits
 /// it (`Fits` of `mb_tree`); of any other one nothing but that it is answered. What a `Need` names
 /// (`IsNeed`) is said on every view.
