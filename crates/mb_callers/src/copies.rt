@@ -1,4 +1,4 @@
-ghost use Rattle.std.specs.Prelude.{◌≡◌, ◌≤◌, ◌<◌, ◌+◌, ◌-◌, ◌∷◌, ◌++◌, [], ℕ, List, length, OnOk, IsOk, IfSome, IfNone, Some, None, false, option_copied, nat_eq, slice_get};
+ghost use Rattle.std.specs.Prelude.{◌≡◌, ◌≤◌, ◌<◌, ◌+◌, ◌-◌, ◌%◌, ◌∷◌, ◌++◌, [], ℕ, List, length, OnOk, IsOk, IfSome, IfNone, Some, None, false, option_copied, nat_eq, slice_get};
 ghost use Rattle.std.specs.List.{IsDistinct, list_any};
 ghost use Rattle.std.specs.Map.{keys_of};
 ghost use Rattle.indexmap.specs.IndexMap.{insert_entry};
@@ -18,9 +18,17 @@ use std::marker::Model;
 
 /// Where the guess for a block stands.
 fn guess_of(block: u32) -> usize
-    ensures { result < 128 }
+    ensures place { result ≡ block % 1024 }
+    ensures within { result < 1024 }
 {
-    (block % 128) as usize
+    (block % 1024) as usize
+}
+
+/// The guess for a place, from 1 on. Places from 65,534 on have one guess, which is of use for the first alone.
+fn guess_at(place: usize) -> u16
+    ensures { 0 < result }
+{
+    (place.min(65_534) + 1) as u16
 }
 
 /// Where a block stands, by a search. It stays out of its caller, whose way by a guess is short.
@@ -33,14 +41,18 @@ fn searched(blocks: &IndexSet<u32>, block: u32) -> Option<usize>
     Some(place)
 }
 
-/// Where a block stands: at the guessed place, else by a search.
-fn place_of(blocks: &IndexSet<u32>, guess: u8, block: u32) -> Option<usize>
+/// Where a block stands: at the guessed place, else by a search. Where there is no guess it stands nowhere.
+fn place_of(blocks: &IndexSet<u32>, guess: u16, block: u32) -> Option<usize>
+    requires { guess ≡ 0 → list_any (nat_eq block) blocks.now.keys ≡ false }
     ensures found { IfSome result (λ place. slice_get blocks.now.keys place ≡ Some block) }
     ensures none { IfNone result (list_any (nat_eq block) blocks.now.keys ≡ false) }
     ensures once { IsDistinct nat_eq blocks.now.keys }
 {
-    let guessed = usize::from(guess);
     let all = blocks.as_slice();
+    if guess == 0 {
+        return None;
+    }
+    let guessed = usize::from(guess) - 1;
     if guessed < all.len() && all[guessed] == block {
         return Some(guessed);
     }
@@ -54,17 +66,19 @@ pub(crate) struct Copies {
     /// The copies of the blocks, in their order, and behind them the room for further ones, so that a copy is made in its
     /// place.
     copies: Vec<KeptBlock>,
-    /// By a block's number modulo 128, where such a block was last put, so that most look-ups need no
-    /// search. It is looked at before it is believed, and any number may stand here.
-    guesses: [u8; 128],
+    /// By a block's number modulo 1,024, one more than the place where such a block was last put, so that most
+    /// look-ups need no search; 0 where none has a copy. What is not 0 is a guess, which is looked at before it is
+    /// believed.
+    guesses: [u16; 1024],
 }
 
 impl Model for Copies {
-    ghost use Rattle.std.specs.Prelude.{ℕ, List, ◌-◌, ◌≤◌, length, min};
+    ghost use Rattle.std.specs.Prelude.{ℕ, List, ◌-◌, length, min};
     ghost use Rattle.std.specs.List.{zip};
     ghost use Rattle.indexmap.specs.IndexSet.{spare};
     ghost use Rattle.mb_room.specs.Room.{Roomy};
     ghost use Rattle.mb_core_spec.specs.Copies as spec;
+    ghost use Rattle.mb_callers.specs.Guesses.{AreGuessed};
 
     ghost Value = { Roomy (ℕ × spec.KeptBlock) };
 
@@ -73,7 +87,7 @@ impl Model for Copies {
       spare = min (spare c.numbers) (length c.copies.items - length c.numbers.keys);
     } };
 
-    ghost invariant = { λ c. length c.numbers.keys ≤ length c.copies.items };
+    ghost invariant = { λ c. AreGuessed c.guesses c.numbers.keys c.copies.items };
 }
 
 /// Makes room for so many more copies behind the first `used`. The only error is want of memory.
@@ -97,7 +111,19 @@ impl Copies {
         Copies {
             numbers: IndexSet::new(alloc),
             copies: Vec::new(alloc),
-            guesses: [0; 128],
+            guesses: [0; 1024],
+        }
+    }
+
+    /// The copy of a block, with the place where it stands, counted from 0; `None` exactly where there is none.
+    pub fn find(&self, block: u32) -> Option<(usize, &KeptBlock)>
+        ensures found { IfSome result (λ found. kept_at self.now.items block ≡ Some found.1.now) }
+        ensures none { IfNone result (kept_at self.now.items block ≡ None) }
+    {
+        let guess = self.guesses[guess_of(block)];
+        match place_of(&self.numbers, guess, block) {
+            Some(place) => Some((place, &self.copies[place])),
+            None => None,
         }
     }
 
@@ -105,11 +131,15 @@ impl Copies {
     pub fn get(&self, block: u32) -> Option<&KeptBlock>
         ensures { option_copied result ≡ kept_at self.now.items block }
     {
-        let guess = self.guesses[guess_of(block)];
-        match place_of(&self.numbers, guess, block) {
-            Some(place) => Some(&self.copies[place]),
+        match self.find(block) {
+            Some((_place, kept)) => Some(kept),
             None => None,
         }
+    }
+
+    /// The blocks, in their order.
+    pub fn numbers(&self) -> &[u32] {
+        self.numbers.as_slice()
     }
 
     /// Makes room for so many more copies. Nothing else changes.
@@ -133,7 +163,7 @@ impl Copies {
             unreachable!()
         };
         self.copies[place].copy_from(kept);
-        self.guesses[guess_of(block)] = place.min(255) as u8;
+        self.guesses[guess_of(block)] = guess_at(place);
     }
 
     /// The copies of a list more; needs no memory.
@@ -180,7 +210,10 @@ impl Copies {
         ensures items { self.new.items ≡ [] }
         ensures spare { self.old.spare ≤ self.new.spare }
     {
-        self.numbers.truncate(0);
+        if self.numbers.len() > 0 {
+            self.numbers.truncate(0);
+            self.guesses = [0; 1024];
+        }
     }
 
     fn is_fresh<D: Disk>(&self, block: u32, page: &KeptBlock, cache: &Cache<D>) -> bool

@@ -10,7 +10,7 @@ use Rattle.mb_callers.proofs.copies.Copies.least_stale.Goals as goal
 pub loop-at-init : goal.loop-at-init
 loop-at-init g c = record {
   least = refl;
-  whole = c.len-at-end.ensures.len ∙ sym (length_zip c.pages.inside.numbers.keys c.pages.inside.copies.items c.pages.invariant) ∙ ap (λ pages. length pages.items) c.pages.view_is;
+  whole = c.len-at-end.ensures.len ∙ sym (length_zip c.pages.inside.numbers.keys c.pages.inside.copies.items c.pages.invariant.places) ∙ ap (λ pages. length pages.items) c.pages.view_is;
 }
 
 pub loop-at-preserved : goal.loop-at-preserved
@@ -19,7 +19,7 @@ loop-at-preserved g c =
     let copies = c.pages.inside.copies.items in
     let block = sym c.in-Some.ensures.key in
     let within = slice_get_within blocks c.loop-at.at c.in-Some.block.now block in
-    let copy = slice_get-get_or copies c.loop-at.at c.index.result.now (omega (arith, within, c.pages.invariant)) ∙ ap Some (sym c.index.ensures) in
+    let copy = slice_get-get_or copies c.loop-at.at c.index.result.now (omega (arith, within, c.pages.invariant.places)) ∙ ap Some (sym c.index.ensures) in
     record {
       least = folded_more (stale_step c.args.self.now.items c.args.cache.now.stamps) c.loop-at.least c.step-least.result _ c.args.pages.now.items c.loop-at.at (c.in-Some.block.now, c.index.result.now) c.loop-at.invariant.least
           (ap (λ pages. slice_get pages.items c.loop-at.at) (sym c.pages.view_is) ∙ zip_at blocks copies c.loop-at.at c.in-Some.block.now c.index.result.now block copy) c.step-least.ensures;
@@ -28,4 +28,4 @@ loop-at-preserved g c =
 
 pub returns-clause-once : goal.returns-clause-once
 returns-clause-once g c = subst (λ pages. IsDistinct nat_eq (keys_of pages.items)) c.pages.view_is
-    (subst (IsDistinct nat_eq) (sym (keys_zip c.pages.inside.numbers.keys c.pages.inside.copies.items c.pages.invariant)) c.len-at-end.ensures.unique)
+    (subst (IsDistinct nat_eq) (sym (keys_zip c.pages.inside.numbers.keys c.pages.inside.copies.items c.pages.invariant.places)) c.len-at-end.ensures.unique)
