@@ -11,6 +11,9 @@
 //!
 //! `Blocks` are those that an operation wants which is done again in a recovery: read as they are seen, and kept for no call.
 //!
+//! What a call looks at is much like what the calls before it looked at, so `Pages` remember that, and `foresee` adds such
+//! blocks to what a call asks for. These are guesses: no contract sees them.
+//!
 //! Room is kept from call to call: pages, copies, undo log and pins are emptied and not dropped, and a copy of the tables
 //! that was given back becomes the next one as long as the counts of open files are the same.
 #![tactic(auto)]
@@ -19,6 +22,7 @@ mod blocks;
 mod caller_states;
 mod callers;
 mod copies;
+mod foresight;
 mod gathering;
 mod kept_blocks;
 mod laws;

@@ -1,12 +1,14 @@
-ghost use Rattle.std.specs.Prelude.{◌≡◌, [], ℕ, None, option_copied, option_map, IfNone, IfSome};
+ghost use Rattle.std.specs.Prelude.{◌≡◌, ◌<◌, [], ℕ, None, option_copied, option_map, IfNone, IfSome};
 ghost use Rattle.mb_core_spec.specs.Copies.{KeptBlock, LiveTables, TableCopy, kept_at, no_pages, shown};
 ghost use Rattle.mb_callers.specs.Stale.{AllFresh, IsLeastStale};
 
 use crate::copies::Copies;
+use crate::foresight::Foresight;
 use crate::tables::TablePlace;
 use mb_cache::Cache;
 use mb_edge::Disk;
-use mb_iface::{Opens, View};
+use mb_iface::{Need, Opens, Others, View};
+use mb_kinds::Call;
 use mb_session::Sessions;
 use std::alloc::Global;
 use std::marker::Model;
@@ -18,6 +20,7 @@ use std::marker::Model;
 pub struct Pages {
     pub(crate) blocks: Copies,
     pub(crate) tables: TablePlace,
+    foresight: Foresight,
 }
 
 impl Model for Pages {
@@ -35,6 +38,43 @@ impl Model for Pages {
     ghost view = { λ p. record { blocks = p.blocks.items; tables = held_if p.tables.there p.tables.held } };
 }
 
+/// Whether a need names a block.
+fn is_named(need: &Need, block: u32) -> bool {
+    let in_run = need.first <= block && block - need.first < need.count;
+    in_run || need.others.blocks().contains(&block)
+}
+
+/// The next foreseen block that is not there and that the need does not name.
+fn next_foreseen(foresight: &mut Foresight, blocks: &Copies, need: &Need) -> Option<u32>
+    ensures { IfSome result (λ block. block < 262144) }
+{
+    for _ in 0..32 {
+        let block = foresight.next()?;
+        if block < 262_144 && !is_named(need, block) && blocks.get(block).is_none() {
+            return Some(block);
+        }
+    }
+    None
+}
+
+/// The others of a need, and in each place that is left a foreseen block.
+fn others_foreseen(foresight: &mut Foresight, blocks: &Copies, need: &Need) -> Others {
+    let mut others = [0; 7];
+    let mut more = true;
+    for place in 0..7 {
+        let named = need.others.blocks()[place];
+        if 0 < named && named < 262_144 {
+            others[place] = named;
+        } else if more {
+            match next_foreseen(foresight, blocks, need) {
+                Some(block) => others[place] = block,
+                None => more = false,
+            }
+        }
+    }
+    Others::of(others)
+}
+
 impl Pages {
     /// Nothing gathered; needs no memory.
     pub fn new(alloc: Global) -> Pages
@@ -43,6 +83,7 @@ impl Pages {
         Pages {
             blocks: Copies::new(alloc),
             tables: TablePlace::new(),
+            foresight: Foresight::new(alloc),
         }
     }
 
@@ -50,8 +91,23 @@ impl Pages {
     pub fn clear(&mut self)
         ensures { self.new ≡ no_pages }
     {
+        self.foresight.end(self.blocks.numbers());
         self.blocks.clear();
         self.tables.clear();
+    }
+
+    /// What a call asks for, and, as far as a need has places for them, blocks that calls like this one looked at before and
+    /// that are not there. Which ones they are is a guess. The pages are as before; needs no memory.
+    pub fn foresee(&mut self, call: &Call, need: Need) -> Need
+        ensures same { self.new ≡ self.old }
+        ensures first { result.first ≡ need.first }
+        ensures count { result.count ≡ need.count }
+    {
+        if self.blocks.len() == 0 {
+            self.foresight.begin(call);
+        }
+        let others = others_foreseen(&mut self.foresight, &self.blocks, &need);
+        Need { others, ..need }
     }
 
     /// The sessions; `None` exactly where block 0 was not gathered.
@@ -111,8 +167,11 @@ impl View for Pages {
     ghost shown = { λ p. shown p.blocks };
 
     fn get(&self, block: u32) -> Option<&[u8; 512]> {
-        match self.blocks.get(block) {
-            Some(kept) => Some(kept.bytes()),
+        match self.blocks.find(block) {
+            Some((place, kept)) => {
+                self.foresight.look(place);
+                Some(kept.bytes())
+            }
             None => None,
         }
     }
