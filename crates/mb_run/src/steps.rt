@@ -324,6 +324,7 @@ fn gather_on<C: EventCore, H: Hook>(
     ensures origin { C.origin core.new ≡ C.origin core.old }
     ensures right { IsOrderly (C.sight core.new) }
 {
+    let need = runner.pages.foresee(call, need);
     keep_way(&runner.pages, &need, way);
     gather(alloc, core, hook, runner, calls, call, ticket, need)
 }

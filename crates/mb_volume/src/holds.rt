@@ -271,6 +271,7 @@ impl<F: FileSys, D: Disk> Volume<F, D> {
         ensures rises { RisesWith (H.faults hook.old) (H.faults hook.new) (part_in pass.old).struck (part_in pass.new).struck }
         ensures test { H.test hook.new ≡ H.test hook.old }
     {
+        let need = attempt.pages.foresee(call, need);
         keep_way(&attempt.pages, &need, way);
         let (came, code) = self.gather(rt, alloc, pass, hook, attempt, call, ticket, need);
         if code.is_none() {
