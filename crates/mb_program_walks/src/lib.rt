@@ -9,6 +9,8 @@ mod example_files;
 #[cfg(test)]
 mod example_tests;
 #[cfg(test)]
+mod foresight_tests;
+#[cfg(test)]
 mod interleaving_tests;
 #[cfg(test)]
 mod recovery_tests;
