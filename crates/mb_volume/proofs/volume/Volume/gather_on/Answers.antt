@@ -1,8 +1,20 @@
 use Rattle.std.proofs.Common.{◌≡◌, true, subst, sym}
 use Rattle.mb_run.specs.Pages.{GrowsBy, IsUnderWay, has}
 use Rattle.mb_run.proofs.UnderWay.{gathered_way}
+use Rattle.mb_volume.specs.Passed.{Hears}
+use Rattle.mb_volume.specs.Passing.{part_in}
 use Rattle.mb_volume.proofs.Gathered.{said_there}
 use Rattle.mb_volume.proofs.volume.Volume.gather_on.Goals as goal
+
+pub returns-then-is_none-clause-hears : goal.returns-then-is_none-clause-hears
+returns-then-is_none-clause-hears g c =
+    subst (λ pages. Hears (g.H.Hook.test c.args.hook.now) (g.H.Hook.faults c.args.hook.now) (g.H.Hook.faults c.gather-came.new.hook) (part_in c.args.pass.now).seat (part_in c.gather-came.new.pass).seat (record c.args.attempt.now { pages = pages }) c.gather-came.new.attempt c.gather-came.result.0)
+    c.foresee-need.ensures.same c.gather-came.ensures.hears
+
+pub returns-else-is_none-clause-hears : goal.returns-else-is_none-clause-hears
+returns-else-is_none-clause-hears g c =
+    subst (λ pages. Hears (g.H.Hook.test c.args.hook.now) (g.H.Hook.faults c.args.hook.now) (g.H.Hook.faults c.gather-came.new.hook) (part_in c.args.pass.now).seat (part_in c.gather-came.new.pass).seat (record c.args.attempt.now { pages = pages }) c.gather-came.new.attempt c.gather-came.result.0)
+    c.foresee-need.ensures.same c.gather-came.ensures.hears
 
 pub returns-else-is_none-clause-going : goal.returns-else-is_none-clause-going
 returns-else-is_none-clause-going g c =
