@@ -1,18 +1,18 @@
 -- A block's address behind those of the super-block's list, by the bytes of block 1.
-use Rattle.std.proofs.Common.{ℕ, ◌≡◌, ◌≢◌, ◌+◌, ◌*◌, ◌<◌, ◌≤◌, ◌⊎◌, inl, inr, true, false, cond, nat_eq, max, List, ◌++◌, length, take, drop, get_or, refl, sym, ap, subst, ◌∙◌, arith}
-use Rattle.std.proofs.lemmas.Bool.{cases_eq}
+use Rattle.std.proofs.Common.{ℕ, suc, ◌≡◌, ◌≢◌, ◌+◌, ◌-◌, ◌*◌, ◌<◌, ◌≤◌, ◌⊎◌, inl, inr, true, false, cond, nat_eq, max, List, [], ◌∷◌, ◌++◌, length, take, drop, get_or, refl, sym, ap, subst, ◌∙◌, arith, take-suc}
+use Rattle.std.proofs.lemmas.Bool.{cases_eq, cases_lt}
 use Rattle.std.proofs.lemmas.Bool.Decides.{nat_tests}
 use Rattle.mb_word.specs.Numbers.{word_at, long_at, put_at, word_bytes, long_bytes, SameFrom}
 use Rattle.mb_word.specs.Fields.{nfree_of, free_of, chain_count, chain_entry}
 use Rattle.mb_word.proofs.Parts.{get_or-part, length-part}
-use Rattle.mb_word.proofs.Writes.{put_at_in, put_at_same, length-put_at}
+use Rattle.mb_word.proofs.Writes.{put_at_in, put_at_is, put_at_kept, put_at_same, length-put_at}
 use Rattle.mb_word.proofs.Values.{word_back, long_back, long_at-same, word_at-same, length-word_bytes, length-long_bytes}
 use Rattle.mb_layout.proofs.Steps.{Alike, alike_part, word_alike, long_alike}
 use Rattle.mb_tree.specs.Chain.{Listed}
 use Rattle.mb_iface.specs.Changed.{put_block}
 use Rattle.mb_iface.proofs.ChangedBlocks.{put_block_same, put_block_other}
 use Rattle.mb_blocks.specs.FreeLists.{IsSameList, pushed, ended, emptied, after_freeing}
-use Rattle.mb_file.specs.Freeing.{Hangs, MovesList}
+use Rattle.mb_file.specs.Freeing.{Hangs, HangsEach, MovesList}
 
 -- the list that a super-block's bytes hold
 abbrev listed_in : List ℕ → Listed
@@ -123,6 +123,108 @@ module _ (first ready one two : List ℕ) (count block : ℕ) (is : IsReady firs
         back = λ k low high. ap (λ b. get_or b k 0) now ∙ off_both 208 304 (inr (omega arith)) (inr (omega (arith, room))) k low high ∙ is.back k low high ∙ ap (λ b. get_or b k 0) (sym here);
         others = λ other apart beside. put_block_other blocks 1 two other apart;
       }
+
+-- ---- addresses in a list with room, and their count at last
+
+-- a count written over another one
+count_over : (b w l v : List ℕ) (q : ℕ) → length b ≡ 512 → length w ≡ 2 → length v ≡ 2 → 8 ≤ q → q + length l ≤ 512 → put_at (put_at (put_at b 6 w) q l) 6 v ≡ put_at (put_at b q l) 6 v
+count_over b w l v q long two too behind fits =
+    let n1 : length (put_at b 6 w) ≡ 512 = length-put_at b 6 w (omega (arith, long, two)) ∙ long in
+    let n2 : length (put_at (put_at b 6 w) q l) ≡ 512 = length-put_at (put_at b 6 w) q l (omega (arith, n1, fits)) ∙ n1 in
+    let m : length (put_at b q l) ≡ 512 = length-put_at b q l (omega (arith, long, fits)) ∙ long in
+    let off_count : (k : ℕ) → (k < 6) ⊎ (8 ≤ k) → get_or (put_at (put_at b 6 w) q l) k 0 ≡ get_or (put_at b q l) k 0 = (λ k away. elim (cases_lt k q) [
+      | inl low ↦
+          put_at_kept (put_at b 6 w) q l k (omega (arith, n1, fits)) (inl low)
+          ∙ put_at_kept b 6 w k (omega (arith, long, two)) (elim away [ inl a ↦ inl a | inr a ↦ inr (omega (arith, a, two)) ])
+          ∙ sym (put_at_kept b q l k (omega (arith, long, fits)) (inl low))
+      | inr high ↦ elim (cases_lt k (q + length l)) [
+        | inl in_l ↦
+            (let e : k ≡ q + (k - q) = omega (arith, high) in
+            ap (λ i. get_or (put_at (put_at b 6 w) q l) i 0) e ∙ put_at_in (put_at b 6 w) q l (k - q) (omega (arith, n1, fits)) (omega (arith, in_l, high))
+            ∙ sym (put_at_in b q l (k - q) (omega (arith, long, fits)) (omega (arith, in_l, high))) ∙ ap (λ i. get_or (put_at b q l) i 0) (sym e))
+        | inr past ↦
+            put_at_kept (put_at b 6 w) q l k (omega (arith, n1, fits)) (inr past)
+            ∙ put_at_kept b 6 w k (omega (arith, long, two)) (elim away [ inl a ↦ inl a | inr a ↦ inr (omega (arith, a, two)) ])
+            ∙ sym (put_at_kept b q l k (omega (arith, long, fits)) (inr past))
+      ]
+    ]) in
+    put_at_is (put_at b q l) 6 v (put_at (put_at (put_at b 6 w) q l) 6 v) (omega (arith, m, too))
+    (length-put_at (put_at (put_at b 6 w) q l) 6 v (omega (arith, n2, too)) ∙ n2 ∙ sym m)
+    (λ k away.
+    (let apart : (k < 6) ⊎ (8 ≤ k) = elim away [ inl a ↦ inl a | inr a ↦ inr (omega (arith, a, too)) ] in
+    put_at_kept (put_at (put_at b 6 w) q l) 6 v k (omega (arith, n2, too)) away ∙ off_count k apart))
+    (λ k within. put_at_in (put_at (put_at b 6 w) q l) 6 v k (omega (arith, n2, too)) within)
+
+each_more : (first mid after : List ℕ) (xs : List ℕ) (block : ℕ) → HangsEach first mid xs → nfree_of mid ≤ 50 → Hangs mid after block → nfree_of after ≤ 50 → HangsEach first after (xs ++ block ∷ [])
+each_more first mid after [] block none few hangs full = (after, subst (λ b. Hangs b after block) none hangs, full, refl)
+each_more first mid after (x ∷ xs) block (between, one, room, more) few hangs full = (between, one, room, each_more between mid after xs block more few hangs full)
+
+abbrev counted : List ℕ → ℕ → List ℕ
+counted b n = put_at b 6 (word_bytes n)
+
+-- so many addresses written behind those of the list, and their count not yet
+pub record HasHung (first b blocks : List ℕ) (held count : ℕ) : Type 0 where
+  pub sized : length b ≡ 512
+  pub none : count ≡ 0 → b ≡ first
+  pub some : 0 < count → HangsEach first (counted b (held + count)) (take count blocks)
+
+pub hung_first : (first blocks : List ℕ) (held : ℕ) → length first ≡ 512 → HasHung first first blocks held 0
+hung_first first blocks held long = record { sized = long; none = λ _. refl; some = λ low. absurd (omega (arith, low)) }
+
+module _ (first blocks : List ℕ) (held : ℕ) (long : length first ≡ 512) (reads : held ≡ nfree_of first) (filled : 0 < held) where
+  module _ (b after : List ℕ) (count block : ℕ) (room : held + count < 50) (low : count < length blocks) (is : block ≡ get_or blocks count 0) (wrote : after ≡ put_at b (8 + 4 * (held + count)) (long_bytes block)) (was : HasHung first b blocks held count) where
+    after_long : length after ≡ 512
+    after_long = (let l = length-long_bytes block in let s = was.sized in ap length wrote ∙ length-put_at b (8 + 4 * (held + count)) (long_bytes block) (omega (arith, s, l, room)) ∙ s)
+
+    -- a step from bytes whose count is right
+    step : (now : List ℕ) → length now ≡ 512 → held + count ≡ nfree_of now → counted (put_at now (8 + 4 * (held + count)) (long_bytes block)) (held + count + 1) ≡ counted after (held + count + 1) → Hangs now (counted after (held + count + 1)) block
+    step now wide right same =
+        subst (λ two. Hangs now two block) same
+        (hung now now (put_at now (8 + 4 * (held + count)) (long_bytes block)) (counted (put_at now (8 + 4 * (held + count)) (long_bytes block)) (held + count + 1)) (held + count) block
+        (ready_some now (held + count) (held + count) wide right (omega (arith, filled)) (omega (arith, filled))) (omega (arith, right, room)) room refl refl)
+
+    count_after : nfree_of (counted after (held + count + 1)) ≡ held + count + 1
+    count_after = (let s = after_long in word_back after 6 (held + count + 1) (omega (arith, s)) (omega (arith, room)))
+
+    more : HangsEach first (counted after (held + count + 1)) (take count blocks ++ block ∷ [])
+    more = elim (cases_lt 0 count) [
+      | inl some ↦
+          (let s = was.sized in
+          let w = length-word_bytes (held + count) in
+          let v = length-word_bytes (held + count + 1) in
+          let l = length-long_bytes block in
+          let now = counted b (held + count) in
+          let right : nfree_of now ≡ held + count = word_back b 6 (held + count) (omega (arith, s)) (omega (arith, room)) in
+          let same : counted (put_at now (8 + 4 * (held + count)) (long_bytes block)) (held + count + 1) ≡ counted after (held + count + 1) =
+          count_over b (word_bytes (held + count)) (long_bytes block) (word_bytes (held + count + 1)) (8 + 4 * (held + count)) s w v (omega arith) (omega (arith, l, room)) ∙ ap (λ x. counted x (held + count + 1)) (sym wrote) in
+          each_more first now (counted after (held + count + 1)) (take count blocks) block (was.some some) (omega (arith, right, room))
+          (step now (length-put_at b 6 (word_bytes (held + count)) (omega (arith, s, w)) ∙ s) (sym right) same) (let c = count_after in omega (arith, c, room)))
+      | inr none ↦
+          (let zero_count : count ≡ 0 = omega (arith, none) in
+          let here : b ≡ first = was.none zero_count in
+          let right : held + count ≡ nfree_of first = omega (arith, reads, zero_count) in
+          let same : counted (put_at first (8 + 4 * (held + count)) (long_bytes block)) (held + count + 1) ≡ counted after (held + count + 1) =
+          ap (λ x. counted (put_at x (8 + 4 * (held + count)) (long_bytes block)) (held + count + 1)) (sym here) ∙ ap (λ x. counted x (held + count + 1)) (sym wrote) in
+          subst (λ n. HangsEach first (counted after (held + count + 1)) (take n blocks ++ block ∷ [])) (sym zero_count)
+          (counted after (held + count + 1), step first long right same, (let c = count_after in omega (arith, c, room)), refl))
+    ]
+
+    pub hung_next : HasHung first after blocks held (count + 1)
+    hung_next =
+        let e : held + count + 1 ≡ held + (count + 1) = omega arith in
+        let whole : take count blocks ++ block ∷ [] ≡ take (count + 1) blocks = ap (λ x. take count blocks ++ x ∷ []) is ∙ sym (take-suc blocks count 0 low) ∙ ap (λ n. take n blocks) (let f : suc count ≡ count + 1 = omega arith in f) in
+        record {
+          sized = after_long;
+          none = λ zero. absurd (omega (arith, zero));
+          some = λ _. subst (λ n. HangsEach first (counted after n) (take (count + 1) blocks)) e (subst (HangsEach first (counted after (held + count + 1))) whole more);
+        }
+
+  module _ (b two : List ℕ) (count : ℕ) (some : 0 < count) (fits : held + count ≤ 50) (all : take count blocks ≡ blocks) (wrote : two ≡ put_at b 6 (word_bytes (held + count))) (was : HasHung first b blocks held count) where
+    pub hung_each : HangsEach first two blocks
+    hung_each = subst (λ x. HangsEach first x blocks) (sym wrote) (subst (HangsEach first (counted b (held + count))) all (was.some some))
+
+    pub count_each : nfree_of two ≤ 50
+    count_each = (let s = was.sized in let c : nfree_of two ≡ held + count = ap nfree_of wrote ∙ word_back b 6 (held + count) (omega (arith, s)) (omega (arith, fits)) in omega (arith, c, fits))
 
 -- ---- a full list, which moves into the block
 

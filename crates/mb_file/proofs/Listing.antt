@@ -108,6 +108,10 @@ listable_behind before block more listable = record {
   few = (let few = listable.few in let n = length-append before (block ∷ []) in omega (arith, few, n));
 }
 
+-- nothing is listed for a hole
+pub pushed_none : (shown : ℕ → Option (List ℕ)) (changes : ChangeList) (address levels : ℕ) (list : List ℕ) → address ≡ 0 → PushesUnder shown changes address levels list list walked.Done
+pushed_none shown changes address levels list none blocks _ listable = sym (append-nil list) ∙ ap (λ xs. list ++ xs) (sym (under_none (pointers (over blocks (changed changes))) levels address none))
+
 -- ---- the addresses of an index block
 
 pub record HasPushed (shown : ℕ → Option (List ℕ)) (changes : ChangeList) (block lower : ℕ) (before now : List ℕ) (left : ℕ) : Type 0 where
@@ -190,7 +194,7 @@ none_is : (part : ℕ) → part ≡ 0 → cond (nat_lt 0 part) (part ∷ []) [] 
 none_is part none = (let t : nat_lt 0 part ≡ false = grind (arith, nat_tests) in ap (λ b. cond b (part ∷ []) []) t)
 
 -- 1 for a part and 0 for any other number of 32 bits, by one test
-is_part : (part some : ℕ) → part < 4294967296 → some ≡ bool_byte (ltb ((part + 4294967295) % 4294967296) 262143) → ((some ≡ 1) × (0 < part) × (part < 262144)) ⊎ ((some ≡ 0) × ((part ≡ 0) ⊎ (262144 ≤ part)))
+pub is_part : (part some : ℕ) → part < 4294967296 → some ≡ bool_byte (ltb ((part + 4294967295) % 4294967296) 262143) → ((some ≡ 1) × (0 < part) × (part < 262144)) ⊎ ((some ≡ 0) × ((part ≡ 0) ⊎ (262144 ≤ part)))
 is_part part some wide told = elim (cases_lt ((part + 4294967295) % 4294967296) 262143) [
   | inl low ↦ (let t : ltb ((part + 4294967295) % 4294967296) 262143 ≡ true = grind (arith, nat_tests) in inl (told ∙ ap bool_byte t, omega (arith, wide, low), omega (arith, wide, low)))
   | inr high ↦
@@ -294,3 +298,8 @@ module _ (shown : ℕ → Option (List ℕ)) (changes : ChangeList) (d : Dinode)
       let ps = pointers (over blocks (changed changes)) in
       let there = subst (λ c. Contains (under_address ps (next - 9) c) block) reads (subst (λ n. Contains (under_address ps n address) block) down (among blocks part)) in
       among_each (λ place. under_block ps (place - 9)) (address_in d) block next 13 low there
+
+  -- a block to which an inode's own address leads
+  pub own_among : (place block first : ℕ) → place < 10 → 0 < block → block ≡ address_in d place → first ≡ block → (blocks : ℕ → List ℕ) → IsPart shown blocks → Contains (under_dinode (pointers (over blocks (changed changes))) d) first
+  own_among place block first low some is begins =
+      asked_among place 0 block first (omega (arith, low)) (omega (arith, low)) is (λ blocks _. subst (λ b. Contains (under_address (pointers (over blocks (changed changes))) 0 block) b) (sym begins) (itself_under (pointers (over blocks (changed changes))) 0 block some))

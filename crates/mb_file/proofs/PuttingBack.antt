@@ -1,10 +1,13 @@
 -- Blocks put back on the free chain one after another.
-use Rattle.std.proofs.Common.{ℕ, suc, ◌≡◌, inl, inr, ◌+◌, ◌<◌, ◌≤◌, Bool, cond, nat_eq, Option, Some, None, IsSome, List, [], ◌∷◌, ◌++◌, length, take, drop, get_or, refl, sym, ap, subst, ◌∙◌, arith, drop-cons, take-suc}
+use Rattle.std.proofs.Common.{ℕ, zero, suc, ◌≡◌, inl, inr, ◌+◌, ◌<◌, ◌≤◌, Bool, true, false, cond, nat_eq, Option, Some, None, IsSome, List, [], ◌∷◌, ◌++◌, length, take, drop, get_or, replicate, refl, sym, ap, subst, ◌∙◌, arith, drop-cons, take-suc}
+use Rattle.std.specs.Prelude.{MatchOption}
 use Rattle.std.proofs.lemmas.Bool.{cases_eq}
+use Rattle.std.proofs.lemmas.Bool.Decides.{nat_tests}
 use Rattle.std.specs.Option.{option_or}
 use Rattle.std.proofs.lemmas.List.Elements.{All-head}
 use mathlib.Core.Path.{fun_ext}
 use Rattle.mb_word.specs.Fields.{nfree_of, ninode_of}
+use Rattle.mb_word.specs.Numbers.{put_at}
 use Rattle.mb_word.proofs.Values.{word_at-same}
 use Rattle.mb_tree.specs.Views.{over, IsPart}
 use Rattle.mb_tree.specs.Volume.{IsOpenToFiles}
@@ -14,11 +17,11 @@ use Rattle.mb_blocks.proofs.Freeing.{laid_freed}
 use Rattle.mb_blocks.proofs.Keeping.{sizes_same}
 use Rattle.mb_blocks.proofs.LaidRules.{laid_rules}
 use Rattle.mb_iface.specs.Changed.{ChangeList, changed, put_block, shown_over, IsWithinView}
-use Rattle.mb_iface.proofs.ChangedBlocks.{put_block_same, put_block_other}
+use Rattle.mb_iface.proofs.ChangedBlocks.{over_put, put_block_same, put_block_other}
 use Rattle.mb_iface.proofs.WithinViews.{found_within, within_put}
 use Rattle.mb_alloc.specs.declared.frees.Hung.TheVariants as hung
 use Rattle.mb_alloc.proofs.Takings.{too_many}
-use Rattle.mb_file.specs.Freeing.{AreInHand, Hangs, MovesList, PutsBack, PutsAllBack}
+use Rattle.mb_file.specs.Freeing.{AreInHand, Hangs, HangsEach, MovesList, PutsBack, PutsAllBack}
 
 -- one block more put back behind others
 freed_more : (old mid new : ℕ → List ℕ) (xs : List ℕ) (block : ℕ) → AreFreed old mid xs → IsFreed mid new block → AreFreed old new (xs ++ block ∷ [])
@@ -85,6 +88,10 @@ put_twice blocks one early late = fun_ext (λ other. elim (cases_eq other one) [
   | inr apart ↦ put_block_other (put_block blocks one early) one late other apart ∙ put_block_other blocks one early other apart ∙ sym (put_block_other blocks one late other apart)
 ])
 
+either_twice : (b : Bool) (x y z : Option (List ℕ)) → cond b x (cond b y z) ≡ cond b x z
+either_twice true x y z = refl
+either_twice false x y z = refl
+
 -- a block of a view is one under changes
 shown_still : (c s : Option (List ℕ)) → IsSome s → IsSome (option_or c s)
 shown_still None s some = some
@@ -109,6 +116,21 @@ module _ (shown : ℕ → Option (List ℕ)) (old : ChangeList) (first after : L
         put_between now 1 first block held after ∙ ap (λ (b : ℕ → List ℕ). put_block b 1 after) (sym (wrote blocks)) in
         subst (λ (x : ℕ → List ℕ). IsFreed (put_block now 1 first) x block) is (moves (put_block now 1 first) (put_block_same now 1 first) keeps real small)),
   )
+
+  -- the block written as zeros first, and the list over them
+  pub back_patched : (mid new : ChangeList) (held bytes : List ℕ) → held ≡ put_at (replicate 512 0) 0 bytes → MovesList first after held block → IsSome (shown block)
+      → ((other : ℕ) → changed mid other ≡ cond (nat_eq block other) (Some (replicate 512 0)) (changed old other))
+      → MatchOption (changed mid block) (new ≡ mid) (λ was. (other : ℕ) → changed new other ≡ cond (nat_eq block other) (Some (put_at was 0 bytes)) (changed mid other))
+      → PutsBack shown old new first after block hung.Done
+  back_patched mid new held bytes is moves there zeros patched =
+      let t : nat_eq block block ≡ true = grind (arith, nat_tests) in
+      let here : changed mid block ≡ Some (replicate 512 0) = zeros block ∙ ap (λ b. cond b (Some (replicate 512 0)) (changed old block)) t in
+      let over_zeros : (other : ℕ) → changed new other ≡ cond (nat_eq block other) (Some (put_at (replicate 512 0) 0 bytes)) (changed mid other) =
+      subst (λ o. MatchOption o (new ≡ mid) (λ was. (other : ℕ) → changed new other ≡ cond (nat_eq block other) (Some (put_at was 0 bytes)) (changed mid other))) here patched in
+      let each : (other : ℕ) → changed new other ≡ cond (nat_eq block other) (Some held) (changed old other) = (λ other.
+      over_zeros other ∙ ap (λ x. cond (nat_eq block other) (Some x) (changed mid other)) (sym is) ∙ ap (cond (nat_eq block other) (Some held)) (zeros other)
+      ∙ either_twice (nat_eq block other) (Some held) (Some (replicate 512 0)) (changed old other)) in
+      back_moved new held moves there each (over_put old new block held each)
 
 -- ---- some of them put back
 
@@ -165,6 +187,17 @@ module _ (shown : ℕ → Option (List ℕ)) (old : ChangeList) (list : List ℕ
           hand = subst (λ n. AreInHand has then (drop n list) (block ∷ so_far.left)) step next;
         });
   }
+
+  -- addresses that are put into a list with room
+  pub put_each : (mid : ChangeList) (after : List ℕ) (n : ℕ) (first : List ℕ) (count : ℕ) → count + n ≤ length list → HangsEach first after (take n (drop count list)) → HasPutBack shown old mid first list count
+      → HasPutBack shown old mid after list (count + n)
+  put_each mid after zero first count low hangs was = subst (λ b. HasPutBack shown old mid b list (count + 0)) (sym hangs) (subst (HasPutBack shown old mid first list) (let e : count ≡ count + 0 = omega arith in e) was)
+  put_each mid after (suc n) first count low hangs was =
+      let split : take (suc n) (drop count list) ≡ get_or list count 0 ∷ take n (drop (count + 1) list) =
+      ap (take (suc n)) (drop-cons list count 0 (omega (arith, low))) ∙ ap (λ k. get_or list count 0 ∷ take n (drop k list)) (let e : suc count ≡ count + 1 = omega arith in e) in
+      let hung = subst (HangsEach first after) split hangs in
+      let next = put_next mid mid first hung.0 count (get_or list count 0) (omega (arith, low)) refl hung.2 (back_hung shown mid first hung.0 (get_or list count 0) hung.1) was in
+      subst (HasPutBack shown old mid after list) (let e : count + 1 + n ≡ count + suc n = omega arith in e) (put_each mid after n hung.0 (count + 1) (omega (arith, low)) hung.3 next)
 
   pub put_all : (mid new : ChangeList) (first : List ℕ) (count : ℕ) → take count list ≡ list → IsSome (shown_over shown old 1) → ((other : ℕ) → changed new other ≡ cond (nat_eq 1 other) (Some first) (changed mid other))
       → ((blocks : ℕ → List ℕ) → over blocks (changed new) ≡ put_block (over blocks (changed mid)) 1 first) → HasPutBack shown old mid first list count → PutsAllBack shown old new list hung.Done

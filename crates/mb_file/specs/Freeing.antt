@@ -1,8 +1,10 @@
 -- Blocks in hand put back on the free chain one after another.
-use Rattle.std.specs.Prelude.{List, [], ℕ, ◌<◌, ◌≤◌, ◌≡◌, ◌⊎◌, Bool, Option, IfSome}
+use Rattle.std.specs.Prelude.{List, [], ◌∷◌, ℕ, ◌<◌, ◌≤◌, ◌≡◌, ◌⊎◌, Bool, Option, IfSome, drop, replicate, take}
 use Rattle.std.specs.List.{Contains}
 use Rattle.std.specs.List.Sorted.{IsPermutation}
-use Rattle.mb_word.specs.Fields.{fsize_of, isize_of, ninode_of}
+use Rattle.mb_word.specs.Fields.{fsize_of, isize_of, nfree_of, ninode_of}
+use Rattle.mb_word.specs.Numbers.{put_at}
+use Rattle.mb_layout.specs.declared.dinodes.Dinode.{Dinode}
 use Rattle.mb_tree.specs.Blocks.{pointers}
 use Rattle.mb_tree.specs.Places.{Pointers}
 use Rattle.mb_tree.specs.Views.{over, IsPart}
@@ -14,7 +16,7 @@ use Rattle.mb_iface.specs.Needs.{IsNeed}
 use Rattle.mb_iface.specs.declared.replies.Need.{Need}
 use Rattle.mb_alloc.specs.declared.frees.Hung.{Hung}
 use Rattle.mb_alloc.specs.declared.frees.Hung.TheVariants as hung
-use Rattle.mb_file.specs.Walking.{IsListable}
+use Rattle.mb_file.specs.Walking.{IsListable, under_dinode}
 use Rattle.mb_file.specs.declared.walks.Collected.{Collected}
 use Rattle.mb_file.specs.declared.walks.Collected.TheVariants as collected
 
@@ -26,6 +28,15 @@ Hangs first after block = (blocks : ℕ → List ℕ) → blocks 1 ≡ first →
 abbrev pub MovesList : List ℕ → List ℕ → List ℕ → ℕ → Type 0
 MovesList first after held block = (blocks : ℕ → List ℕ) → blocks 1 ≡ first → KeepsRules blocks → 1 < block → block < 262144
     → IsFreed blocks (put_block (put_block blocks block held) 1 after) block
+
+-- a block that holds the super-block's list, and zeros behind it
+abbrev pub list_block : List ℕ → List ℕ
+list_block first = put_at (replicate 512 0) 0 (take 202 (drop 6 first))
+
+-- steps at lists with room, one after another
+abbrev pub HangsEach : List ℕ → List ℕ → List ℕ → Type 0
+HangsEach first after [] = after ≡ first
+HangsEach first after (block ∷ blocks) = (mid : List ℕ) × Hangs first mid block × (nfree_of mid ≤ 50) × HangsEach mid after blocks
 
 -- the step with block 1 apart: its bytes before and after in place of those under the changes
 abbrev pub PutsBack : (ℕ → Option (List ℕ)) → ChangeList → ChangeList → List ℕ → List ℕ → ℕ → Hung → Type 0
@@ -52,6 +63,16 @@ PutsAllBack shown old new list hung.NoMemory = Unit {0}
 -- block 1, or one of those that are to be put back, asked for
 abbrev pub LacksLists : (ℕ → Option (List ℕ)) → List ℕ → Option Need → Type 0
 LacksLists shown list result = IfSome result (λ need. IsNeed shown need × ((need.first ≡ 1) ⊎ Contains list need.first))
+
+-- a block that an inode holds asked for
+abbrev pub LacksHeld : (ℕ → Option (List ℕ)) → ChangeList → Dinode → Option Need → Type 0
+LacksHeld shown changes d result = IfSome result (λ need. IsNeed shown need
+    × ((blocks : ℕ → List ℕ) → IsPart shown blocks → Contains (under_dinode (pointers (over blocks (changed changes))) d) need.first))
+
+-- block 1, or a block that an inode holds, asked for
+abbrev pub LacksFirst : (ℕ → Option (List ℕ)) → ChangeList → Dinode → Option Need → Type 0
+LacksFirst shown changes d result = IfSome result (λ need. IsNeed shown need
+    × ((blocks : ℕ → List ℕ) → IsPart shown blocks → (need.first ≡ 1) ⊎ Contains (under_dinode (pointers (over blocks (changed changes))) d) need.first))
 
 -- the blocks that an inode holds, by what the addresses of blocks lead to, listed in the order in which they are put
 -- back; or block 1 or one of them asked for

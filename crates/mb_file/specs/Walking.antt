@@ -44,6 +44,10 @@ PushesUnder shown changes address levels before after (walked.Need need) = IsNee
     × ((blocks : ℕ → List ℕ) → IsPart shown blocks → Contains (under_address (pointers (over blocks (changed changes))) levels address) need.first)
 PushesUnder shown changes address levels before after walked.NoMemory = Unit {0}
 
+-- a block asked for
+abbrev pub LacksBlock : (ℕ → Option (List ℕ)) → ℕ → Option Need → Type 0
+LacksBlock shown block result = IfSome result (λ need. IsNeed shown need × (need.first ≡ block))
+
 -- index blocks looked at
 abbrev pub LacksIndex : (ℕ → Option (List ℕ)) → ChangeList → ℕ → ℕ → Option Need → Type 0
 LacksIndex shown changes address levels result = IfSome result (λ need. IsNeed shown need

@@ -18,3 +18,6 @@ returns-clause-hangs c = hung c.args.first.now c.if-held-eq0.first c.put_long-2.
 
 pub returns-clause-count : goal.returns-clause-count
 returns-clause-count c = omega (arith, count_now c.args.first.now c.if-held-eq0.first c.put_long-2.new.b c.put_word.new.b c.max-count.result c.args.block (ready c) c.requires (omega arith) (wrote c) c.put_word.ensures)
+
+pub returns-clause-some : goal.returns-clause-some
+returns-clause-some c = (let n = count_now c.args.first.now c.if-held-eq0.first c.put_long-2.new.b c.put_word.new.b c.max-count.result c.args.block (ready c) c.requires (omega arith) (wrote c) c.put_word.ensures in omega (arith, n))

@@ -5,7 +5,7 @@ use Rattle.mb_tree.specs.Views.{over}
 use Rattle.mb_iface.specs.Changed.{changed}
 use Rattle.mb_alloc.proofs.Within.{lacks}
 use Rattle.mb_file.specs.Walking.{under_address}
-use Rattle.mb_file.proofs.Listing.{HasPushed, not_listable, pushed_alone, itself_under, pushed_first, pushed_next, pushed_parts, asked_under, pushed_all}
+use Rattle.mb_file.proofs.Listing.{HasPushed, not_listable, pushed_none, pushed_alone, itself_under, pushed_first, pushed_next, pushed_parts, asked_under, pushed_all}
 use Rattle.mb_file.proofs.walks.+push_under.Goals as goal
 
 pub returns-then-address-ge262144-clause-under : goal.returns-then-address-ge262144-clause-under
@@ -51,3 +51,12 @@ loop-passed-preserved g t c = (
 pub returns-clause-under : goal.returns-clause-under
 returns-clause-under g t c = pushed_all (g.V.View.shown c.args.view.now) c.args.changes.now c.args.address (omega (arith, c.if-address-eq0.false)) c.args.levels (c.args.levels - 1) c.args.list.now.items c.loop-passed.list.items (128 - c.loop-passed.passed)
     (omega (arith, c.if-levels-eq0.false)) (omega (arith, c.loop-passed-test.false)) c.loop-passed.invariant.1
+
+pub loop-passed-preserved-then-child-eq0 : goal.loop-passed-preserved-then-child-eq0
+loop-passed-preserved-then-child-eq0 g t c = (
+  c.loop-passed.invariant.0,
+  subst (λ n. HasPushed (g.V.View.shown c.args.view.now) c.args.changes.now c.args.address (c.args.levels - 1) c.args.list.now.items c.loop-passed.list.items n) (let e : 127 - c.loop-passed.passed ≡ 128 - (c.loop-passed.passed + 1) = omega (arith, c.loop-passed-test.true) in e)
+      (pushed_next (g.V.View.shown c.args.view.now) c.args.changes.now c.args.address (omega (arith, c.if-address-eq0.false)) c.in-Some.index.now c.in-Some.ensures.found (c.args.levels - 1) c.args.list.now.items c.loop-passed.list.items c.loop-passed.list.items
+      (128 - c.loop-passed.passed) (127 - c.loop-passed.passed) c.long_at-child.result (omega (arith, c.loop-passed-test.true)) c.long_at-child.ensures
+      (pushed_none (g.V.View.shown c.args.view.now) c.args.changes.now c.long_at-child.result (c.args.levels - 1) c.loop-passed.list.items c.if-child-eq0.true) c.loop-passed.invariant.1),
+)
