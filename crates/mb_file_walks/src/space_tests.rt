@@ -1,4 +1,7 @@
-use crate::volumes::{Ended, cost, empty_on, erase_on, free, fresh, put_on, read_on, size};
+use crate::volumes::{
+    Ended, cost, empty_on, erase_on, free, fresh, fresh_of, put_on, read_on, size,
+};
+use mb_gathering::Size;
 use mb_kinds::Errno;
 use std::test::Fail;
 
@@ -88,6 +91,29 @@ fn erased_file_is_asked_for_first(rt: HostRuntime) -> Result<(), Fail> {
     let _ = put_on(rt.alloc(), &mut disk, 0, &bytes)?;
     erase_on(rt.alloc(), &mut disk)?;
     assert_eq!(rt; (cost(&disk), free(&disk), size(&disk)), (1, 95, 0));
+    Ok(())
+}
+
+/// A file of 1,000 parts, with 9 index blocks, is emptied once it has asked three times: for its inode; for block 1, its
+/// index blocks and its first parts; and for the 7 index blocks below. Its blocks get the 21 lists that this takes among
+/// these. All are free then, as many as before.
+#[test]
+fn long_file_is_emptied_after_three_asks(rt: HostRuntime) -> Result<(), Fail> {
+    let size_of_volume = Size {
+        blocks: 1_200,
+        inodes: 16,
+    };
+    let mut disk = fresh_of(rt.alloc(), size_of_volume)?;
+    let bytes = vec![in rt.alloc(); 65; 51_200]?;
+    for chunk in 0..10 {
+        let _ = put_on(rt.alloc(), &mut disk, 51_200 * chunk, &bytes)?;
+    }
+    assert_eq!(rt;
+        (cost(&disk), free(&disk), size(&disk)),
+        (1_010, 186, 512_000)
+    );
+    assert_eq!(rt; empty_on(rt.alloc(), &mut disk)?, Ended::Done(3));
+    assert_eq!(rt; (cost(&disk), free(&disk), size(&disk)), (1, 1_195, 0));
     Ok(())
 }
 

@@ -1,5 +1,5 @@
 use mb_file::{Hung, empty, erase_in, put, read};
-use mb_gathering::{Gathered, SMALL, gather, nothing};
+use mb_gathering::{Gathered, SMALL, Size, gather, nothing};
 use mb_iface::{Acted, Answer, Asked, Changes, View};
 use mb_kinds::{Errno, Octets};
 use mb_layout::Dinode;
@@ -9,7 +9,12 @@ use std::test::Fail;
 
 /// The fresh volume of 100 blocks and 16 inodes, in which inode 3 is a regular file of no bytes.
 pub fn fresh(heap: Global) -> Result<Gathered, Fail> {
-    let mut disk = mb_gathering::fresh(heap, SMALL)?;
+    fresh_of(heap, SMALL)
+}
+
+/// The fresh volume of a size, in which inode 3 is a regular file of no bytes.
+pub fn fresh_of(heap: Global, size: Size) -> Result<Gathered, Fail> {
+    let mut disk = mb_gathering::fresh(heap, size)?;
     // the mode 0100644, in the third inode of the i-list's first block
     let _ = disk.blocks.patch(2, 128, &[0xa4, 0x81]);
     Ok(disk)
