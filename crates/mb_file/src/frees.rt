@@ -135,17 +135,16 @@ fn lacking_lists<V: View>(view: &V, changes: &Changes, list: &[u32]) -> Option<N
 }
 
 /// How many of a file's first parts are asked for before its blocks are listed, so that with its index blocks as many
-/// are there as get a full list of the chain: by its size, as if it had no holes, and for at least 50 blocks.
-fn wanted_parts(size: u32) -> u32
-    ensures { result ≤ 262144 }
-{
+/// are there as get a full list of the chain: by its size, as if it had no holes. None for fewer than 50 blocks, and at
+/// most 256, for a file may have holes behind them.
+fn wanted_parts(size: u32) -> u32 {
     let parts = parts_of(size);
     let index = index_blocks(parts);
     let blocks = parts + index;
     if blocks < 50 {
         return 0;
     }
-    ((blocks + 49) / 50).saturating_sub(index)
+    ((blocks + 49) / 50).saturating_sub(index).min(256)
 }
 
 /// Block 1 and the blocks of addresses to which an inode leads, as far as the view lacks them and a need does not
@@ -165,7 +164,7 @@ fn lacking_roots<V: View>(view: &V, changes: &Changes, inode: &Dinode, need: &Ne
 }
 
 /// The first run of blocks that the view lacks among the first parts of a file of many, which are neighbours in most
-/// files: as far as the index blocks that are there tell them.
+/// files: up to a hole, and as far as the index blocks that are there tell them.
 fn lacking_parts<V: View>(view: &V, changes: &Changes, inode: &Dinode) -> Option<Need>
     ensures { LacksHeld (V.shown view.now) changes.now inode.now result }
 {

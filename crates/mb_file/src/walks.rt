@@ -206,12 +206,14 @@ fn lacking_index<V: View>(view: &V, changes: &Changes, address: u32, levels: u8)
 }
 
 /// The run of blocks that the view lacks from a part's block on, and that are wanted of so many parts; where the view
-/// has the block, the part is taken off these. It stands in each of its callers, whose way is short there.
+/// has the block, the part is taken off these, and at a hole all are. It stands in each of its callers, whose way is
+/// short there.
 #[inline(always)]
 pub(crate) fn lacking_part<V: View>(view: &V, block: u32, left: &mut u32) -> Option<Need>
     ensures { LacksBlock (V.shown view.now) block result }
 {
     if block == 0 || block >= 262_144 {
+        *left = 0;
         return None;
     }
     if view.get(block).is_none() {
@@ -237,6 +239,7 @@ pub(crate) fn lacking_under<V: View>(
     ensures { LacksIndex (V.shown view.now) changes.now address levels result }
 {
     if address == 0 || address >= 262_144 {
+        *left = 0;
         return None;
     }
     let Some(index) = seen(view, changes, address) else {
