@@ -2,7 +2,7 @@ ghost use Rattle.std.specs.Prelude.{◌≤◌, ◌<◌};
 ghost use Rattle.mb_namei.specs.Frontiers.{LacksPart};
 
 use crate::addresses::Addresses;
-use crate::parts::{Fetched, fetch};
+use crate::parts::{AT_ONCE, Fetched, fetch};
 use crate::slots::{Glimpse, may_have_name, scan_slots};
 use mb_iface::{Changes, Need, View, seen};
 use mb_kinds::Name;
@@ -10,7 +10,8 @@ use mb_kinds::Name;
 /// The next blocks that the view lacks of a directory's parts, as long as the parts that it got last do not
 /// have the name: so a search that begins anew with more blocks goes through each block about twice in all,
 /// and through those of a directory of more than 16 that stand apart, which come by eight, up to five
-/// times. The parts are got in a row, so the last one is there only where all are.
+/// times. The parts are got in a row, so the last one is there only where all are. Nothing where all parts are
+/// asked for at once.
 #[inline(always)]
 pub(crate) fn lacking_part<V: View>(
     view: &V,
@@ -22,13 +23,13 @@ pub(crate) fn lacking_part<V: View>(
     requires { parts ≤ 2113674 }
     ensures { LacksPart (V.shown view.now) changes.now dir result }
 {
-    if parts < 2 {
+    if parts <= AT_ONCE {
         return None;
     }
     lacking_of_many(view, changes, dir, parts, name)
 }
 
-/// The same of a directory of several parts. It stays out of its callers, whose way through one part is
+/// The same of a directory of many parts. It stays out of its callers, whose way through few parts is
 /// short.
 #[inline(never)]
 fn lacking_of_many<V: View>(
@@ -38,7 +39,7 @@ fn lacking_of_many<V: View>(
     parts: u32,
     name: &Name,
 ) -> Option<Need>
-    requires several { 2 ≤ parts }
+    requires many { 9 ≤ parts }
     requires few { parts ≤ 2113674 }
     ensures { LacksPart (V.shown view.now) changes.now dir result }
 {
@@ -85,8 +86,8 @@ fn parts_there<V: View>(view: &V, changes: &Changes, addresses: &Addresses<'_>, 
     there
 }
 
-/// Whether a name stands in the parts that were got last before one: those from its half on, but no more
-/// than are asked for at once.
+/// Whether a name stands in the parts that were got last before one: all of the first eight, later those from its
+/// half on, but no more than are asked for at once.
 fn has_name_before<V: View>(
     view: &V,
     changes: &Changes,
@@ -96,7 +97,12 @@ fn has_name_before<V: View>(
 ) -> bool
     requires { part < 2113674 }
 {
-    for before in (part / 2).max(part.saturating_sub(32))..part {
+    let from = if part <= AT_ONCE {
+        0
+    } else {
+        (part / 2).max(part.saturating_sub(32))
+    };
+    for before in from..part {
         if has_name(view, changes, addresses, before, name) {
             return true;
         }

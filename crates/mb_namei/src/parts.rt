@@ -6,6 +6,9 @@ use crate::addresses::Addresses;
 use mb_bmap::{Located, address};
 use mb_iface::{Changes, Need, Others, View, seen};
 
+/// How many parts are asked for at once at first. To gather a block in vain costs less than to begin anew.
+pub(crate) const AT_ONCE: u32 = 8;
+
 /// A part of a file, read from its block.
 #[derive(Drop)]
 pub(crate) enum Fetched<'a> {
@@ -45,9 +48,9 @@ pub(crate) fn fetch<'a, V: View>(
     }
 }
 
-/// What is asked for where the view lacks a part's block: as many parts as were passed before it and one
-/// more, at most 32, so what is asked for doubles while a file is gone through. Its neighbours are asked
-/// for with it, and beside them up to seven blocks that stand apart. It stays out of its callers.
+/// What is asked for where the view lacks a part's block: eight parts, and later as many as were passed before
+/// it and one more, at most 32, so what is asked for doubles while a file is gone through. Its neighbours are
+/// asked for with it, and beside them up to seven blocks that stand apart. It stays out of its callers.
 #[inline(never)]
 fn lacked<V: View>(view: &V, changes: &Changes, ino: u16, part: u32, parts: u32, block: u32) -> Need
     requires few { parts ≤ 2113674 }
@@ -58,7 +61,7 @@ fn lacked<V: View>(view: &V, changes: &Changes, ino: u16, part: u32, parts: u32,
     ensures need { IsNeed (V.shown view.now) result }
     ensures first { result.first ≡ block }
 {
-    let most = (part + 1).min(parts - part).min(32);
+    let most = (part + 1).max(AT_ONCE).min(parts - part).min(32);
     if most == 1 {
         return Need::one(block);
     }

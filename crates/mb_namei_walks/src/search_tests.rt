@@ -44,31 +44,31 @@ fn slots_of_a_small_directory(rt: HostRuntime) -> Result<(), Fail> {
     Ok(())
 }
 
-/// A directory of 32 neighbouring blocks is asked for in windows that double: the inode's block, and its
-/// parts in 6 runs, with the third of which the index block comes.
+/// A directory of 32 neighbouring blocks is asked for in windows that double from eight on: the inode's block, and
+/// its parts in 3 runs, with the first of which the index block comes.
 #[test]
 fn windows_double(rt: HostRuntime) -> Result<(), Fail> {
     let disk = volume(rt.alloc())?;
     let (last, asked) = search_on(rt.alloc(), &disk, 5, 16_000, &numbered(999))?;
     assert_eq!(rt; last, Sought::Found { at: 999, ino: 4 });
-    assert_eq!(rt; asked, 7);
+    assert_eq!(rt; asked, 4);
     let (full, _) = search_on(rt.alloc(), &disk, 5, 16_000, b"none")?;
     assert_eq!(rt; full, Sought::Full);
     Ok(())
 }
 
-/// So is a directory of 20 blocks none of which is beside another, up to 8 of them at once: in 5 windows.
+/// So is a directory of 20 blocks none of which is beside another, up to 8 of them at once: in 3 windows.
 #[test]
 fn windows_of_blocks_apart_double(rt: HostRuntime) -> Result<(), Fail> {
     let disk = volume_apart(rt.alloc())?;
     let (full, asked) = search_on(rt.alloc(), &disk, 5, 10_240, b"none")?;
     assert_eq!(rt; full, Sought::Full);
-    assert_eq!(rt; asked, 6);
+    assert_eq!(rt; asked, 4);
     let (last, _) = search_on(rt.alloc(), &disk, 5, 10_240, &numbered(639))?;
     assert_eq!(rt; last, Sought::Found { at: 639, ino: 4 });
     let (second, asked) = search_on(rt.alloc(), &disk, 5, 10_240, &numbered(32))?;
     assert_eq!(rt; second, Sought::Found { at: 32, ino: 4 });
-    assert_eq!(rt; asked, 3);
+    assert_eq!(rt; asked, 2);
     Ok(())
 }
 
@@ -86,11 +86,9 @@ fn nothing_is_asked_for_behind_a_name(rt: HostRuntime) -> Result<(), Fail> {
             }
         );
         let windows = match part {
-            0 => 1,
-            1..=2 => 2,
-            3..=6 => 3,
-            7..=14 => 4,
-            _ => 5,
+            0..=6 => 1,
+            7..=14 => 2,
+            _ => 3,
         };
         assert_eq!(rt; asked, 1 + windows);
     }
