@@ -148,6 +148,14 @@ impl Changes {
         })
     }
 
+    /// Makes room for so many changed blocks more, so that these take no memory each on their own. Nothing
+    /// else changes. The only error is want of memory.
+    pub fn reserve(&mut self, more: usize) -> Result<(), AllocError>
+        ensures { self.new ≡ self.old }
+    {
+        self.map.reserve(more)
+    }
+
     /// How many blocks are changed.
     pub fn len(&self) -> usize
         ensures count { result ≡ length self.now }
