@@ -247,6 +247,8 @@ pub(crate) fn put_all_back<V: View>(view: &V, changes: &mut Changes, list: &[u32
         return Hung::Done;
     }
     let mut first = *found;
+    // one in fifty gets a full list of the chain, and block 1 is changed; without room each takes its own
+    let _ = changes.reserve(list.len() / 50 + 2);
     let mut next = 0;
     while next < list.len() {
         match put_back(view, changes, &mut first, list[next]) {

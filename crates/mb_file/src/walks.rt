@@ -226,8 +226,8 @@ pub(crate) fn lacking_part<V: View>(view: &V, block: u32, left: &mut u32) -> Opt
 }
 
 /// The first run of blocks that the view lacks among the parts under an index block, so many levels down, the first
-/// ones first, of so many parts: those that are there are taken off these, and all where an index block on the way is
-/// not there.
+/// ones first, of so many parts: those that are there are taken off these, and all at a hole and where an index block
+/// on the way is not there.
 pub(crate) fn lacking_under<V: View>(
     view: &V,
     changes: &Changes,

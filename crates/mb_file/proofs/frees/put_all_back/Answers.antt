@@ -9,7 +9,8 @@ returns-then-word_at-gt50 g c = put_never (g.V.View.shown c.args.view.now) c.arg
 pub loop-next-init : goal.loop-next-init
 loop-next-init g c = (
   omega arith,
-  put_first (g.V.View.shown c.args.view.now) c.args.changes.now c.args.list.now c.in-Some.found.now (subst (λ n. n ≤ 50) c.word_at.ensures (omega (arith, c.if-word_at-gt50.false))) c.in-Some.ensures.found,
+  subst (λ changes. HasPutBack (g.V.View.shown c.args.view.now) c.args.changes.now changes c.in-Some.found.now c.args.list.now 0) (sym c.reserve.ensures)
+      (put_first (g.V.View.shown c.args.view.now) c.args.changes.now c.args.list.now c.in-Some.found.now (subst (λ n. n ≤ 50) c.word_at.ensures (omega (arith, c.if-word_at-gt50.false))) c.in-Some.ensures.found),
 )
 
 pub loop-next-preserved : goal.loop-next-preserved
