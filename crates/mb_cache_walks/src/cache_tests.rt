@@ -52,30 +52,50 @@ fn read(cache: &mut Cache<MemDisk>, block: u32) -> Result<[u8; 512], ReadFault> 
     Ok(bytes)
 }
 
+// Whether a block is filled with one byte.
+fn holds(cache: &mut Cache<MemDisk>, block: u32, byte: u8) -> bool {
+    read(cache, block) == Ok([byte; 512])
+}
+
+// Whether the disk fails at the read of a block.
+fn fails(cache: &mut Cache<MemDisk>, block: u32) -> bool {
+    read(cache, block) == Err(ReadFault::Device)
+}
+
+// Whether the disk has so many bytes.
+fn has_size(disk: &MemDisk, size: usize) -> bool {
+    disk.bytes().len() == size
+}
+
+// Whether a byte of the disk is there.
+fn has_byte(disk: &MemDisk, at: usize, byte: u8) -> bool {
+    disk.bytes().get(at) == Some(&byte)
+}
+
 fn layers(rt: &impl Abort, alloc: Global, cache: &mut Cache<MemDisk>) -> Result<(), Fail> {
-    assert!(rt; read(cache, 2) == Ok([1; 512]));
-    assert!(rt; read(cache, 9) == Ok([0; 512]));
+    assert!(rt; holds(cache, 2, 1));
+    assert!(rt; holds(cache, 9, 0));
     install(alloc, cache, (2, 22), (9, 99))?;
-    assert!(rt; read(cache, 2) == Ok([22; 512]));
-    assert!(rt; read(cache, 9) == Ok([99; 512]));
+    assert!(rt; holds(cache, 2, 22));
+    assert!(rt; holds(cache, 9, 99));
     assert!(rt; cache.flush_one() == Flushed::Clean);
     cache.seal();
     install(alloc, cache, (9, 98), (3, 33))?;
     cache.forget_clean();
-    assert!(rt; read(cache, 2) == Ok([22; 512]));
-    assert!(rt; read(cache, 3) == Ok([33; 512]));
-    assert!(rt; read(cache, 9) == Ok([98; 512]));
+    assert!(rt; holds(cache, 2, 22));
+    assert!(rt; holds(cache, 3, 33));
+    assert!(rt; holds(cache, 9, 98));
     for (block, stamp) in [(2, 1), (3, 1), (9, 2), (4, 0)] {
         assert_eq!(rt; cache.stamp(block), stamp, "of block {block}");
     }
     cache.drop_current();
-    assert!(rt; read(cache, 3) == Ok([1; 512]));
-    assert!(rt; read(cache, 9) == Ok([99; 512]));
+    assert!(rt; holds(cache, 3, 1));
+    assert!(rt; holds(cache, 9, 99));
     assert_eq!(rt; cache.stamp(9), 2);
     assert!(rt; cache.flush_one() == Flushed::One);
     assert!(rt; cache.flush_one() == Flushed::One);
     assert!(rt; cache.flush_one() == Flushed::Clean);
-    assert!(rt; read(cache, 9) == Ok([99; 512]));
+    assert!(rt; holds(cache, 9, 99));
     Ok(())
 }
 
@@ -85,8 +105,7 @@ fn a_block_is_seen_through_its_layers(rt: HostRuntime) -> Result<(), Fail> {
     let seen = layers(&rt, rt.alloc(), &mut cache);
     let disk = cache.into_disk();
     seen?;
-    assert_eq!(rt; disk.bytes().len(), 10 * 512);
-    assert_eq!(rt; disk.bytes().get(1024), Some(&22));
+    assert!(rt; has_size(&disk, 10 * 512) && has_byte(&disk, 1024, 22));
     Ok(())
 }
 
@@ -95,8 +114,8 @@ fn failing(rt: &impl Abort, alloc: Global, cache: &mut Cache<MemDisk>) -> Result
     cache.seal();
     assert!(rt; cache.flush_one() == Flushed::One);
     assert!(rt; cache.flush_one() == Flushed::Device);
-    assert!(rt; read(cache, 1) == Ok([11; 512]));
-    assert!(rt; read(cache, 2) == Ok([22; 512]));
+    assert!(rt; holds(cache, 1, 11));
+    assert!(rt; holds(cache, 2, 22));
     assert!(rt; cache.flush_one() == Flushed::One);
     assert!(rt; cache.flush_one() == Flushed::Clean);
     Ok(())
@@ -108,8 +127,7 @@ fn a_page_whose_write_back_failed_waits_on(rt: HostRuntime) -> Result<(), Fail> 
     let seen = failing(&rt, rt.alloc(), &mut cache);
     let disk = cache.into_disk();
     seen?;
-    assert_eq!(rt; disk.bytes().get(512), Some(&11));
-    assert_eq!(rt; disk.bytes().get(1024), Some(&22));
+    assert!(rt; has_byte(&disk, 512, 11) && has_byte(&disk, 1024, 22));
     Ok(())
 }
 
@@ -129,11 +147,11 @@ fn strokes(rt: &impl Abort, alloc: Global, cache: &mut Cache<MemDisk>) -> Result
     })?;
     damage.push(Stroke::Count { ino: 3, count: 0 })?;
     cache.damage(&damage);
-    assert!(rt; read(cache, 1) == Ok([11; 512]));
-    assert!(rt; read(cache, 2) == Ok([5; 512]));
-    assert!(rt; read(cache, 3) == Ok([6; 512]));
+    assert!(rt; holds(cache, 1, 11));
+    assert!(rt; holds(cache, 2, 5));
+    assert!(rt; holds(cache, 3, 6));
     cache.drop_current();
-    assert!(rt; read(cache, 2) == Ok([22; 512]));
+    assert!(rt; holds(cache, 2, 22));
     Ok(())
 }
 
@@ -163,13 +181,13 @@ fn a_block_is_pinned_more_than_once(rt: HostRuntime) -> Result<(), Fail> {
 
 // A block is read once, also where the second read fails; it is read again once the clean pages are forgotten.
 fn read_once(rt: &impl Abort, cache: &mut Cache<MemDisk>) {
-    assert!(rt; read(cache, 2) == Ok([1; 512]));
-    assert!(rt; read(cache, 2) == Ok([1; 512]));
-    assert!(rt; read(cache, 3) == Err(ReadFault::Device));
-    assert!(rt; read(cache, 3) == Ok([1; 512]));
-    assert!(rt; read(cache, 2) == Ok([1; 512]));
+    assert!(rt; holds(cache, 2, 1));
+    assert!(rt; holds(cache, 2, 1));
+    assert!(rt; fails(cache, 3));
+    assert!(rt; holds(cache, 3, 1));
+    assert!(rt; holds(cache, 2, 1));
     cache.forget_clean();
-    assert!(rt; read(cache, 2) == Err(ReadFault::Device));
+    assert!(rt; fails(cache, 2));
 }
 
 #[test]
@@ -189,7 +207,7 @@ fn read_many(rt: &impl Abort, cache: &mut Cache<MemDisk>) {
     for block in 1..1025 {
         assert!(rt; read(cache, block).is_ok());
     }
-    assert!(rt; read(cache, 0) == Err(ReadFault::Device));
+    assert!(rt; fails(cache, 0));
 }
 
 #[test]
@@ -203,18 +221,18 @@ fn clean_pages_are_1024(rt: HostRuntime) -> Result<(), Fail> {
 // Of two blocks that are read and changed, the first one's write fails. Block 2, whose write was done, is a clean page then, and
 // block 1 is one again as soon as its page was written: the disk is read no third time.
 fn written_back(rt: &impl Abort, alloc: Global, cache: &mut Cache<MemDisk>) -> Result<(), Fail> {
-    assert!(rt; read(cache, 1) == Ok([1; 512]));
-    assert!(rt; read(cache, 2) == Ok([1; 512]));
+    assert!(rt; holds(cache, 1, 1));
+    assert!(rt; holds(cache, 2, 1));
     install(alloc, cache, (2, 22), (1, 11))?;
     cache.seal();
     assert!(rt; cache.flush_one() == Flushed::Device);
-    assert!(rt; read(cache, 1) == Ok([11; 512]));
+    assert!(rt; holds(cache, 1, 11));
     assert!(rt; cache.flush_one() == Flushed::One);
     assert!(rt; cache.flush_one() == Flushed::One);
     assert!(rt; cache.flush_one() == Flushed::Clean);
-    assert!(rt; read(cache, 1) == Ok([11; 512]));
-    assert!(rt; read(cache, 2) == Ok([22; 512]));
-    assert!(rt; read(cache, 3) == Err(ReadFault::Device));
+    assert!(rt; holds(cache, 1, 11));
+    assert!(rt; holds(cache, 2, 22));
+    assert!(rt; fails(cache, 3));
     Ok(())
 }
 

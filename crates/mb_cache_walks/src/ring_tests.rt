@@ -7,6 +7,7 @@ use rand_core::utils::NextWord;
 use rand_pcg::Pcg32;
 use std::alloc::Global;
 use std::marker::Send;
+use std::process::Abort;
 
 // A page whose first bytes are the number.
 fn numbered(number: u32) -> [u8; 512] {
@@ -15,9 +16,24 @@ fn numbered(number: u32) -> [u8; 512] {
     bytes
 }
 
-#[test]
-fn pages_move_between_rings(rt: HostRuntime) -> Result<(), NoMemory> {
-    let mut rings = Rings::new(rt.alloc(), 2)?;
+fn is_numbered(bytes: Option<&[u8; 512]>, number: u32) -> bool {
+    match bytes {
+        Some(bytes) => *bytes == numbered(number),
+        None => false,
+    }
+}
+
+// Whether a page is that of a block, with a number.
+fn is_of(page: Option<(u32, &[u8; 512])>, block: u32, number: u32) -> bool {
+    match page {
+        Some((at, bytes)) => at == block && *bytes == numbered(number),
+        None => false,
+    }
+}
+
+fn move_between(rt: &impl Abort, rings: &mut Rings) -> Result<(), NoMemory>
+    requires { length rings.old.rings ≡ 2 }
+{
     rings.reserve(4)?;
     let a = rings.put(0, 11, &numbered(1));
     let b = rings.put(0, 12, &numbered(2));
@@ -26,15 +42,15 @@ fn pages_move_between_rings(rt: HostRuntime) -> Result<(), NoMemory> {
     rings.unlink(b);
     rings.splice(0, 1);
     assert!(rt; rings.page(0, 0).is_none());
-    assert_eq!(rt; rings.page(1, 0), Some(&numbered(4)));
-    assert_eq!(rt; rings.page(1, 1), Some(&numbered(1)));
-    assert_eq!(rt; rings.page(1, 2), Some(&numbered(3)));
+    assert!(rt; is_numbered(rings.page(1, 0), 4));
+    assert!(rt; is_numbered(rings.page(1, 1), 1));
+    assert!(rt; is_numbered(rings.page(1, 2), 3));
     assert!(rt; rings.page(1, 3).is_none());
     assert_eq!(rt; rings.spare(9), 1);
     rings.write(&c, &numbered(5));
-    assert_eq!(rt; rings.get(&a), &numbered(1));
-    assert_eq!(rt; rings.get(&c), &numbered(5));
-    assert_eq!(rt; rings.get(&d), &numbered(4));
+    assert!(rt; is_numbered(Some(rings.get(&a)), 1));
+    assert!(rt; is_numbered(Some(rings.get(&c)), 5));
+    assert!(rt; is_numbered(Some(rings.get(&d)), 4));
     rings.release(1);
     assert!(rt; rings.page(0, 0).is_none());
     assert!(rt; rings.page(1, 0).is_none());
@@ -43,37 +59,42 @@ fn pages_move_between_rings(rt: HostRuntime) -> Result<(), NoMemory> {
 }
 
 #[test]
-fn pages_keep_their_blocks(rt: HostRuntime) -> Result<(), NoMemory> {
+fn pages_move_between_rings(rt: HostRuntime) -> Result<(), NoMemory> {
     let mut rings = Rings::new(rt.alloc(), 2)?;
+    move_between(&rt, &mut rings)
+}
+
+fn keep_blocks(rt: &impl Abort, rings: &mut Rings) -> Result<(), NoMemory>
+    requires { length rings.old.rings ≡ 2 }
+{
     assert!(rt; rings.first(0).is_none());
     assert!(rt; rings.last(0).is_none());
     rings.reserve(4)?;
     let a = rings.put(0, 11, &numbered(1));
     let b = rings.put(0, 12, &numbered(2));
     let c = rings.put(1, 13, &numbered(3));
-    assert_eq!(rt; rings.first(0), Some((11, &numbered(1))));
-    assert_eq!(rt; rings.last(0), Some((12, &numbered(2))));
+    assert!(rt; is_of(rings.first(0), 11, 1));
+    assert!(rt; is_of(rings.last(0), 12, 2));
     rings.fill(0, 7);
-    assert_eq!(rt; rings.get(&a), &[7; 512]);
-    assert_eq!(rt; rings.get(&b), &[7; 512]);
-    assert_eq!(rt; rings.get(&c), &numbered(3));
+    assert!(rt; *rings.get(&a) == [7; 512]);
+    assert!(rt; *rings.get(&b) == [7; 512]);
+    assert!(rt; is_numbered(Some(rings.get(&c)), 3));
     rings.replace(0, 1, &numbered(4));
     rings.replace(0, 2, &numbered(5));
-    assert_eq!(rt; rings.get(&a), &[7; 512]);
+    assert!(rt; *rings.get(&a) == [7; 512]);
     rings.splice(0, 1);
-    assert_eq!(rt; rings.first(1), Some((13, &numbered(3))));
-    assert_eq!(rt; rings.last(1), Some((12, &numbered(4))));
+    assert!(rt; is_of(rings.first(1), 13, 3));
+    assert!(rt; is_of(rings.last(1), 12, 4));
     assert_eq!(rt; rings.block(&a), 11);
     rings.fill(0, 9);
-    assert_eq!(rt; rings.last(1), Some((12, &numbered(4))));
+    assert!(rt; is_of(rings.last(1), 12, 4));
     Ok(())
 }
 
-fn is_numbered(bytes: Option<&[u8; 512]>, number: u32) -> bool {
-    match bytes {
-        Some(bytes) => *bytes == numbered(number),
-        None => false,
-    }
+#[test]
+fn pages_keep_their_blocks(rt: HostRuntime) -> Result<(), NoMemory> {
+    let mut rings = Rings::new(rt.alloc(), 2)?;
+    keep_blocks(&rt, &mut rings)
 }
 
 // Whether the ring holds the pages with these numbers.
@@ -171,6 +192,6 @@ fn rings_and_tokens_may_cross_threads(rt: HostRuntime) -> Result<(), NoMemory> {
     rings.reserve(1)?;
     let token = may_cross(rings.put(0, 11, &numbered(1)));
     let rings = may_cross(rings);
-    assert_eq!(rt; rings.get(&token), &numbered(1));
+    assert!(rt; is_numbered(Some(rings.get(&token)), 1));
     Ok(())
 }

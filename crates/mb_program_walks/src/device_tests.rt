@@ -128,6 +128,21 @@ fn job_of_200_calls(alloc: Global) -> Result<String, AllocError> {
     Ok(job)
 }
 
+// Runs a job over a fresh volume while one write of the disk fails.
+fn fresh_run_with_failing_write(alloc: Global, job: &str, write: u64) -> Result<End, Fail> {
+    let writes = [write];
+    let failing = Failing {
+        writes: &writes,
+        ..NOTHING_FAILS
+    };
+    run(alloc, &["run", "v"], fresh(alloc)?, job, failing)
+}
+
+// Whether a run ended well, as one that nothing disturbed.
+fn is_calm(end: &End, calm: &End) -> bool {
+    end.status == 0 && end.printed == calm.printed && end.image == calm.image
+}
+
 // A write-back follows each call, and one of them fails. Before the end of the run that changes no reply, loses no page and
 // leaves the same image; in the end of the run the disk's fault is told. Behind the last write nothing is left to fail.
 #[test]
@@ -144,22 +159,12 @@ fn the_disk_fails_at_one_write_of_200_calls(rt: HostRuntime) -> Result<(), Fail>
     assert_eq!(rt; calm.status, 0);
     let (mut hidden, mut told) = (0, false);
     for write in 1..1000 {
-        let writes = [write];
-        let failing = Failing {
-            writes: &writes,
-            ..NOTHING_FAILS
-        };
-        let image = fresh(rt.alloc())?;
-        let end = run(rt.alloc(), &["run", "v"], image, job.as_str(), failing)?;
+        let end = fresh_run_with_failing_write(rt.alloc(), job.as_str(), write)?;
         if end.status == 5 {
             told = true;
             continue;
         }
-        assert_eq!(rt; end.status, 0, "write {write}");
-        assert!(rt;
-            end.printed == calm.printed && end.image == calm.image,
-            "write {write}"
-        );
+        assert!(rt; is_calm(&end, &calm), "write {write}");
         if told {
             assert!(rt; hidden > 100, "only {hidden} writes between calls");
             return Ok(());

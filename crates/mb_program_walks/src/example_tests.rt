@@ -1,5 +1,7 @@
 use crate::example_files::{HELLO_JOB, HELLO_TEXT};
-use crate::trials::{NOTHING_FAILS, checked, expect, fresh, printed, run, words_alone};
+use crate::trials::{
+    NOTHING_FAILS, checked, expect, expect_fresh, fresh, printed, run, words_alone,
+};
 use crate::volumes::{fresh_volume, hello_volume, put, volume_with};
 use mb_edge::{Bytes, Fails, MemSink, SureDisk, SureSource};
 use mb_program::{Finish, membrane_alone};
@@ -30,8 +32,8 @@ fn read_hello(rt: HostRuntime) -> Result<(), Fail> {
 
 #[test]
 fn write_hi(rt: HostRuntime) -> Result<(), Fail> {
-    let end = expect(&rt, fresh(rt.alloc())?, HI_JOB, 0, HI_TEXT)?;
-    checked(&rt, end.image, 0, "sound nodes 2 held 2 free 94\n")
+    let end = expect_fresh(&rt, HI_JOB, 0, HI_TEXT)?;
+    checked(&rt, &end.image, 0, "sound nodes 2 held 2 free 94\n")
 }
 
 // The devices that never fail.
@@ -55,13 +57,7 @@ fn write_hi_over_a_sure_disk(rt: HostRuntime) -> Result<(), Fail> {
 
 #[test]
 fn empty_job(rt: HostRuntime) -> Result<(), Fail> {
-    let end = expect(
-        &rt,
-        fresh(rt.alloc())?,
-        "calls = []",
-        0,
-        "end 0 faults 0 seal 0\n",
-    )?;
+    let end = expect_fresh(&rt, "calls = []", 0, "end 0 faults 0 seal 0\n")?;
     assert!(rt; end.image == fresh(rt.alloc())?);
     Ok(())
 }
@@ -82,7 +78,7 @@ calls = ['a creat /f 644', 'a text 3 hi', 'a open /f r', 'a read 4 9', 'a read 4
 8 a exit = 0
 end 8 faults 0 seal 8
 ";
-    expect(&rt, fresh(rt.alloc())?, job, 0, lines)?;
+    expect_fresh(&rt, job, 0, lines)?;
     Ok(())
 }
 
@@ -100,8 +96,8 @@ calls = ['a creat /f 644', 'a lseek 3 1082201087 0', 'a text 3 x', 'a text 3 y',
 6 a exit = 0
 end 6 faults 0 seal 6
 ";
-    let end = expect(&rt, fresh(rt.alloc())?, job, 0, lines)?;
-    checked(&rt, end.image, 0, "sound nodes 2 held 5 free 91\n")
+    let end = expect_fresh(&rt, job, 0, lines)?;
+    checked(&rt, &end.image, 0, "sound nodes 2 held 5 free 91\n")
 }
 
 #[test]
@@ -121,8 +117,8 @@ calls = ['a creat /f 644', 'a fill 3 48128 65', 'a creat /g 644', 'a fill 4 4812
 8 a exit = 0
 end 8 faults 0 seal 8
 ";
-    let end = expect(&rt, fresh(rt.alloc())?, job, 0, lines)?;
-    checked(&rt, end.image, 0, "sound nodes 2 held 96 free 0\n")
+    let end = expect_fresh(&rt, job, 0, lines)?;
+    checked(&rt, &end.image, 0, "sound nodes 2 held 96 free 0\n")
 }
 
 #[test]
@@ -144,8 +140,8 @@ calls = ['a creat /abcdefghijklmno 644', 'a stat /abcdefghijklmn', 'a mkdir /d 7
 10 a exit = 0
 end 10 faults 0 seal 10
 ";
-    let end = expect(&rt, fresh(rt.alloc())?, job, 0, lines)?;
-    checked(&rt, end.image, 0, "sound nodes 5 held 3 free 93\n")
+    let end = expect_fresh(&rt, job, 0, lines)?;
+    checked(&rt, &end.image, 0, "sound nodes 5 held 3 free 93\n")
 }
 
 #[test]
@@ -163,7 +159,7 @@ fn fresh_bytes(rt: HostRuntime) -> Result<(), Fail> {
         "the inode of the root, as far as its first address"
     );
     assert!(rt; end.image == fresh_volume(rt.alloc())?);
-    checked(&rt, end.image, 0, "sound nodes 1 held 1 free 95\n")
+    checked(&rt, &end.image, 0, "sound nodes 1 held 1 free 95\n")
 }
 
 // A volume is made over another one.
@@ -188,9 +184,9 @@ fn nameless_swept(rt: HostRuntime) -> Result<(), Fail> {
     put(&mut image, 2080, &[0, 0]);
     put(&mut image, 1154, &[0, 0]);
     let before = image.to_vec(rt.alloc())?;
-    checked(&rt, image, 0, "sound nodes 2 held 2 free 94\n")?;
+    checked(&rt, &image, 0, "sound nodes 2 held 2 free 94\n")?;
     let end = expect(&rt, before, "calls = []", 0, "end 0 faults 0 seal 0\n")?;
-    checked(&rt, end.image, 0, "sound nodes 1 held 1 free 95\n")
+    checked(&rt, &end.image, 0, "sound nodes 1 held 1 free 95\n")
 }
 
 // A file of ten parts: each is filled with its number and 5 more, but part 3 is a hole.

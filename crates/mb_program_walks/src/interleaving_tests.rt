@@ -1,7 +1,10 @@
 use crate::example_files::{TWO_CALLERS_JOB, TWO_CALLERS_SOUND, TWO_CALLERS_TEXT};
-use crate::trials::{NOTHING_FAILS, checked, expect, fresh, replayed, run, stale, unwound};
+use crate::trials::{
+    NOTHING_FAILS, checked, expect_fresh, fresh, is_stale, replays, run, stales, unwinds,
+};
 use mb_core_spec::Step;
 use mb_kinds::{FaultRecord, Kind};
+use std::alloc::{AllocError, Global};
 use std::test::Fail;
 
 #[test]
@@ -19,7 +22,7 @@ order = 'bbaa'
 4 b exit = 0
 end 4 faults 1 seal 4
 ";
-    let end = expect(&rt, fresh(rt.alloc())?, job, 0, lines)?;
+    let end = expect_fresh(&rt, job, 0, lines)?;
     let record = FaultRecord {
         caller: 0,
         ordinal: 1,
@@ -27,11 +30,8 @@ end 4 faults 1 seal 4
         nth: 1,
     };
     assert_eq!(rt; end.records.as_slice(), [record].as_slice());
-    assert_eq!(rt;
-        unwound(rt.alloc(), &end.trail)?.as_slice(),
-        [0, 1].as_slice()
-    );
-    checked(&rt, end.image, 0, "sound nodes 3 held 1 free 95\n")
+    unwinds(&rt, &end, &[0, 1])?;
+    checked(&rt, &end.image, 0, "sound nodes 3 held 1 free 95\n")
 }
 
 #[test]
@@ -48,9 +48,9 @@ order = 'AB'
 4 b exit = 0
 end 4 faults 0 seal 4
 ";
-    let end = expect(&rt, fresh(rt.alloc())?, job, 0, lines)?;
-    assert_eq!(rt; stale(rt.alloc(), &end.trail)?.as_slice(), [1].as_slice());
-    checked(&rt, end.image, 0, "sound nodes 2 held 1 free 95\n")
+    let end = expect_fresh(&rt, job, 0, lines)?;
+    stales(&rt, &end, &[1])?;
+    checked(&rt, &end.image, 0, "sound nodes 2 held 1 free 95\n")
 }
 
 #[test]
@@ -71,13 +71,10 @@ order = 'A Bbba A Bbba A Bbba A Bbba A Bb'
 8 b exit = 0
 end 8 faults 0 seal 8
 ";
-    let end = expect(&rt, fresh(rt.alloc())?, job, 0, lines)?;
+    let end = expect_fresh(&rt, job, 0, lines)?;
     let wanted = [0, 0, 0, 0, 1];
-    assert_eq!(rt;
-        stale(rt.alloc(), &end.trail)?.as_slice(),
-        wanted.as_slice()
-    );
-    checked(&rt, end.image, 0, "sound nodes 7 held 1 free 95\n")
+    stales(&rt, &end, &wanted)?;
+    checked(&rt, &end.image, 0, "sound nodes 7 held 1 free 95\n")
 }
 
 // `=` takes a checkpoint: what was answered before it is not done again. `>` writes a page back, and `*` makes a step of a
@@ -97,13 +94,10 @@ order = '*Aaa = Aaa >>>>> *'
 5 a exit = 0
 end 5 faults 1 seal 5
 ";
-    let end = expect(&rt, fresh(rt.alloc())?, job, 0, lines)?;
+    let end = expect_fresh(&rt, job, 0, lines)?;
     assert!(rt; end.trail.contains(&Step::Sealed(1)));
-    assert_eq!(rt;
-        replayed(rt.alloc(), &end.trail)?.as_slice(),
-        [1, 2].as_slice()
-    );
-    checked(&rt, end.image, 0, "sound nodes 2 held 2 free 94\n")
+    replays(&rt, &end, &[1, 2])?;
+    checked(&rt, &end.image, 0, "sound nodes 2 held 2 free 94\n")
 }
 
 // Who reads needs leave of the mode; moments follow the callers' first letters in the order.
@@ -126,28 +120,20 @@ order = 'ba'
 8 b exit = 0
 end 8 faults 0 seal 8
 ";
-    expect(&rt, fresh(rt.alloc())?, job, 0, lines)?;
+    expect_fresh(&rt, job, 0, lines)?;
     Ok(())
 }
 
 // The session of `examples/two-callers`.
 #[test]
 fn two_callers_are_struck_four_times(rt: HostRuntime) -> Result<(), Fail> {
-    let end = expect(
-        &rt,
-        fresh(rt.alloc())?,
-        TWO_CALLERS_JOB,
-        0,
-        TWO_CALLERS_TEXT,
-    )?;
-    checked(&rt, end.image, 0, TWO_CALLERS_SOUND)
+    let end = expect_fresh(&rt, TWO_CALLERS_JOB, 0, TWO_CALLERS_TEXT)?;
+    checked(&rt, &end.image, 0, TWO_CALLERS_SOUND)
 }
 
-// Each of eight callers makes a file, all of them step by step at the same time: as each name is a change of the root, one
-// caller after another is done. Faults strike the second and the fifth, and the recoveries go on between the steps.
-#[test]
-fn eight_callers_step_at_the_same_time(rt: HostRuntime) -> Result<(), Fail> {
-    let mut job = String::new(rt.alloc());
+// The job of eight callers, each of whom makes a file, by an order that goes round.
+fn eight_callers_job(alloc: Global) -> Result<String, AllocError> {
+    let mut job = String::new(alloc);
     job.push_str(
         "callers = ['a 0 0', 'b 0 0', 'c 0 0', 'd 0 0', 'e 0 0', 'f 0 0', 'g 0 0', 'h 0 0']\n",
     )?;
@@ -160,6 +146,14 @@ fn eight_callers_step_at_the_same_time(rt: HostRuntime) -> Result<(), Fail> {
         job.push_str("abcdefgh**")?;
     }
     job.push_str("'\n")?;
+    Ok(job)
+}
+
+// Each of eight callers makes a file, all of them step by step at the same time: as each name is a change of the root, one
+// caller after another is done. Faults strike the second and the fifth, and the recoveries go on between the steps.
+#[test]
+fn eight_callers_step_at_the_same_time(rt: HostRuntime) -> Result<(), Fail> {
+    let job = eight_callers_job(rt.alloc())?;
     let words = ["run", "v"];
     let end = run(
         rt.alloc(),
@@ -170,6 +164,6 @@ fn eight_callers_step_at_the_same_time(rt: HostRuntime) -> Result<(), Fail> {
     )?;
     assert_eq!(rt; end.status, 0);
     assert!(rt; end.printed.ends_with(b"\nend 16 faults 2 seal 16\n"));
-    assert!(rt; !stale(rt.alloc(), &end.trail)?.is_empty());
-    checked(&rt, end.image, 0, "sound nodes 9 held 1 free 95\n")
+    assert!(rt; is_stale(&end.trail));
+    checked(&rt, &end.image, 0, "sound nodes 9 held 1 free 95\n")
 }

@@ -1,7 +1,8 @@
 use crate::example_files::{WIPED_JOB, WIPED_TEXT};
 use crate::example_tests::HI_JOB;
 use crate::trials::{
-    Failing, NOTHING_FAILS, checked, expect, first_read, fresh, printed, replayed, run,
+    Failing, NOTHING_FAILS, checked, expect, expect_fresh, first_read, fresh, printed, replays,
+    replays_nothing, run,
 };
 use crate::volumes::{HELLO_CTIME_LOW, HELLO_MODE, changed_volume, hello_volume};
 use mb_core_spec::Step;
@@ -38,18 +39,15 @@ fn chmod_wiped(rt: HostRuntime) -> Result<(), Fail> {
 #[test]
 fn wiped_at_gather(rt: HostRuntime) -> Result<(), Fail> {
     let job = hi_job(rt.alloc(), "faults = ['2 gather 0 1 wipe 255']")?;
-    let end = expect(&rt, fresh(rt.alloc())?, job.as_str(), 0, HI_STRUCK)?;
-    assert_eq!(rt;
-        replayed(rt.alloc(), &end.trail)?.as_slice(),
-        [1].as_slice()
-    );
-    checked(&rt, end.image, 0, "sound nodes 2 held 2 free 94\n")
+    let end = expect_fresh(&rt, job.as_str(), 0, HI_STRUCK)?;
+    replays(&rt, &end, &[1])?;
+    checked(&rt, &end.image, 0, "sound nodes 2 held 2 free 94\n")
 }
 
 #[test]
 fn wiped_at_leave(rt: HostRuntime) -> Result<(), Fail> {
     let job = hi_job(rt.alloc(), "faults = ['1 leave 0 1 wipe 0']")?;
-    let end = expect(&rt, fresh(rt.alloc())?, job.as_str(), 0, HI_STRUCK)?;
+    let end = expect_fresh(&rt, job.as_str(), 0, HI_STRUCK)?;
     assert_eq!(rt; end.image.len(), 51200);
     assert!(rt;
         end.image[2080..].starts_with(b"\x03\0f\0\0"),
@@ -59,7 +57,7 @@ fn wiped_at_leave(rt: HostRuntime) -> Result<(), Fail> {
         end.image[2096..].starts_with(&[0; 464]),
         "the name stands once"
     );
-    checked(&rt, end.image, 0, "sound nodes 2 held 2 free 94\n")
+    checked(&rt, &end.image, 0, "sound nodes 2 held 2 free 94\n")
 }
 
 #[test]
@@ -79,12 +77,9 @@ faults = ['6 enter 0 1 wipe 170']
 8 a exit = 0
 end 8 faults 1 seal 8
 ";
-    let end = expect(&rt, fresh(rt.alloc())?, job, 0, lines)?;
+    let end = expect_fresh(&rt, job, 0, lines)?;
     let wanted = [1, 2, 3, 4, 5];
-    assert_eq!(rt;
-        replayed(rt.alloc(), &end.trail)?.as_slice(),
-        wanted.as_slice()
-    );
+    replays(&rt, &end, &wanted)?;
     Ok(())
 }
 
@@ -107,7 +102,7 @@ end 9 faults 1 seal 9
 ";
     for fault in ["7 enter 0 1 wipe 0", "8 enter 0 1 wipe 0"] {
         let job = format!(in rt.alloc(); "{calls}\nfaults = ['{fault}']\n")?;
-        expect(&rt, fresh(rt.alloc())?, job.as_str(), 0, lines)?;
+        expect_fresh(&rt, job.as_str(), 0, lines)?;
     }
     Ok(())
 }
@@ -133,13 +128,10 @@ faults = ['8 enter 0 1 wipe 4']
 9 a exit = 0
 end 9 faults 1 seal 9
 ";
-    let end = expect(&rt, fresh(rt.alloc())?, job, 0, lines)?;
+    let end = expect_fresh(&rt, job, 0, lines)?;
     let wanted = [1, 2, 3, 4];
-    assert_eq!(rt;
-        replayed(rt.alloc(), &end.trail)?.as_slice(),
-        wanted.as_slice()
-    );
-    checked(&rt, end.image, 0, "sound nodes 2 held 2 free 94\n")
+    replays(&rt, &end, &wanted)?;
+    checked(&rt, &end.image, 0, "sound nodes 2 held 2 free 94\n")
 }
 
 // Each recovery folds what the one before left, with the operations that came since; one that a fault cut off does too.
@@ -158,13 +150,10 @@ faults = ['4 enter 0 1 wipe 4', '5 enter 0 1 wipe 4', '5 replay 1 1 wipe 4']
 6 a exit = 0
 end 6 faults 3 seal 6
 ";
-    let end = expect(&rt, fresh(rt.alloc())?, job, 0, lines)?;
+    let end = expect_fresh(&rt, job, 0, lines)?;
     let wanted = [1, 2, 1, 1, 2];
-    assert_eq!(rt;
-        replayed(rt.alloc(), &end.trail)?.as_slice(),
-        wanted.as_slice()
-    );
-    checked(&rt, end.image, 0, "sound nodes 2 held 2 free 94\n")
+    replays(&rt, &end, &wanted)?;
+    checked(&rt, &end.image, 0, "sound nodes 2 held 2 free 94\n")
 }
 
 #[test]
@@ -187,7 +176,7 @@ faults = ['5 enter 0 1 wipe 255 count 3 0']
 10 a exit = 0
 end 10 faults 1 seal 10
 ";
-    expect(&rt, fresh(rt.alloc())?, job, 0, lines)?;
+    expect_fresh(&rt, job, 0, lines)?;
     Ok(())
 }
 
@@ -206,7 +195,7 @@ faults = ['2 gather 0 2 wipe 9']
 6 a exit = 0
 end 6 faults 2 seal 6
 ";
-    expect(&rt, fresh(rt.alloc())?, job, 0, lines)?;
+    expect_fresh(&rt, job, 0, lines)?;
     Ok(())
 }
 
@@ -226,11 +215,8 @@ faults = ['4 gather 0 1', '4 replay 1 1']
 6 a exit = FAILED 2
 failed 6 faults 2 seal 0
 ";
-    let end = expect(&rt, fresh(rt.alloc())?, job, 4, lines)?;
-    assert_eq!(rt;
-        replayed(rt.alloc(), &end.trail)?.as_slice(),
-        [1].as_slice()
-    );
+    let end = expect_fresh(&rt, job, 4, lines)?;
+    replays(&rt, &end, &[1])?;
     assert!(rt; end.image == fresh(rt.alloc())?);
     Ok(())
 }
@@ -252,7 +238,7 @@ faults = ['5 enter 0 1']
 6 a exit = FAILED 1
 failed 6 faults 1 seal 3
 ";
-    let end = expect(&rt, fresh(rt.alloc())?, job, 4, lines)?;
+    let end = expect_fresh(&rt, job, 4, lines)?;
     let job = "calls = ['a creat /f 644', 'a text 3 hi', 'a sync']";
     let lines = "\
 1 a creat /f 644 = 3
@@ -261,7 +247,7 @@ failed 6 faults 1 seal 3
 4 a exit = 0
 end 4 faults 0 seal 4
 ";
-    let ended = expect(&rt, fresh(rt.alloc())?, job, 0, lines)?;
+    let ended = expect_fresh(&rt, job, 0, lines)?;
     assert!(rt; end.image == ended.image);
     Ok(())
 }
@@ -282,8 +268,8 @@ fn a_volume_that_failed_is_left_as_it_was_at_its_checkpoint(rt: HostRuntime) -> 
 3 a exit = FAILED 1
 failed 3 faults 1 seal 1
 ";
-    let end = expect(&rt, fresh(rt.alloc())?, FAILED_JOB, 4, lines)?;
-    checked(&rt, end.image, 0, "sound nodes 2 held 1 free 95\n")
+    let end = expect_fresh(&rt, FAILED_JOB, 4, lines)?;
+    checked(&rt, &end.image, 0, "sound nodes 2 held 1 free 95\n")
 }
 
 // The first fault at one kind of fault point of the second call of the one caller.
@@ -310,18 +296,15 @@ fn faults_strike_a_recovery_too(rt: HostRuntime) -> Result<(), Fail> {
 4 a exit = 0
 end 4 faults 3 seal 4
 ";
-    let end = expect(&rt, fresh(rt.alloc())?, job.as_str(), 0, lines)?;
+    let end = expect_fresh(&rt, job.as_str(), 0, lines)?;
     let wanted = [
         first_of_second(Kind::Gather),
         first_of_second(Kind::Remount),
         first_of_second(Kind::Replay),
     ];
     assert_eq!(rt; end.records.as_slice(), wanted.as_slice());
-    assert_eq!(rt;
-        replayed(rt.alloc(), &end.trail)?.as_slice(),
-        [1].as_slice()
-    );
-    checked(&rt, end.image, 0, "sound nodes 2 held 2 free 94\n")
+    replays(&rt, &end, &[1])?;
+    checked(&rt, &end.image, 0, "sound nodes 2 held 2 free 94\n")
 }
 
 #[test]
@@ -338,8 +321,8 @@ faults = ['3 enter 0 1 wipe 1']
 4 a exit = 0
 end 4 faults 1 seal 4
 ";
-    let end = expect(&rt, fresh(rt.alloc())?, job, 0, lines)?;
-    assert!(rt; replayed(rt.alloc(), &end.trail)?.is_empty());
+    let end = expect_fresh(&rt, job, 0, lines)?;
+    assert!(rt; replays_nothing(&end.trail));
     assert!(rt; end.trail.contains(&Step::Sealed(1)));
     Ok(())
 }
@@ -372,12 +355,9 @@ fn long_text(alloc: Global) -> Result<String, AllocError> {
 fn long_log(rt: HostRuntime) -> Result<(), Fail> {
     let job = long_job(rt.alloc())?;
     let lines = long_text(rt.alloc())?;
-    let end = expect(&rt, fresh(rt.alloc())?, job.as_str(), 0, lines.as_str())?;
-    assert_eq!(rt;
-        replayed(rt.alloc(), &end.trail)?.as_slice(),
-        [1].as_slice()
-    );
-    checked(&rt, end.image, 0, "sound nodes 2 held 9 free 87\n")
+    let end = expect_fresh(&rt, job.as_str(), 0, lines.as_str())?;
+    replays(&rt, &end, &[1])?;
+    checked(&rt, &end.image, 0, "sound nodes 2 held 9 free 87\n")
 }
 
 #[test]
@@ -452,7 +432,7 @@ fn each_fault_point_is_one_of_a_call(rt: HostRuntime) -> Result<(), Fail> {
         let lines = format!(in rt.alloc();
             "1 a open / r = {reply}\n2 a exit = 0\nend 2 faults {faults} seal 2\n"
         )?;
-        let end = expect(&rt, fresh(rt.alloc())?, job.as_str(), 0, lines.as_str())?;
+        let end = expect_fresh(&rt, job.as_str(), 0, lines.as_str())?;
         assert!(rt; end.image == fresh(rt.alloc())?);
     }
     Ok(())

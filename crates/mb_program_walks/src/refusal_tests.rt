@@ -1,4 +1,4 @@
-use crate::trials::{NOTHING_FAILS, checked, expect, fresh, printed, run};
+use crate::trials::{NOTHING_FAILS, checked, expect, expect_fresh, fresh, printed, run};
 use crate::volumes::{hello_volume, put};
 use std::alloc::{AllocError, Global};
 use std::process::Abort;
@@ -82,6 +82,12 @@ fn job_limits(rt: HostRuntime) -> Result<(), Fail> {
     )?;
     let job = repeated(rt.alloc(), 100_000, "'a sync'", "'a sync'")?;
     keeps(&rt, job.as_str(), 2, "job refused: call 100001\n")?;
+    Ok(())
+}
+
+#[test]
+fn job_at_the_limit(rt: HostRuntime) -> Result<(), Fail> {
+    let read = "'a read 3 65535'";
     let job = repeated(rt.alloc(), 256, read, "'a read 3 256'")?;
     let end = run(
         rt.alloc(),
@@ -149,7 +155,7 @@ fn a_file_has_many_names_of_its_path(rt: HostRuntime) -> Result<(), Fail> {
 // What `check` and `run` say of an image.
 fn refused<R: Abort + AllocGlobal>(rt: &R, image: Vec<u8>, rule: &str) -> Result<(), Fail> {
     let line = format!(in rt.alloc(); "volume refused: {rule}\n")?;
-    checked(rt, image.to_vec(rt.alloc())?, 3, line.as_str())?;
+    checked(rt, &image, 3, line.as_str())?;
     let before = image.to_vec(rt.alloc())?;
     let end = expect(rt, image, "calls = ['a sync']", 3, line.as_str())?;
     assert!(rt; end.image == before);
@@ -223,7 +229,7 @@ fn refused_volumes_with_a_directory_in_itself(rt: HostRuntime) -> Result<(), Fai
     let job = "calls = ['a mkdir /d 755', 'a mkdir /d/e 755']";
     let lines =
         "1 a mkdir /d 755 = 0\n2 a mkdir /d/e 755 = 0\n3 a exit = 0\nend 3 faults 0 seal 3\n";
-    let end = expect(&rt, fresh(rt.alloc())?, job, 0, lines)?;
+    let end = expect_fresh(&rt, job, 0, lines)?;
     let mut image = end.image;
     put(&mut image, 5 * 512 + 32, &[3, 0]);
     refused(&rt, image, "block 2 rule 13")
@@ -280,9 +286,9 @@ fn some_edits_break_no_rule(rt: HostRuntime) -> Result<(), Fail> {
         let mut image = hello_volume(rt.alloc())?;
         put(&mut image, at, bytes);
         let before = image.to_vec(rt.alloc())?;
-        checked(&rt, image, 0, "sound nodes 2 held 2 free 94\n")?;
+        checked(&rt, &image, 0, "sound nodes 2 held 2 free 94\n")?;
         let end = expect(&rt, before, "calls = []", 0, "end 0 faults 0 seal 0\n")?;
-        checked(&rt, end.image, 0, "sound nodes 2 held 2 free 94\n")?;
+        checked(&rt, &end.image, 0, "sound nodes 2 held 2 free 94\n")?;
     }
     Ok(())
 }

@@ -29,7 +29,7 @@ fn a_soak_is_the_run_of_its_job(rt: HostRuntime) -> Result<(), Fail> {
     let listed = run(alloc, &["run", "v"], fresh(alloc)?, SOAK_JOB, NOTHING_FAILS)?;
     assert_eq!(rt; listed.status, 0);
     assert!(rt; listed.image == end.image);
-    checked(&rt, end.image, 0, "sound nodes 2 held 1 free 95\n")
+    checked(&rt, &end.image, 0, "sound nodes 2 held 1 free 95\n")
 }
 
 #[test]
@@ -45,7 +45,7 @@ fn two_soaks_of_a_number_are_alike(rt: HostRuntime) -> Result<(), Fail> {
     Ok(())
 }
 
-// A soak reads no job, refuses an image as `check` does, and tells a disk that fails at once.
+// A soak reads no job, and refuses an image as `check` does.
 #[test]
 fn a_soak_over_what_is_no_volume(rt: HostRuntime) -> Result<(), Fail> {
     let alloc = rt.alloc();
@@ -69,6 +69,13 @@ fn a_soak_over_what_is_no_volume(rt: HostRuntime) -> Result<(), Fail> {
     assert_eq!(rt; end.status, 3);
     assert!(rt; end.printed == told.printed);
     assert!(rt; end.image == broken);
+    Ok(())
+}
+
+#[test]
+fn a_soak_over_a_disk_that_fails(rt: HostRuntime) -> Result<(), Fail> {
+    let alloc = rt.alloc();
+    let words = ["soak", "v", "1", "1", "0"];
     let failing = Failing {
         reads: &[1],
         ..NOTHING_FAILS

@@ -5,6 +5,7 @@ use crate::trials::{End, ended, printed, words};
 use mb_edge::{Bytes, Fails, MemDisk, MemSink, MemSource};
 use mb_program::{Finish, membrane};
 use std::alloc::{AllocError, Global};
+use std::process::Abort;
 use std::sync::Wait;
 use std::test::Fail;
 use std::thread::Threads;
@@ -98,12 +99,8 @@ fn own_lines(alloc: Global, text: &str, caller: &str) -> Result<String, Fail> {
     Ok(own)
 }
 
-// Two callers make files beside one another, each in a folder of its own, and each is struck at its third call. A fault
-// that stops a call which another one unwound already has no record.
-#[test]
-fn two_threads(rt: HostRuntime) -> Result<(), Fail> {
-    let alloc: Global = rt.alloc();
-    let made = program(&rt, &["mkfs", "v", "4096", "512"], Vec::new(alloc), "")?;
+// The job of two callers, each of whom makes files in a folder of its own and is struck at its third call.
+fn two_callers_job(alloc: Global) -> Result<String, AllocError> {
     let mut job = String::new(alloc);
     job.push_str(
         "callers = ['a 3 1', 'b 4 1']\nfaults = ['3 enter 0 1 wipe 0', '95 enter 0 1 wipe 0']\ncalls = ['a mkdir /src 777'",
@@ -112,27 +109,65 @@ fn two_threads(rt: HostRuntime) -> Result<(), Fail> {
     job.push_str(", 'a link /src/f0 /src/first', 'b mkdir /lib 755'")?;
     push_files(&mut job, alloc, 'b', "/lib", 'g')?;
     job.push_str("]\n")?;
-    let end = program(&rt, &["run", "v", "--threads"], made.image, job.as_str())?;
-    let text = str::from_utf8(&end.printed)?;
-    assert_eq!(rt; end.status, 0);
+    Ok(job)
+}
 
-    let mut lines = String::new(alloc);
-    lines.push_str("a mkdir /src 777 = 0\n")?;
+// The lines of the first of them, without numbers.
+fn first_lines(alloc: Global) -> Result<String, AllocError> {
+    let mut lines = String::from_str(alloc, "a mkdir /src 777 = 0\n")?;
     push_lines(&mut lines, alloc, 'a', "/src", 'f')?;
     lines.push_str("a link /src/f0 /src/first = 0\na exit = 0\n")?;
-    assert_eq!(rt; own_lines(alloc, text, "a ")?, lines);
-    lines.clear();
-    lines.push_str("b mkdir /lib 755 = 0\n")?;
+    Ok(lines)
+}
+
+// Those of the second.
+fn second_lines(alloc: Global) -> Result<String, AllocError> {
+    let mut lines = String::from_str(alloc, "b mkdir /lib 755 = 0\n")?;
     push_lines(&mut lines, alloc, 'b', "/lib", 'g')?;
     lines.push_str("b exit = 0\n")?;
-    assert_eq!(rt; own_lines(alloc, text, "b ")?, lines);
+    Ok(lines)
+}
+
+// Whether a caller's lines are these.
+fn has_lines(alloc: Global, text: &str, caller: &str, lines: &str) -> Result<bool, Fail> {
+    Ok(own_lines(alloc, text, caller)?.as_str() == lines)
+}
+
+// That the two print these lines, and that each is struck once, or one of them by the other's fault.
+fn both_print<R: Abort + AllocGlobal>(rt: &R, text: &str) -> Result<(), Fail> {
+    let first = first_lines(rt.alloc())?;
+    assert!(rt; has_lines(rt.alloc(), text, "a ", first.as_str())?);
+    let second = second_lines(rt.alloc())?;
+    assert!(rt; has_lines(rt.alloc(), text, "b ", second.as_str())?);
     assert!(rt;
         text.ends_with("\nend 185 faults 1 seal 185\n")
             || text.ends_with("\nend 185 faults 2 seal 185\n")
     );
+    Ok(())
+}
 
+// Two callers make files beside one another, each in a folder of its own, and each is struck at its third call. A fault
+// that stops a call which another one unwound already has no record.
+#[test]
+fn two_threads(rt: HostRuntime) -> Result<(), Fail> {
+    let alloc: Global = rt.alloc();
+    let made = program(&rt, &["mkfs", "v", "4096", "512"], Vec::new(alloc), "")?;
+    let job = two_callers_job(alloc)?;
+    let end = program(&rt, &["run", "v", "--threads"], made.image, job.as_str())?;
+    assert_eq!(rt; end.status, 0);
+    both_print(&rt, str::from_utf8(&end.printed)?)?;
     let end = program(&rt, &["check", "v"], end.image, "")?;
     printed(&rt, &end, 0, "sound nodes 63 held 2486 free 1544\n")
+}
+
+// The lines of four callers without their numbers, one caller's after another's.
+fn all_own_lines(alloc: Global, text: &str) -> Result<String, Fail> {
+    let mut own = String::new(alloc);
+    for caller in ["a ", "b ", "c ", "d "] {
+        let lines = own_lines(alloc, text, caller)?;
+        own.push_str(lines.as_str())?;
+    }
+    Ok(own)
 }
 
 // The example of four callers.
@@ -142,11 +177,7 @@ fn four_threads(rt: HostRuntime) -> Result<(), Fail> {
     let made = program(&rt, &["mkfs", "v", "100", "16"], Vec::new(alloc), "")?;
     let end = program(&rt, &["run", "--threads", "v"], made.image, THREADS_JOB)?;
     assert_eq!(rt; end.status, 0);
-    let mut own = String::new(alloc);
-    for caller in ["a ", "b ", "c ", "d "] {
-        let lines = own_lines(alloc, str::from_utf8(&end.printed)?, caller)?;
-        own.push_str(lines.as_str())?;
-    }
+    let own = all_own_lines(alloc, str::from_utf8(&end.printed)?)?;
     assert_eq!(rt; own.as_str(), THREADS_OWN);
     let end = program(&rt, &["check", "v"], end.image, "")?;
     printed(&rt, &end, 0, "sound nodes 9 held 57 free 39\n")

@@ -162,17 +162,27 @@ pub fn expect<R: Abort + AllocGlobal>(
     Ok(end)
 }
 
+/// The same over a fresh volume.
+pub fn expect_fresh<R: Abort + AllocGlobal>(
+    rt: &R,
+    job: &str,
+    status: u8,
+    lines: &str,
+) -> Result<End, Fail> {
+    expect(rt, fresh(rt.alloc())?, job, status, lines)
+}
+
 /// Checks an image, which is to stay as it is, with that status and that line.
 pub fn checked<R: Abort + AllocGlobal>(
     rt: &R,
-    image: Vec<u8>,
+    image: &[u8],
     status: u8,
     line: &str,
 ) -> Result<(), Fail> {
-    let before = image.to_vec(rt.alloc())?;
-    let end = run(rt.alloc(), &["check", "v"], image, "", NOTHING_FAILS)?;
+    let copy = image.to_vec(rt.alloc())?;
+    let end = run(rt.alloc(), &["check", "v"], copy, "", NOTHING_FAILS)?;
     printed(rt, &end, status, line)?;
-    assert!(rt; end.image == before);
+    assert!(rt; end.image.as_slice() == image);
     Ok(())
 }
 
@@ -194,7 +204,7 @@ pub fn first_read(alloc: Global, image: &[u8]) -> Result<u64, Fail> {
 }
 
 /// The numbers of the operations that were replayed, in order.
-pub fn replayed(alloc: Global, trail: &[Step]) -> Result<Vec<u32>, AllocError> {
+fn replayed(alloc: Global, trail: &[Step]) -> Result<Vec<u32>, AllocError> {
     let mut numbers = Vec::new(alloc);
     for step in trail {
         if let Step::Replayed(number) = step {
@@ -204,8 +214,28 @@ pub fn replayed(alloc: Global, trail: &[Step]) -> Result<Vec<u32>, AllocError> {
     Ok(numbers)
 }
 
+/// Whether the copies of any caller were stale.
+pub fn is_stale(trail: &[Step]) -> bool {
+    for step in trail {
+        if let Step::Stale(_, _) = step {
+            return true;
+        }
+    }
+    false
+}
+
+/// Whether no operation was replayed.
+pub fn replays_nothing(trail: &[Step]) -> bool {
+    for step in trail {
+        if let Step::Replayed(_) = step {
+            return false;
+        }
+    }
+    true
+}
+
 /// The callers whose copies were stale, in order.
-pub fn stale(alloc: Global, trail: &[Step]) -> Result<Vec<u8>, AllocError> {
+fn stale(alloc: Global, trail: &[Step]) -> Result<Vec<u8>, AllocError> {
     let mut callers = Vec::new(alloc);
     for step in trail {
         if let Step::Stale(ticket, _) = step {
@@ -216,7 +246,7 @@ pub fn stale(alloc: Global, trail: &[Step]) -> Result<Vec<u8>, AllocError> {
 }
 
 /// The callers whose calls were unwound, in order.
-pub fn unwound(alloc: Global, trail: &[Step]) -> Result<Vec<u8>, AllocError> {
+fn unwound(alloc: Global, trail: &[Step]) -> Result<Vec<u8>, AllocError> {
     let mut callers = Vec::new(alloc);
     for step in trail {
         if let Step::Unwound(ticket) = step {
@@ -224,4 +254,22 @@ pub fn unwound(alloc: Global, trail: &[Step]) -> Result<Vec<u8>, AllocError> {
         }
     }
     Ok(callers)
+}
+
+/// That a run replayed the operations with these numbers.
+pub fn replays<R: Abort + AllocGlobal>(rt: &R, end: &End, numbers: &[u32]) -> Result<(), Fail> {
+    assert_eq!(rt; replayed(rt.alloc(), &end.trail)?.as_slice(), numbers);
+    Ok(())
+}
+
+/// That the copies of these callers were stale.
+pub fn stales<R: Abort + AllocGlobal>(rt: &R, end: &End, callers: &[u8]) -> Result<(), Fail> {
+    assert_eq!(rt; stale(rt.alloc(), &end.trail)?.as_slice(), callers);
+    Ok(())
+}
+
+/// That the calls of these callers were unwound.
+pub fn unwinds<R: Abort + AllocGlobal>(rt: &R, end: &End, callers: &[u8]) -> Result<(), Fail> {
+    assert_eq!(rt; unwound(rt.alloc(), &end.trail)?.as_slice(), callers);
+    Ok(())
 }
