@@ -1,4 +1,4 @@
-use crate::volumes::{cached, fresh, numbered, with_a_deep_part};
+use crate::volumes::{cached, fresh, holds, numbered, with_a_deep_part};
 use mb_alloc::{Hung, Picked, Taken, free_block, free_inode, pick_inode, take_block, take_zeroed};
 use mb_bmap::{Reached, hang, reach};
 use mb_gathering::{Gathered, gather, nothing, without};
@@ -104,6 +104,28 @@ fn is_same(one: &Changes, other: &Changes) -> bool {
     one.len() == other.len()
 }
 
+/// What a call tells on a view that lacks one block, begun once more with the block where it asks for it, and whether
+/// it asked.
+fn end_without(
+    heap: Global,
+    disk: &Gathered,
+    view: &mut Gathered,
+    changes: &mut Changes,
+    call: Call,
+    lacking: u32,
+) -> Result<(Told, bool), Fail> {
+    let ended = call_on(view, changes, call);
+    let Told::Need(need) = ended else {
+        return Ok((ended, false));
+    };
+    if need.first != lacking {
+        return Err("another block is asked for".into());
+    }
+    gather(disk, view, need)?;
+    *changes = Changes::new(heap);
+    Ok((call_on(view, changes, call), true))
+}
+
 /// A call on a view that lacks one block ends as it does on all of them: at once, or where it asks for
 /// that block with the block. Answers whether it asked.
 fn ends_without(
@@ -116,113 +138,165 @@ fn ends_without(
 ) -> Result<bool, Fail> {
     let mut view = without(heap, disk, lacking)?;
     let mut changes = Changes::new(heap);
-    let mut ended = call_on(&view, &mut changes, call);
-    let mut asks = false;
-    if let Told::Need(need) = ended {
-        if need.first != lacking {
-            return Err("another block is asked for".into());
-        }
-        asks = true;
-        gather(disk, &mut view, need)?;
-        changes = Changes::new(heap);
-        ended = call_on(&view, &mut changes, call);
-    }
-    if ended != whole {
-        return Err("a call ends otherwise where it had to ask".into());
-    }
-    if !is_same(&changes, made) {
-        return Err("a call makes other changes where it had to ask".into());
-    }
+    let (ended, asks) = end_without(heap, disk, &mut view, &mut changes, call, lacking)?;
+    holds(
+        ended == whole && is_same(&changes, made),
+        "a call ends otherwise where it had to ask",
+    )?;
     Ok(asks)
+}
+
+/// Each block of a view in turn is missing.
+fn ends_without_each(
+    heap: Global,
+    ends: &Gathered,
+    call: Call,
+    read: &[u32],
+    end: Told,
+    made: &Changes,
+) -> Result<(), Fail> {
+    for place in 0..ends.blocks.len() {
+        let (lacking, _) = ends.blocks.at(place);
+        let asks = ends_without(heap, ends, call, lacking, end, made)?;
+        holds(
+            asks == read.contains(&lacking),
+            "other blocks are asked for than are read",
+        )?;
+    }
+    Ok(())
 }
 
 /// Each block in turn is missing; those that the call reads, and no others, are asked for, and the call
 /// ends then as on a view with all blocks.
 fn asks_for(
-    rt: &HostRuntime,
-    disk: &Gathered,
+    heap: Global,
+    ends: &Gathered,
     call: Call,
     read: &[u32],
     end: Told,
 ) -> Result<(), Fail> {
-    let ends = ends_of(rt.alloc(), disk)?;
-    let mut made = Changes::new(rt.alloc());
-    if call_on(&ends, &mut made, call) != end {
-        return Err("a call ends otherwise".into());
-    }
-    for place in 0..ends.blocks.len() {
-        let (lacking, _) = ends.blocks.at(place);
-        let asks = ends_without(rt.alloc(), &ends, call, lacking, end, &made)?;
-        if asks != read.contains(&lacking) {
-            return Err("other blocks are asked for than are read".into());
-        }
+    let mut made = Changes::new(heap);
+    holds(
+        call_on(ends, &mut made, call) == end,
+        "a call ends otherwise",
+    )?;
+    ends_without_each(heap, ends, call, read, end, &made)
+}
+
+/// A call, the blocks that it reads, and what it tells.
+type Row<'a> = (Call, &'a [u32], Told);
+
+/// The calls of a table, each on the blocks of a disk.
+fn ask_each(heap: Global, disk: &Gathered, table: &[Row<'_>]) -> Result<(), Fail> {
+    let ends = ends_of(heap, disk)?;
+    for (call, read, end) in table {
+        asks_for(heap, &ends, *call, read, *end)?;
     }
     Ok(())
+}
+
+/// Those on a volume with so many free blocks.
+fn ask_with_free(heap: Global, free: u32, table: &[Row<'_>]) -> Result<(), Fail> {
+    let disk = fresh(heap, free)?;
+    ask_each(heap, &disk, table)
+}
+
+/// Those on one with a deep part.
+fn ask_with_part(heap: Global, table: &[Row<'_>]) -> Result<(), Fail> {
+    let disk = with_a_deep_part(heap)?;
+    ask_each(heap, &disk, table)
+}
+
+/// Those on one with an empty cache of numbers.
+fn ask_with_numbers(heap: Global, table: &[Row<'_>]) -> Result<(), Fail> {
+    let disk = numbered(heap)?;
+    ask_each(heap, &disk, table)
+}
+
+/// Those on one with a full cache, which ends so.
+fn ask_with_cache(heap: Global, number: u8, last: &[u8; 8], table: &[Row<'_>]) -> Result<(), Fail> {
+    let disk = cached(heap, number, last)?;
+    ask_each(heap, &disk, table)
 }
 
 /// A take of a list's only block reads the next list; any other reads block 1 alone.
 #[test]
 fn take_ends_with_each_block_that_it_asks_for(rt: HostRuntime) -> Result<(), Fail> {
-    let one = fresh(rt.alloc(), 50)?;
-    asks_for(&rt, &one, Call::Take, &[1, 3950], Told::Done(3950))?;
-    asks_for(&rt, &one, Call::TakeZeroed, &[1, 3950], Told::Done(3950))?;
-    let full = fresh(rt.alloc(), 49)?;
-    asks_for(&rt, &full, Call::Take, &[1], Told::Done(3951))?;
-    asks_for(&rt, &full, Call::TakeZeroed, &[1, 3951], Told::Done(3951))?;
-    let none = fresh(rt.alloc(), 0)?;
-    asks_for(&rt, &none, Call::TakeZeroed, &[1], Told::NoneLeft)
+    let one = [
+        (Call::Take, [1, 3950].as_slice(), Told::Done(3950)),
+        (Call::TakeZeroed, [1, 3950].as_slice(), Told::Done(3950)),
+    ];
+    ask_with_free(rt.alloc(), 50, &one)?;
+    let full = [
+        (Call::Take, [1].as_slice(), Told::Done(3951)),
+        (Call::TakeZeroed, [1, 3951].as_slice(), Told::Done(3951)),
+    ];
+    ask_with_free(rt.alloc(), 49, &full)?;
+    let none = [(Call::TakeZeroed, [1].as_slice(), Told::NoneLeft)];
+    ask_with_free(rt.alloc(), 0, &none)
 }
 
 /// A block is put back on a list of 49 and on a list of 50, which moves into it.
 #[test]
 fn block_put_back_ends_with_each_block_that_it_asks_for(rt: HostRuntime) -> Result<(), Fail> {
-    let almost = fresh(rt.alloc(), 48)?;
-    asks_for(&rt, &almost, Call::PutBack(3951), &[1], Told::Done(0))?;
-    let full = fresh(rt.alloc(), 49)?;
-    asks_for(&rt, &full, Call::PutBack(3950), &[1], Told::Done(0))
+    let almost = [(Call::PutBack(3951), [1].as_slice(), Told::Done(0))];
+    ask_with_free(rt.alloc(), 48, &almost)?;
+    let full = [(Call::PutBack(3950), [1].as_slice(), Told::Done(0))];
+    ask_with_free(rt.alloc(), 49, &full)
 }
 
 /// A part is reached whose four blocks are taken on the way, the last of them with the next list, and
 /// one that is there.
 #[test]
 fn reach_ends_with_each_block_that_it_asks_for(rt: HostRuntime) -> Result<(), Fail> {
-    let free = fresh(rt.alloc(), 53)?;
+    let call = Call::ReachDeepPart;
     let taken = [1, 2, 3947, 3948, 3949, 3950];
-    asks_for(&rt, &free, Call::ReachDeepPart, &taken, Told::Done(3950))?;
-    let few = fresh(rt.alloc(), 3)?;
+    ask_with_free(
+        rt.alloc(),
+        53,
+        &[(call, taken.as_slice(), Told::Done(3950))],
+    )?;
     let some = [1, 2, 3997, 3998, 3999];
-    asks_for(&rt, &few, Call::ReachDeepPart, &some, Told::NoneLeft)?;
-    let there = with_a_deep_part(rt.alloc())?;
+    ask_with_free(rt.alloc(), 3, &[(call, some.as_slice(), Told::NoneLeft)])?;
     let way = [2, 3905, 3906, 3907];
-    asks_for(&rt, &there, Call::ReachDeepPart, &way, Told::Done(3908))
+    ask_with_part(rt.alloc(), &[(call, way.as_slice(), Told::Done(3908))])
 }
 
 #[test]
 fn hang_ends_with_each_block_that_it_asks_for(rt: HostRuntime) -> Result<(), Fail> {
-    let disk = with_a_deep_part(rt.alloc())?;
-    let way = [2, 3905, 3906, 3907];
-    asks_for(&rt, &disk, Call::HangDeepPart, &way, Told::Done(0))?;
-    let above = [2, 3905, 3906];
-    asks_for(&rt, &disk, Call::HangIndexBlock, &above, Told::Done(0))
+    let table = [
+        (
+            Call::HangDeepPart,
+            [2, 3905, 3906, 3907].as_slice(),
+            Told::Done(0),
+        ),
+        (
+            Call::HangIndexBlock,
+            [2, 3905, 3906].as_slice(),
+            Told::Done(0),
+        ),
+    ];
+    ask_with_part(rt.alloc(), &table)
 }
 
 /// A number is picked from an empty cache, from a full one by its last free number, and from a full one
 /// without a free number, by a scan.
 #[test]
 fn pick_ends_with_each_block_that_it_asks_for(rt: HostRuntime) -> Result<(), Fail> {
-    let empty = numbered(rt.alloc())?;
-    asks_for(&rt, &empty, Call::Pick, &[1, 2, 3], Told::Done(3))?;
-    let last = cached(rt.alloc(), 4, &[16, 0, 4, 0, 17, 0, 2, 0])?;
-    asks_for(&rt, &last, Call::Pick, &[1, 2, 3], Told::Done(16))?;
-    let used = cached(rt.alloc(), 4, &[0, 0, 1, 0, 2, 0, 17, 0])?;
-    asks_for(&rt, &used, Call::Pick, &[1, 2, 3], Told::Done(3))
+    let third = [(Call::Pick, [1, 2, 3].as_slice(), Told::Done(3))];
+    ask_with_numbers(rt.alloc(), &third)?;
+    let last = [(Call::Pick, [1, 2, 3].as_slice(), Told::Done(16))];
+    ask_with_cache(rt.alloc(), 4, &[16, 0, 4, 0, 17, 0, 2, 0], &last)?;
+    ask_with_cache(rt.alloc(), 4, &[0, 0, 1, 0, 2, 0, 17, 0], &third)
 }
 
 #[test]
 fn inode_freed_ends_with_each_block_that_it_asks_for(rt: HostRuntime) -> Result<(), Fail> {
-    let empty = numbered(rt.alloc())?;
-    asks_for(&rt, &empty, Call::FreeInode(4), &[1, 2], Told::Done(0))?;
-    asks_for(&rt, &empty, Call::FreeInode(9), &[1, 3], Told::Done(0))?;
-    let full = cached(rt.alloc(), 9, &[7, 0, 7, 0, 7, 0, 7, 0])?;
-    asks_for(&rt, &full, Call::FreeInode(4), &[1, 2], Told::Done(0))
+    let empty = [
+        (Call::FreeInode(4), [1, 2].as_slice(), Told::Done(0)),
+        (Call::FreeInode(9), [1, 3].as_slice(), Told::Done(0)),
+    ];
+    ask_with_numbers(rt.alloc(), &empty)?;
+    let full = [(Call::FreeInode(4), [1, 2].as_slice(), Told::Done(0))];
+    ask_with_cache(rt.alloc(), 9, &[7, 0, 7, 0, 7, 0, 7, 0], &full)
 }

@@ -1,9 +1,29 @@
-use crate::volumes::{cached, numbered};
+use crate::volumes::{cached, has_bytes, holds, is_changed, numbered};
 use mb_alloc::{Hung, Picked, free_inode, pick_inode};
-use mb_gathering::without;
+use mb_gathering::{Gathered, without};
 use mb_iface::Changes;
-use mb_word::word_at;
 use std::test::Fail;
+
+/// A number is picked, or none is.
+fn picks(disk: &Gathered, changes: &mut Changes, picked: Picked) -> Result<(), Fail> {
+    holds(
+        pick_inode(disk, changes) == picked,
+        "another number is picked",
+    )
+}
+
+/// The super-block has bytes from an offset on.
+fn caches(changes: &Changes, at: usize, bytes: &[u8]) -> Result<(), Fail> {
+    holds(has_bytes(changes, 1, at, bytes), "the cache is another one")
+}
+
+fn is_filled(disk: &Gathered, changes: &mut Changes) -> Result<(), Fail> {
+    picks(disk, changes, Picked::Ino(3))?;
+    caches(changes, 208, &[12, 0, 16, 0])?;
+    caches(changes, 232, &[5, 0])?;
+    picks(disk, changes, Picked::Ino(5))?;
+    picks(disk, changes, Picked::Ino(6))
+}
 
 /// An empty cache is filled by a scan of the i-list: its lowest free number is picked, and the others
 /// stand in the cache, the lowest last.
@@ -11,14 +31,13 @@ use std::test::Fail;
 fn empty_cache_is_filled_by_a_scan(rt: HostRuntime) -> Result<(), Fail> {
     let disk = numbered(rt.alloc())?;
     let mut changes = Changes::new(rt.alloc());
-    assert_eq!(rt; pick_inode(&disk, &mut changes), Picked::Ino(3));
-    let first = changes.get(1).ok_or("the super-block stays")?;
-    assert_eq!(rt; word_at(first, 208), 12);
-    assert_eq!(rt; word_at(first, 210), 16);
-    assert_eq!(rt; word_at(first, 232), 5);
-    assert_eq!(rt; pick_inode(&disk, &mut changes), Picked::Ino(5));
-    assert_eq!(rt; pick_inode(&disk, &mut changes), Picked::Ino(6));
-    Ok(())
+    is_filled(&disk, &mut changes)
+}
+
+fn are_passed_over(disk: &Gathered, changes: &mut Changes) -> Result<(), Fail> {
+    picks(disk, changes, Picked::Ino(7))?;
+    caches(changes, 208, &[96, 0])?;
+    picks(disk, changes, Picked::Ino(9))
 }
 
 /// Of a full cache the last number that is free is picked: one below 3, one above the last inode and
@@ -27,11 +46,12 @@ fn empty_cache_is_filled_by_a_scan(rt: HostRuntime) -> Result<(), Fail> {
 fn numbers_that_are_not_free_are_passed_over(rt: HostRuntime) -> Result<(), Fail> {
     let disk = cached(rt.alloc(), 9, &[7, 0, 4, 0, 17, 0, 2, 0])?;
     let mut changes = Changes::new(rt.alloc());
-    assert_eq!(rt; pick_inode(&disk, &mut changes), Picked::Ino(7));
-    let first = changes.get(1).ok_or("the super-block stays")?;
-    assert_eq!(rt; word_at(first, 208), 96);
-    assert_eq!(rt; pick_inode(&disk, &mut changes), Picked::Ino(9));
-    Ok(())
+    are_passed_over(&disk, &mut changes)
+}
+
+fn is_filled_anew(disk: &Gathered, changes: &mut Changes) -> Result<(), Fail> {
+    picks(disk, changes, Picked::Ino(3))?;
+    caches(changes, 208, &[12, 0])
 }
 
 /// A full cache none of whose numbers is free is like an empty one.
@@ -39,24 +59,49 @@ fn numbers_that_are_not_free_are_passed_over(rt: HostRuntime) -> Result<(), Fail
 fn full_cache_without_a_free_number_is_filled_anew(rt: HostRuntime) -> Result<(), Fail> {
     let disk = cached(rt.alloc(), 4, &[0, 0, 1, 0, 2, 0, 17, 0])?;
     let mut changes = Changes::new(rt.alloc());
-    assert_eq!(rt; pick_inode(&disk, &mut changes), Picked::Ino(3));
-    let first = changes.get(1).ok_or("the super-block stays")?;
-    assert_eq!(rt; word_at(first, 208), 12);
-    Ok(())
+    is_filled_anew(&disk, &mut changes)
+}
+
+/// Marks each inode as one in use.
+fn use_all(disk: &mut Gathered) {
+    for place in 0..8 {
+        let _ = disk.blocks.patch(2, 64 * place, &[0xa4, 0x81]);
+        let _ = disk.blocks.patch(3, 64 * place, &[0xa4, 0x81]);
+    }
+}
+
+fn picks_none(disk: &Gathered, changes: &mut Changes) -> Result<(), Fail> {
+    picks(disk, changes, Picked::NoneLeft)?;
+    holds(changes.len() == 0, "a block is changed")
 }
 
 /// Where each inode is in use none is picked.
 #[test]
 fn no_number_is_left(rt: HostRuntime) -> Result<(), Fail> {
     let mut disk = numbered(rt.alloc())?;
-    for place in 0..8 {
-        let _ = disk.blocks.patch(2, 64 * place, &[0xa4, 0x81]);
-        let _ = disk.blocks.patch(3, 64 * place, &[0xa4, 0x81]);
-    }
+    use_all(&mut disk);
     let mut changes = Changes::new(rt.alloc());
-    assert_eq!(rt; pick_inode(&disk, &mut changes), Picked::NoneLeft);
-    assert_eq!(rt; changes.len(), 0);
-    Ok(())
+    picks_none(&disk, &mut changes)
+}
+
+/// An inode is freed.
+fn frees(disk: &Gathered, changes: &mut Changes, ino: u16) -> Result<(), Fail> {
+    holds(
+        free_inode(disk, changes, ino) == Hung::Done,
+        "an inode is not freed",
+    )
+}
+
+fn takes_100(disk: &Gathered, changes: &mut Changes) -> Result<(), Fail> {
+    frees(disk, changes, 2)?;
+    holds(!is_changed(changes, 1), "number 2 is cached")?;
+    frees(disk, changes, 4)?;
+    frees(disk, changes, 16)?;
+    caches(changes, 208, &[100, 0])?;
+    caches(changes, 408, &[4, 0, 0, 0])?;
+    let gone = [0, 0];
+    holds(has_bytes(changes, 2, 64, &gone), "inode 2 stays")?;
+    holds(has_bytes(changes, 2, 192, &gone), "inode 4 stays")
 }
 
 /// The number of an inode that is freed is the 100th of the cache, and no more come into it; nor does
@@ -66,18 +111,36 @@ fn cache_takes_100_numbers(rt: HostRuntime) -> Result<(), Fail> {
     let mut disk = cached(rt.alloc(), 9, &[7, 0, 7, 0, 7, 0, 0, 0])?;
     let _ = disk.blocks.patch(1, 208, &[99, 0]);
     let mut changes = Changes::new(rt.alloc());
-    assert_eq!(rt; free_inode(&disk, &mut changes, 2), Hung::Done);
-    assert!(rt; changes.get(1).is_none());
-    assert_eq!(rt; free_inode(&disk, &mut changes, 4), Hung::Done);
-    assert_eq!(rt; free_inode(&disk, &mut changes, 16), Hung::Done);
-    let first = changes.get(1).ok_or("the super-block stays")?;
-    assert_eq!(rt; word_at(first, 208), 100);
-    assert_eq!(rt; word_at(first, 408), 4);
-    assert_eq!(rt; word_at(first, 410), 0);
-    let inodes = changes.get(2).ok_or("the inode stays")?;
-    assert_eq!(rt; word_at(inodes, 64), 0);
-    assert_eq!(rt; word_at(inodes, 192), 0);
-    Ok(())
+    takes_100(&disk, &mut changes)
+}
+
+/// What a pick asks for first; 0 where it asks for nothing.
+fn asked_by_pick(view: &Gathered, changes: &mut Changes) -> u32 {
+    match pick_inode(view, changes) {
+        Picked::Need(need) => need.first,
+        _ => 0,
+    }
+}
+
+/// What an inode that is freed asks for first; 0 where it asks for nothing.
+fn asked_by_free(view: &Gathered, changes: &mut Changes, ino: u16) -> u32 {
+    match free_inode(view, changes, ino) {
+        Hung::Need(need) => need.first,
+        _ => 0,
+    }
+}
+
+fn asks_for(view: &Gathered, changes: &mut Changes, lacking: u32) -> Result<(), Fail> {
+    let ino = if lacking == 3 { 9 } else { 4 };
+    holds(
+        asked_by_pick(view, changes) == lacking,
+        "a pick asks otherwise",
+    )?;
+    holds(
+        asked_by_free(view, changes, ino) == lacking,
+        "a freed inode asks otherwise",
+    )?;
+    holds(changes.len() == 0, "a block is changed")
 }
 
 /// A pick and an inode freed ask for the block that the view lacks.
@@ -87,16 +150,7 @@ fn number_asks_for_each_block_that_lacks(rt: HostRuntime) -> Result<(), Fail> {
     for lacking in 1..4 {
         let view = without(rt.alloc(), &disk, lacking)?;
         let mut changes = Changes::new(rt.alloc());
-        match pick_inode(&view, &mut changes) {
-            Picked::Need(need) => assert_eq!(rt; need.first, lacking),
-            _ => return Err("a number is picked from a block that lacks".into()),
-        }
-        let ino = if lacking == 3 { 9 } else { 4 };
-        match free_inode(&view, &mut changes, ino) {
-            Hung::Need(need) => assert_eq!(rt; need.first, lacking),
-            _ => return Err("an inode is freed in a block that lacks".into()),
-        }
-        assert_eq!(rt; changes.len(), 0);
+        asks_for(&view, &mut changes, lacking)?;
     }
     Ok(())
 }

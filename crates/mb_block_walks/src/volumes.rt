@@ -70,3 +70,24 @@ pub fn take_next(disk: &Gathered, view: &mut Gathered, changes: &mut Changes) ->
     }
     Err("a take asks too often".into())
 }
+
+/// That what was looked at holds.
+pub fn holds(fact: bool, otherwise: &'static str) -> Result<(), Fail> {
+    if fact { Ok(()) } else { Err(otherwise.into()) }
+}
+
+/// Whether the new bytes of a block begin so from an offset on.
+pub fn has_bytes(changes: &Changes, block: u32, at: usize, bytes: &[u8]) -> bool {
+    match changes.get(block) {
+        Some(held) => match held.get(at..) {
+            Some(rest) => rest.starts_with(bytes),
+            None => false,
+        },
+        None => false,
+    }
+}
+
+/// Whether a block is changed.
+pub fn is_changed(changes: &Changes, block: u32) -> bool {
+    changes.get(block).is_some()
+}

@@ -1,5 +1,7 @@
 use crate::volumes::{cost, fresh, put_on, read_on, size};
+use mb_gathering::Gathered;
 use std::alloc::Global;
+use std::process::Abort;
 use std::test::Fail;
 
 /// The bytes that are read of a file in which a byte stands, in the part before it and in its own.
@@ -29,22 +31,44 @@ fn holes_before_double_and_triple_parts(rt: HostRuntime) -> Result<(), Fail> {
     Ok(())
 }
 
+fn uncovers_bytes<R: Abort + AllocGlobal>(rt: &R, disk: &mut Gathered) -> Result<(), Fail> {
+    let _ = put_on(rt.alloc(), disk, 0, &[7; 400])?;
+    // size 100 of the third inode, the long's low word
+    let _ = disk.blocks.patch(2, 138, &[100, 0]);
+    assert_eq!(rt;
+        read_on(rt.alloc(), disk, 90, 50)?.as_slice(),
+        [7; 10].as_slice()
+    );
+    let _ = put_on(rt.alloc(), disk, 600, &[8])?;
+    assert_eq!(rt; size(disk), 601);
+    assert_eq!(rt;
+        read_on(rt.alloc(), disk, 398, 4)?.as_slice(),
+        [7, 7, 0, 0].as_slice()
+    );
+    Ok(())
+}
+
 /// Bytes past the size are read once the size grows over them: a part keeps its bytes whatever the size.
 #[test]
 fn growing_size_uncovers_bytes(rt: HostRuntime) -> Result<(), Fail> {
     let mut disk = fresh(rt.alloc())?;
-    let _ = put_on(rt.alloc(), &mut disk, 0, &[7; 400])?;
+    uncovers_bytes(&rt, &mut disk)
+}
+
+fn uncovers_parts<R: Abort + AllocGlobal>(rt: &R, disk: &mut Gathered) -> Result<(), Fail> {
+    let _ = put_on(rt.alloc(), disk, 0, &[7; 1536])?;
     // size 100 of the third inode, the long's low word
     let _ = disk.blocks.patch(2, 138, &[100, 0]);
+    assert_eq!(rt; read_on(rt.alloc(), disk, 512, 9)?.as_slice().len(), 0);
+    let _ = put_on(rt.alloc(), disk, 2048, &[8])?;
+    assert_eq!(rt; (cost(disk), size(disk)), (5, 2049));
     assert_eq!(rt;
-        read_on(rt.alloc(), &disk, 90, 50)?.as_slice(),
-        [7; 10].as_slice()
+        read_on(rt.alloc(), disk, 510, 4)?.as_slice(),
+        [7; 4].as_slice()
     );
-    let _ = put_on(rt.alloc(), &mut disk, 600, &[8])?;
-    assert_eq!(rt; size(&disk), 601);
     assert_eq!(rt;
-        read_on(rt.alloc(), &disk, 398, 4)?.as_slice(),
-        [7, 7, 0, 0].as_slice()
+        read_on(rt.alloc(), disk, 1535, 2)?.as_slice(),
+        [7, 0].as_slice()
     );
     Ok(())
 }
@@ -53,20 +77,26 @@ fn growing_size_uncovers_bytes(rt: HostRuntime) -> Result<(), Fail> {
 #[test]
 fn growing_size_uncovers_parts(rt: HostRuntime) -> Result<(), Fail> {
     let mut disk = fresh(rt.alloc())?;
-    let _ = put_on(rt.alloc(), &mut disk, 0, &[7; 1536])?;
-    // size 100 of the third inode, the long's low word
-    let _ = disk.blocks.patch(2, 138, &[100, 0]);
-    assert_eq!(rt; read_on(rt.alloc(), &disk, 512, 9)?.as_slice().len(), 0);
-    let _ = put_on(rt.alloc(), &mut disk, 2048, &[8])?;
-    assert_eq!(rt; (cost(&disk), size(&disk)), (5, 2049));
+    uncovers_parts(&rt, &mut disk)
+}
+
+fn puts_a_piece<R: Abort + AllocGlobal>(rt: &R, disk: &mut Gathered) -> Result<(), Fail> {
+    let _ = put_on(rt.alloc(), disk, 0, &[1; 512])?;
+    let _ = put_on(rt.alloc(), disk, 1024, &[3; 512])?;
     assert_eq!(rt;
-        read_on(rt.alloc(), &disk, 510, 4)?.as_slice(),
-        [7; 4].as_slice()
+        read_on(rt.alloc(), disk, 511, 3)?.as_slice(),
+        [1, 0, 0].as_slice()
+    );
+    let _ = put_on(rt.alloc(), disk, 510, &[2; 516])?;
+    assert_eq!(rt;
+        read_on(rt.alloc(), disk, 509, 3)?.as_slice(),
+        [1, 2, 2].as_slice()
     );
     assert_eq!(rt;
-        read_on(rt.alloc(), &disk, 1535, 2)?.as_slice(),
-        [7, 0].as_slice()
+        read_on(rt.alloc(), disk, 1025, 2)?.as_slice(),
+        [2, 3].as_slice()
     );
+    assert_eq!(rt; (cost(disk), size(disk)), (4, 1536));
     Ok(())
 }
 
@@ -74,21 +104,5 @@ fn growing_size_uncovers_parts(rt: HostRuntime) -> Result<(), Fail> {
 #[test]
 fn piece_over_parts_and_a_hole(rt: HostRuntime) -> Result<(), Fail> {
     let mut disk = fresh(rt.alloc())?;
-    let _ = put_on(rt.alloc(), &mut disk, 0, &[1; 512])?;
-    let _ = put_on(rt.alloc(), &mut disk, 1024, &[3; 512])?;
-    assert_eq!(rt;
-        read_on(rt.alloc(), &disk, 511, 3)?.as_slice(),
-        [1, 0, 0].as_slice()
-    );
-    let _ = put_on(rt.alloc(), &mut disk, 510, &[2; 516])?;
-    assert_eq!(rt;
-        read_on(rt.alloc(), &disk, 509, 3)?.as_slice(),
-        [1, 2, 2].as_slice()
-    );
-    assert_eq!(rt;
-        read_on(rt.alloc(), &disk, 1025, 2)?.as_slice(),
-        [2, 3].as_slice()
-    );
-    assert_eq!(rt; (cost(&disk), size(&disk)), (4, 1536));
-    Ok(())
+    puts_a_piece(&rt, &mut disk)
 }

@@ -1,5 +1,6 @@
 use crate::volumes::{cost, fresh, put_on, read_on};
-use std::alloc::Global;
+use mb_gathering::Gathered;
+use std::process::Abort;
 use std::test::Fail;
 
 /// A part of a file, and how many blocks are in use once a byte stands in it, too.
@@ -58,25 +59,26 @@ fn bytes_of_part(byte: u8) -> [u8; 512] {
     bytes
 }
 
-/// A hole reads as zeros whatever leads to it: an index block that is missing at any of its levels, or an empty place of one
-/// that is there. A byte put into it takes just the blocks that are missing, and no other part changes.
-#[test]
-fn holes_at_every_level(rt: HostRuntime) -> Result<(), Fail> {
-    let heap = rt.alloc();
-    let mut disk = fresh(heap)?;
+/// Puts a byte into each part, which is a hole before.
+fn fills<R: Abort + AllocGlobal>(rt: &R, disk: &mut Gathered) -> Result<(), Fail> {
     let mut byte = 0u8;
     for filled in &PARTS {
         let at = filled.part.saturating_mul(512);
-        let before = read_on(heap, &disk, at, 512)?;
+        let before = read_on(rt.alloc(), disk, at, 512)?;
         assert!(rt; before.as_slice().iter().all(|byte| *byte == 0));
         byte = byte.saturating_add(1);
-        let _ = put_on(heap, &mut disk, at.saturating_add(7), &[byte])?;
-        assert_eq!(rt; cost(&disk), filled.cost, "at part {}", filled.part);
+        let _ = put_on(rt.alloc(), disk, at.saturating_add(7), &[byte])?;
+        assert_eq!(rt; cost(disk), filled.cost, "at part {}", filled.part);
     }
+    Ok(())
+}
+
+/// Reads each part, which has its byte alone.
+fn has_bytes<R: Abort + AllocGlobal>(rt: &R, disk: &Gathered) -> Result<(), Fail> {
     let mut byte = 0u8;
     for filled in &PARTS {
         byte = byte.saturating_add(1);
-        let read = read_on(heap, &disk, filled.part.saturating_mul(512), 512)?;
+        let read = read_on(rt.alloc(), disk, filled.part.saturating_mul(512), 512)?;
         let there = read.as_slice();
         assert!(rt; there.len() >= 8, "at part {}", filled.part);
         assert!(rt;
@@ -86,4 +88,13 @@ fn holes_at_every_level(rt: HostRuntime) -> Result<(), Fail> {
         );
     }
     Ok(())
+}
+
+/// A hole reads as zeros whatever leads to it: an index block that is missing at any of its levels, or an empty place of one
+/// that is there. A byte put into it takes just the blocks that are missing, and no other part changes.
+#[test]
+fn holes_at_every_level(rt: HostRuntime) -> Result<(), Fail> {
+    let mut disk = fresh(rt.alloc())?;
+    fills(&rt, &mut disk)?;
+    has_bytes(&rt, &disk)
 }

@@ -1,8 +1,9 @@
 use crate::volumes::{
     Ended, cost, empty_on, erase_on, free, fresh, fresh_of, put_on, read_on, size,
 };
-use mb_gathering::Size;
+use mb_gathering::{Gathered, Size};
 use mb_kinds::Errno;
+use std::process::Abort;
 use std::test::Fail;
 
 /// 94 parts and one index block use the 95 free blocks up.
@@ -16,19 +17,31 @@ fn file_fills_the_volume(rt: HostRuntime) -> Result<(), Fail> {
     Ok(())
 }
 
+fn refuses_a_byte<R: Abort + AllocGlobal>(rt: &R, disk: &mut Gathered) -> Result<(), Fail> {
+    let bytes = vec![in rt.alloc(); 65; 48_128]?;
+    let _ = put_on(rt.alloc(), disk, 0, &bytes)?;
+    let more = put_on(rt.alloc(), disk, 48_128, &[1])?;
+    assert_eq!(rt; matches!(more, Ended::Refused(Errno::ENOSPC, _)), true);
+    let past = put_on(rt.alloc(), disk, 1_082_201_088, &[1])?;
+    assert_eq!(rt; matches!(past, Ended::Refused(Errno::EFBIG, _)), true);
+    let again = put_on(rt.alloc(), disk, 0, &bytes)?;
+    assert_eq!(rt; matches!(again, Ended::Done(_)), true);
+    assert_eq!(rt; (cost(disk), size(disk)), (96, 48_128));
+    Ok(())
+}
+
 /// One byte more has no block, one past the greatest size no place, and the same bytes again need none.
 #[test]
 fn full_volume_refuses_a_byte(rt: HostRuntime) -> Result<(), Fail> {
     let mut disk = fresh(rt.alloc())?;
-    let bytes = vec![in rt.alloc(); 65; 48_128]?;
-    let _ = put_on(rt.alloc(), &mut disk, 0, &bytes)?;
-    let more = put_on(rt.alloc(), &mut disk, 48_128, &[1])?;
-    assert_eq!(rt; matches!(more, Ended::Refused(Errno::ENOSPC, _)), true);
-    let past = put_on(rt.alloc(), &mut disk, 1_082_201_088, &[1])?;
-    assert_eq!(rt; matches!(past, Ended::Refused(Errno::EFBIG, _)), true);
-    let again = put_on(rt.alloc(), &mut disk, 0, &bytes)?;
-    assert_eq!(rt; matches!(again, Ended::Done(_)), true);
-    assert_eq!(rt; (cost(&disk), size(&disk)), (96, 48_128));
+    refuses_a_byte(&rt, &mut disk)
+}
+
+fn keeps_its_size<R: Abort + AllocGlobal>(rt: &R, disk: &mut Gathered) -> Result<(), Fail> {
+    let past = put_on(rt.alloc(), disk, 1_082_201_088, &[1])?;
+    assert_eq!(rt; past, Ended::Refused(Errno::EFBIG, 0));
+    let over = put_on(rt.alloc(), disk, 1_082_201_087, &[1, 1])?;
+    assert_eq!(rt; over, Ended::Refused(Errno::EFBIG, 0));
     Ok(())
 }
 
@@ -36,10 +49,16 @@ fn full_volume_refuses_a_byte(rt: HostRuntime) -> Result<(), Fail> {
 #[test]
 fn greatest_size_is_kept(rt: HostRuntime) -> Result<(), Fail> {
     let mut disk = fresh(rt.alloc())?;
-    let past = put_on(rt.alloc(), &mut disk, 1_082_201_088, &[1])?;
-    assert_eq!(rt; past, Ended::Refused(Errno::EFBIG, 0));
-    let over = put_on(rt.alloc(), &mut disk, 1_082_201_087, &[1, 1])?;
-    assert_eq!(rt; over, Ended::Refused(Errno::EFBIG, 0));
+    keeps_its_size(&rt, &mut disk)
+}
+
+fn gives_its_blocks_back<R: Abort + AllocGlobal>(rt: &R, disk: &mut Gathered) -> Result<(), Fail> {
+    let bytes = vec![in rt.alloc(); 65; 48_128]?;
+    let _ = put_on(rt.alloc(), disk, 0, &bytes)?;
+    let _ = empty_on(rt.alloc(), disk)?;
+    assert_eq!(rt; (cost(disk), free(disk), size(disk)), (1, 95, 0));
+    let _ = put_on(rt.alloc(), disk, 1_082_201_087, &[1])?;
+    assert_eq!(rt; (cost(disk), free(disk)), (5, 91));
     Ok(())
 }
 
@@ -47,12 +66,28 @@ fn greatest_size_is_kept(rt: HostRuntime) -> Result<(), Fail> {
 #[test]
 fn emptied_file_gives_its_blocks_back(rt: HostRuntime) -> Result<(), Fail> {
     let mut disk = fresh(rt.alloc())?;
-    let bytes = vec![in rt.alloc(); 65; 48_128]?;
-    let _ = put_on(rt.alloc(), &mut disk, 0, &bytes)?;
-    let _ = empty_on(rt.alloc(), &mut disk)?;
-    assert_eq!(rt; (cost(&disk), free(&disk), size(&disk)), (1, 95, 0));
-    let _ = put_on(rt.alloc(), &mut disk, 1_082_201_087, &[1])?;
-    assert_eq!(rt; (cost(&disk), free(&disk)), (5, 91));
+    gives_its_blocks_back(&rt, &mut disk)
+}
+
+fn has_one_byte<R: Abort + AllocGlobal>(rt: &R, disk: &mut Gathered) -> Result<(), Fail> {
+    let _ = put_on(rt.alloc(), disk, 1_082_201_087, &[9])?;
+    assert_eq!(rt; (cost(disk), size(disk)), (5, 1_082_201_088));
+    assert_eq!(rt;
+        read_on(rt.alloc(), disk, 1_082_201_084, 9)?.as_slice(),
+        [0, 0, 0, 9].as_slice()
+    );
+    assert_eq!(rt;
+        read_on(rt.alloc(), disk, 541_100_543, 3)?.as_slice(),
+        [0; 3].as_slice()
+    );
+    assert_eq!(rt;
+        read_on(rt.alloc(), disk, 1_082_201_088, 9)?
+            .as_slice()
+            .len(),
+        0
+    );
+    let _ = empty_on(rt.alloc(), disk)?;
+    assert_eq!(rt; (cost(disk), free(disk), size(disk)), (1, 95, 0));
     Ok(())
 }
 
@@ -61,24 +96,14 @@ fn emptied_file_gives_its_blocks_back(rt: HostRuntime) -> Result<(), Fail> {
 #[test]
 fn greatest_file_has_one_byte(rt: HostRuntime) -> Result<(), Fail> {
     let mut disk = fresh(rt.alloc())?;
-    let _ = put_on(rt.alloc(), &mut disk, 1_082_201_087, &[9])?;
-    assert_eq!(rt; (cost(&disk), size(&disk)), (5, 1_082_201_088));
-    assert_eq!(rt;
-        read_on(rt.alloc(), &disk, 1_082_201_084, 9)?.as_slice(),
-        [0, 0, 0, 9].as_slice()
-    );
-    assert_eq!(rt;
-        read_on(rt.alloc(), &disk, 541_100_543, 3)?.as_slice(),
-        [0; 3].as_slice()
-    );
-    assert_eq!(rt;
-        read_on(rt.alloc(), &disk, 1_082_201_088, 9)?
-            .as_slice()
-            .len(),
-        0
-    );
-    let _ = empty_on(rt.alloc(), &mut disk)?;
-    assert_eq!(rt; (cost(&disk), free(&disk), size(&disk)), (1, 95, 0));
+    has_one_byte(&rt, &mut disk)
+}
+
+fn is_asked_for_first<R: Abort + AllocGlobal>(rt: &R, disk: &mut Gathered) -> Result<(), Fail> {
+    let bytes = vec![in rt.alloc(); 65; 48_128]?;
+    let _ = put_on(rt.alloc(), disk, 0, &bytes)?;
+    erase_on(rt.alloc(), disk)?;
+    assert_eq!(rt; (cost(disk), free(disk), size(disk)), (1, 95, 0));
     Ok(())
 }
 
@@ -87,10 +112,20 @@ fn greatest_file_has_one_byte(rt: HostRuntime) -> Result<(), Fail> {
 #[test]
 fn erased_file_is_asked_for_first(rt: HostRuntime) -> Result<(), Fail> {
     let mut disk = fresh(rt.alloc())?;
-    let bytes = vec![in rt.alloc(); 65; 48_128]?;
-    let _ = put_on(rt.alloc(), &mut disk, 0, &bytes)?;
-    erase_on(rt.alloc(), &mut disk)?;
-    assert_eq!(rt; (cost(&disk), free(&disk), size(&disk)), (1, 95, 0));
+    is_asked_for_first(&rt, &mut disk)
+}
+
+fn is_emptied_after_three_asks<R: Abort + AllocGlobal>(
+    rt: &R,
+    disk: &mut Gathered,
+) -> Result<(), Fail> {
+    let bytes = vec![in rt.alloc(); 65; 51_200]?;
+    for chunk in 0..10 {
+        let _ = put_on(rt.alloc(), disk, 51_200 * chunk, &bytes)?;
+    }
+    assert_eq!(rt; (cost(disk), free(disk), size(disk)), (1_010, 186, 512_000));
+    assert_eq!(rt; empty_on(rt.alloc(), disk)?, Ended::Done(3));
+    assert_eq!(rt; (cost(disk), free(disk), size(disk)), (1, 1_195, 0));
     Ok(())
 }
 
@@ -104,16 +139,16 @@ fn long_file_is_emptied_after_three_asks(rt: HostRuntime) -> Result<(), Fail> {
         inodes: 16,
     };
     let mut disk = fresh_of(rt.alloc(), size_of_volume)?;
-    let bytes = vec![in rt.alloc(); 65; 51_200]?;
-    for chunk in 0..10 {
-        let _ = put_on(rt.alloc(), &mut disk, 51_200 * chunk, &bytes)?;
-    }
-    assert_eq!(rt;
-        (cost(&disk), free(&disk), size(&disk)),
-        (1_010, 186, 512_000)
-    );
-    assert_eq!(rt; empty_on(rt.alloc(), &mut disk)?, Ended::Done(3));
-    assert_eq!(rt; (cost(&disk), free(&disk), size(&disk)), (1, 1_195, 0));
+    is_emptied_after_three_asks(&rt, &mut disk)
+}
+
+fn keeps_its_count<R: Abort + AllocGlobal>(rt: &R, disk: &mut Gathered) -> Result<(), Fail> {
+    let _ = put_on(rt.alloc(), disk, 0, &[65; 5000])?;
+    let _ = disk.blocks.patch(1, 6, &[51, 0]);
+    let before = disk.blocks.get(1).copied();
+    let _ = empty_on(rt.alloc(), disk)?;
+    assert_eq!(rt; disk.blocks.get(1).copied() == before, true);
+    assert_eq!(rt; size(disk), 0);
     Ok(())
 }
 
@@ -121,11 +156,5 @@ fn long_file_is_emptied_after_three_asks(rt: HostRuntime) -> Result<(), Fail> {
 #[test]
 fn count_above_50_is_kept(rt: HostRuntime) -> Result<(), Fail> {
     let mut disk = fresh(rt.alloc())?;
-    let _ = put_on(rt.alloc(), &mut disk, 0, &[65; 5000])?;
-    let _ = disk.blocks.patch(1, 6, &[51, 0]);
-    let before = disk.blocks.get(1).copied();
-    let _ = empty_on(rt.alloc(), &mut disk)?;
-    assert_eq!(rt; disk.blocks.get(1).copied() == before, true);
-    assert_eq!(rt; size(&disk), 0);
-    Ok(())
+    keeps_its_count(&rt, &mut disk)
 }

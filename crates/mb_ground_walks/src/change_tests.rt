@@ -6,6 +6,7 @@ use mb_iface::{
 };
 use mb_tree::FsOp;
 use std::alloc::Global;
+use std::process::Abort;
 use std::test::Fail;
 
 /// A view of one block, all of whose bytes are 1.
@@ -83,16 +84,30 @@ fn act_on<F: FileSys, V: View>(fs: F, alloc: Global, view: &V, ino: u16) -> Acte
     fs.act(alloc, view, &Opens::new(alloc), &FsOp::Hold { ino }, None)
 }
 
+fn covers(rt: &impl Abort, view: &OneBlock, changes: &mut Changes) -> Result<(), Fail> {
+    assert_eq!(rt; seen(view, changes, 5).ok_or("no block 5")?[0], 1);
+    changes.put(5, &[2; 512])?;
+    assert_eq!(rt; seen(view, changes, 5).ok_or("no block 5")?[0], 2);
+    assert!(rt; seen(view, changes, 6).is_none());
+    let over = Over::new(view, changes);
+    assert_eq!(rt; over.get(5).ok_or("no block 5")?[511], 2);
+    Ok(())
+}
+
 #[test]
 fn changed_block_covers_the_view(rt: HostRuntime) -> Result<(), Fail> {
     let view = ones();
     let mut changes = Changes::new(rt.alloc());
-    assert_eq!(rt; seen(&view, &changes, 5).ok_or("no block 5")?[0], 1);
-    changes.put(5, &[2; 512])?;
-    assert_eq!(rt; seen(&view, &changes, 5).ok_or("no block 5")?[0], 2);
-    assert!(rt; seen(&view, &changes, 6).is_none());
-    let over = Over::new(&view, &changes);
-    assert_eq!(rt; over.get(5).ok_or("no block 5")?[511], 2);
+    covers(&rt, &view, &mut changes)
+}
+
+fn stand_in_order(rt: &impl Abort, changes: &Changes) -> Result<(), Fail> {
+    assert_eq!(rt; changes.len(), 3);
+    let (first, bytes) = changes.at(0);
+    assert_eq!(rt; first, 7);
+    assert_eq!(rt; bytes[0], 4);
+    let (last, _) = changes.at(2);
+    assert_eq!(rt; last, 9);
     Ok(())
 }
 
@@ -104,12 +119,21 @@ fn changes_stand_in_the_order_of_first_writes(rt: HostRuntime) -> Result<(), Fai
     later.put(9, &[3; 512])?;
     later.put(7, &[4; 512])?;
     changes.absorb(later)?;
-    assert_eq!(rt; changes.len(), 3);
-    let (first, bytes) = changes.at(0);
-    assert_eq!(rt; first, 7);
-    assert_eq!(rt; bytes[0], 4);
-    let (last, _) = changes.at(2);
-    assert_eq!(rt; last, 9);
+    stand_in_order(&rt, &changes)
+}
+
+fn keeps_bytes(rt: &impl Abort, view: &OneBlock, changes: &mut Changes) -> Result<(), Fail> {
+    assert_eq!(rt; edit(view, changes, 6, 0, &[7]), Edited::Lacking);
+    assert!(rt; !changes.patch(5, 0, &[7]));
+    assert_eq!(rt; changes.len(), 0);
+    // in a copy of the view's block, and then twice in place
+    assert_eq!(rt; edit(view, changes, 5, 510, &[7, 8]), Edited::Done);
+    assert_eq!(rt; edit(view, changes, 5, 0, &[9]), Edited::Done);
+    assert!(rt; changes.patch(5, 2, &[6]));
+    assert_eq!(rt; changes.len(), 1);
+    let bytes = changes.get(5).ok_or("block 5 is not changed")?;
+    assert_eq!(rt; &bytes[..4], [9, 1, 6, 1].as_slice());
+    assert_eq!(rt; &bytes[508..], [1, 1, 7, 8].as_slice());
     Ok(())
 }
 
@@ -117,18 +141,7 @@ fn changes_stand_in_the_order_of_first_writes(rt: HostRuntime) -> Result<(), Fai
 fn edit_keeps_the_other_bytes_of_the_block(rt: HostRuntime) -> Result<(), Fail> {
     let view = ones();
     let mut changes = Changes::with_room(rt.alloc(), 2)?;
-    assert_eq!(rt; edit(&view, &mut changes, 6, 0, &[7]), Edited::Lacking);
-    assert!(rt; !changes.patch(5, 0, &[7]));
-    assert_eq!(rt; changes.len(), 0);
-    // in a copy of the view's block, and then twice in place
-    assert_eq!(rt; edit(&view, &mut changes, 5, 510, &[7, 8]), Edited::Done);
-    assert_eq!(rt; edit(&view, &mut changes, 5, 0, &[9]), Edited::Done);
-    assert!(rt; changes.patch(5, 2, &[6]));
-    assert_eq!(rt; changes.len(), 1);
-    let bytes = changes.get(5).ok_or("block 5 is not changed")?;
-    assert_eq!(rt; &bytes[..4], [9, 1, 6, 1].as_slice());
-    assert_eq!(rt; &bytes[508..], [1, 1, 7, 8].as_slice());
-    Ok(())
+    keeps_bytes(&rt, &view, &mut changes)
 }
 
 #[test]
@@ -141,15 +154,11 @@ fn later_one_of_two_edits_lies_over_the_earlier_one(rt: HostRuntime) -> Result<(
     Ok(())
 }
 
-#[test]
-fn two_blocks_are_held_or_none(rt: HostRuntime) -> Result<(), Fail> {
-    let view = ones();
-    let mut changes = Changes::new(rt.alloc());
-    changes.put(7, &[2; 512])?;
-    assert_eq!(rt; hold_both(&view, &mut changes, 5, 6), Edited::Lacking);
+fn are_held_or_none(rt: &impl Abort, view: &OneBlock, changes: &mut Changes) -> Result<(), Fail> {
+    assert_eq!(rt; hold_both(view, changes, 5, 6), Edited::Lacking);
     assert_eq!(rt; changes.len(), 1);
-    assert_eq!(rt; hold_both(&view, &mut changes, 5, 7), Edited::Done);
-    assert_eq!(rt; hold_both(&view, &mut changes, 7, 5), Edited::Done);
+    assert_eq!(rt; hold_both(view, changes, 5, 7), Edited::Done);
+    assert_eq!(rt; hold_both(view, changes, 7, 5), Edited::Done);
     assert_eq!(rt; changes.len(), 2);
     assert_eq!(rt; changes.get(5).ok_or("block 5 is not changed")?[0], 1);
     assert_eq!(rt; changes.get(7).ok_or("block 7 is not changed")?[0], 2);
@@ -157,18 +166,23 @@ fn two_blocks_are_held_or_none(rt: HostRuntime) -> Result<(), Fail> {
 }
 
 #[test]
-fn block_is_put_before_bytes_are_changed(rt: HostRuntime) -> Result<(), Fail> {
+fn two_blocks_are_held_or_none(rt: HostRuntime) -> Result<(), Fail> {
     let view = ones();
     let mut changes = Changes::new(rt.alloc());
-    let lacking = put_and_edit(&view, &mut changes, 9, &[3; 512], 6, 0, &[4]);
+    changes.put(7, &[2; 512])?;
+    are_held_or_none(&rt, &view, &mut changes)
+}
+
+fn is_put_before(rt: &impl Abort, view: &OneBlock, changes: &mut Changes) -> Result<(), Fail> {
+    let lacking = put_and_edit(view, changes, 9, &[3; 512], 6, 0, &[4]);
     assert_eq!(rt; lacking, Edited::Lacking);
     assert_eq!(rt; changes.len(), 0);
     // in a copy of the view's block, then in place, and then in the block put itself
-    let copied = put_and_edit(&view, &mut changes, 9, &[3; 512], 5, 0, &[4]);
+    let copied = put_and_edit(view, changes, 9, &[3; 512], 5, 0, &[4]);
     assert_eq!(rt; copied, Edited::Done);
-    let in_place = put_and_edit(&view, &mut changes, 8, &[5; 512], 5, 1, &[6]);
+    let in_place = put_and_edit(view, changes, 8, &[5; 512], 5, 1, &[6]);
     assert_eq!(rt; in_place, Edited::Done);
-    let itself = put_and_edit(&view, &mut changes, 8, &[7; 512], 8, 1, &[8]);
+    let itself = put_and_edit(view, changes, 8, &[7; 512], 8, 1, &[8]);
     assert_eq!(rt; itself, Edited::Done);
     assert_eq!(rt; changes.len(), 3);
     let bytes = changes.get(5).ok_or("block 5 is not changed")?;
@@ -177,6 +191,13 @@ fn block_is_put_before_bytes_are_changed(rt: HostRuntime) -> Result<(), Fail> {
     assert_eq!(rt; &bytes[..3], [7, 8, 7].as_slice());
     assert_eq!(rt; changes.get(9).ok_or("block 9 is not changed")?[0], 3);
     Ok(())
+}
+
+#[test]
+fn block_is_put_before_bytes_are_changed(rt: HostRuntime) -> Result<(), Fail> {
+    let view = ones();
+    let mut changes = Changes::new(rt.alloc());
+    is_put_before(&rt, &view, &mut changes)
 }
 
 #[test]
@@ -191,18 +212,22 @@ fn run_of_needs_ends_before_a_block_that_is_there(rt: HostRuntime) {
     assert_eq!(rt; Need::tables(), need_of(0, 1));
 }
 
+fn are_the_same(rt: &impl Abort, opens: &mut Opens, other: &mut Opens) -> Result<(), Fail> {
+    assert!(rt; !opens.same(other));
+    other.set(4, 2)?;
+    assert!(rt; !opens.same(other));
+    other.set(3, 2)?;
+    other.set(4, 0)?;
+    assert!(rt; opens.same(other));
+    Ok(())
+}
+
 #[test]
 fn tables_are_the_same_where_they_count_alike(rt: HostRuntime) -> Result<(), Fail> {
     let mut opens = Opens::new(rt.alloc());
     opens.set(3, 2)?;
     let mut other = Opens::new(rt.alloc());
-    assert!(rt; !opens.same(&other));
-    other.set(4, 2)?;
-    assert!(rt; !opens.same(&other));
-    other.set(3, 2)?;
-    other.set(4, 0)?;
-    assert!(rt; opens.same(&other));
-    Ok(())
+    are_the_same(&rt, &mut opens, &mut other)
 }
 
 #[test]
@@ -223,10 +248,7 @@ fn file_system_is_asked_and_acts_through_its_trait(rt: HostRuntime) {
     assert!(rt; matches!(act_on(Starved, rt.alloc(), &view, 2), Acted::NoMemory));
 }
 
-#[test]
-fn bytes_change_at_a_place_found_before(rt: HostRuntime) -> Result<(), Fail> {
-    let mut changes = Changes::new(rt.alloc());
-    changes.put(5, &[1; 512])?;
+fn change_at_a_place(rt: &impl Abort, changes: &mut Changes) -> Result<(), Fail> {
     assert_eq!(rt; changes.place(6), None);
     let place = changes.place(5).ok_or("no place")?;
     changes.put(6, &[2; 512])?;
@@ -236,4 +258,11 @@ fn bytes_change_at_a_place_found_before(rt: HostRuntime) -> Result<(), Fail> {
     assert_eq!(rt; changes.get(5).map(|bytes| bytes[3]), Some(9));
     assert_eq!(rt; changes.get(6).map(|bytes| bytes[3]), Some(2));
     Ok(())
+}
+
+#[test]
+fn bytes_change_at_a_place_found_before(rt: HostRuntime) -> Result<(), Fail> {
+    let mut changes = Changes::new(rt.alloc());
+    changes.put(5, &[1; 512])?;
+    change_at_a_place(&rt, &mut changes)
 }

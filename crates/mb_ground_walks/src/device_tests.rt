@@ -4,6 +4,7 @@ use mb_edge::{
 };
 use mb_kinds::Kind;
 use std::alloc::{AllocError, Global};
+use std::process::Abort;
 use std::test::Fail;
 
 fn bytes(alloc: Global, text: &[u8]) -> Result<Bytes, AllocError> {
@@ -14,9 +15,7 @@ fn call(alloc: Global, number: u64) -> Result<Fails, AllocError> {
     Ok(Fails::from_vec([number].to_vec(alloc)?))
 }
 
-#[test]
-fn a_read_that_fails_takes_nothing(rt: HostRuntime) -> Result<(), Fail> {
-    let mut source = MemSource::new(bytes(rt.alloc(), b"abcde")?, call(rt.alloc(), 2)?);
+fn reads_fail(rt: &impl Abort, source: &mut MemSource) -> Result<(), Fail> {
     let mut into = [0; 3];
     assert_eq!(rt; source.read(&mut into), Ok(3));
     assert_eq!(rt; into, *b"abc");
@@ -28,32 +27,27 @@ fn a_read_that_fails_takes_nothing(rt: HostRuntime) -> Result<(), Fail> {
 }
 
 #[test]
-fn a_write_that_fails_takes_nothing(rt: HostRuntime) -> Result<(), Fail> {
-    let mut sink = MemSink::new(rt.alloc(), 5, call(rt.alloc(), 2)?)?;
-    assert_eq!(rt; write_whole(&mut sink, b"ab"), Ok(()));
-    assert_eq!(rt; write_whole(&mut sink, b"x"), Err(Failed));
-    assert_eq!(rt; write_whole(&mut sink, b"cde"), Ok(()));
-    assert_eq!(rt;
-        write_whole(&mut sink, b"f"),
-        Err(Failed),
-        "the room is full"
-    );
+fn a_read_that_fails_takes_nothing(rt: HostRuntime) -> Result<(), Fail> {
+    let mut source = MemSource::new(bytes(rt.alloc(), b"abcde")?, call(rt.alloc(), 2)?);
+    reads_fail(&rt, &mut source)
+}
+
+fn writes_fail(rt: &impl Abort, sink: &mut MemSink) -> Result<(), Fail> {
+    assert_eq!(rt; write_whole(sink, b"ab"), Ok(()));
+    assert_eq!(rt; write_whole(sink, b"x"), Err(Failed));
+    assert_eq!(rt; write_whole(sink, b"cde"), Ok(()));
+    assert_eq!(rt; write_whole(sink, b"f"), Err(Failed), "the room is full");
     assert_eq!(rt; sink.taken(), b"abcde".as_slice());
     Ok(())
 }
 
 #[test]
-fn a_disk_grows_with_zeros_and_keeps_its_blocks_at_a_fault(rt: HostRuntime) -> Result<(), Fail> {
-    let none = Fails::new(rt.alloc());
-    let image = Bytes::from_vec(vec![in rt.alloc(); 7; 600]?);
-    let mut disk = MemDisk::new(
-        rt.alloc(),
-        image,
-        4,
-        none,
-        call(rt.alloc(), 4)?,
-        call(rt.alloc(), 2)?,
-    )?;
+fn a_write_that_fails_takes_nothing(rt: HostRuntime) -> Result<(), Fail> {
+    let mut sink = MemSink::new(rt.alloc(), 5, call(rt.alloc(), 2)?)?;
+    writes_fail(&rt, &mut sink)
+}
+
+fn grows(rt: &impl Abort, disk: &mut MemDisk) -> Result<(), Fail> {
     let mut into = [9; 512];
     assert_eq!(rt; disk.blocks(), Ok(1));
     assert_eq!(rt; disk.read(1, &mut into), Ok(()));
@@ -71,6 +65,21 @@ fn a_disk_grows_with_zeros_and_keeps_its_blocks_at_a_fault(rt: HostRuntime) -> R
     assert_eq!(rt; into, [5; 512]);
     assert_eq!(rt; disk.bytes().len(), 1536);
     Ok(())
+}
+
+#[test]
+fn a_disk_grows_with_zeros_and_keeps_its_blocks_at_a_fault(rt: HostRuntime) -> Result<(), Fail> {
+    let none = Fails::new(rt.alloc());
+    let image = Bytes::from_vec(vec![in rt.alloc(); 7; 600]?);
+    let mut disk = MemDisk::new(
+        rt.alloc(),
+        image,
+        4,
+        none,
+        call(rt.alloc(), 4)?,
+        call(rt.alloc(), 2)?,
+    )?;
+    grows(&rt, &mut disk)
 }
 
 #[test]

@@ -1,5 +1,6 @@
 use mb_edge::{Disk, Failed, Sink, Source};
 use mb_host::{FileDisk, InSource, OutSink, Word8};
+use std::process::Abort;
 use std::test::Fail;
 use std::{fs, io};
 
@@ -7,11 +8,7 @@ fn named<R: AllocGlobal>(rt: &R, path: &str) -> Result<Word8, Fail> {
     Ok(Word8::from_vec(path.as_bytes().to_vec(rt.alloc())?))
 }
 
-#[test]
-fn a_file_is_a_disk_of_its_whole_blocks(rt: HostRuntime) -> Result<(), Fail> {
-    let path = "file_disk_test";
-    fs::write(&rt, path, vec![in rt.alloc(); 7; 600]?.as_slice())?;
-    let mut disk = FileDisk::new(&rt, named(&rt, path)?, false);
+fn reads_and_grows<D: Disk>(rt: &impl Abort, disk: &mut D) {
     let mut into = [9; 512];
     assert_eq!(rt; disk.blocks(), Ok(1));
     assert_eq!(rt; disk.read(0, &mut into), Ok(()));
@@ -24,6 +21,14 @@ fn a_file_is_a_disk_of_its_whole_blocks(rt: HostRuntime) -> Result<(), Fail> {
     assert_eq!(rt; into, [0; 512], "the part of a block is cut off");
     assert_eq!(rt; disk.read(2, &mut into), Ok(()));
     assert_eq!(rt; into, [5; 512]);
+}
+
+#[test]
+fn a_file_is_a_disk_of_its_whole_blocks(rt: HostRuntime) -> Result<(), Fail> {
+    let path = "file_disk_test";
+    fs::write(&rt, path, vec![in rt.alloc(); 7; 600]?.as_slice())?;
+    let mut disk = FileDisk::new(&rt, named(&rt, path)?, false);
+    reads_and_grows(&rt, &mut disk);
     fs::remove_file(&rt, path)?;
     Ok(())
 }

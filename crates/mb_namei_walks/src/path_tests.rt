@@ -1,5 +1,7 @@
 use crate::volumes::{is_refused, leads_to, used_on, volume};
+use mb_gathering::Gathered;
 use mb_kinds::Errno;
+use std::process::Abort;
 use std::test::Fail;
 
 #[test]
@@ -40,10 +42,17 @@ fn super_user_searches(rt: HostRuntime) -> Result<(), Fail> {
     is_refused(&rt, 0, b"/a/g", Errno::ENOENT)
 }
 
+fn used_slots_are_counted_over<R: Abort + AllocGlobal>(
+    rt: &R,
+    disk: &Gathered,
+) -> Result<(), Fail> {
+    assert_eq!(rt; used_on(rt.alloc(), disk, 3)?, 5);
+    assert_eq!(rt; used_on(rt.alloc(), disk, 5)?, 1000);
+    Ok(())
+}
+
 #[test]
 fn used_slots_are_counted(rt: HostRuntime) -> Result<(), Fail> {
     let disk = volume(rt.alloc())?;
-    assert_eq!(rt; used_on(rt.alloc(), &disk, 3)?, 5);
-    assert_eq!(rt; used_on(rt.alloc(), &disk, 5)?, 1000);
-    Ok(())
+    used_slots_are_counted_over(&rt, &disk)
 }

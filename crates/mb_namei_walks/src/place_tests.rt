@@ -1,14 +1,16 @@
 use crate::volumes::{Ended, find_on, place_on, volume};
-use mb_gathering::{nothing, without};
+use mb_gathering::{Gathered, nothing, without};
 use mb_iface::Answer;
 use mb_kinds::Errno;
+use std::process::Abort;
 use std::test::Fail;
 
-#[test]
-fn last_component_may_be_missing(rt: HostRuntime) -> Result<(), Fail> {
-    let disk = volume(rt.alloc())?;
+fn last_component_may_be_missing_over<R: Abort + AllocGlobal>(
+    rt: &R,
+    disk: &Gathered,
+) -> Result<(), Fail> {
     let mut view = nothing(rt.alloc());
-    match place_on(rt.alloc(), &disk, &mut view, 5, b"../big/new/")? {
+    match place_on(rt.alloc(), disk, &mut view, 5, b"../big/new/")? {
         Ended::Found(Answer::Place { dir, name, ino }) => {
             assert_eq!(rt; dir, 5);
             assert_eq!(rt; name, *b"new\0\0\0\0\0\0\0\0\0\0\0");
@@ -16,7 +18,7 @@ fn last_component_may_be_missing(rt: HostRuntime) -> Result<(), Fail> {
         }
         _ => return Err("no place".into()),
     }
-    match place_on(rt.alloc(), &disk, &mut view, 5, b"f")? {
+    match place_on(rt.alloc(), disk, &mut view, 5, b"f")? {
         Ended::Found(Answer::Place { dir, ino, .. }) => {
             assert_eq!(rt; dir, 3);
             assert_eq!(rt; ino, Some(4));
@@ -27,14 +29,21 @@ fn last_component_may_be_missing(rt: HostRuntime) -> Result<(), Fail> {
 }
 
 #[test]
-fn path_without_components(rt: HostRuntime) -> Result<(), Fail> {
+fn last_component_may_be_missing(rt: HostRuntime) -> Result<(), Fail> {
     let disk = volume(rt.alloc())?;
+    last_component_may_be_missing_over(&rt, &disk)
+}
+
+fn path_without_components_over<R: Abort + AllocGlobal>(
+    rt: &R,
+    disk: &Gathered,
+) -> Result<(), Fail> {
     let mut view = nothing(rt.alloc());
-    match place_on(rt.alloc(), &disk, &mut view, 5, b"/")? {
+    match place_on(rt.alloc(), disk, &mut view, 5, b"/")? {
         Ended::Found(Answer::Itself(ino)) => assert_eq!(rt; ino, 2),
         _ => return Err("no start".into()),
     }
-    match place_on(rt.alloc(), &disk, &mut view, 5, b"")? {
+    match place_on(rt.alloc(), disk, &mut view, 5, b"")? {
         Ended::Found(Answer::Itself(ino)) => assert_eq!(rt; ino, 3),
         _ => return Err("no start".into()),
     }
@@ -42,20 +51,44 @@ fn path_without_components(rt: HostRuntime) -> Result<(), Fail> {
 }
 
 #[test]
-fn errors_of_a_place(rt: HostRuntime) -> Result<(), Fail> {
+fn path_without_components(rt: HostRuntime) -> Result<(), Fail> {
     let disk = volume(rt.alloc())?;
+    path_without_components_over(&rt, &disk)
+}
+
+fn errors_of_a_place_over<R: Abort + AllocGlobal>(rt: &R, disk: &Gathered) -> Result<(), Fail> {
     let mut view = nothing(rt.alloc());
-    match place_on(rt.alloc(), &disk, &mut view, 5, b"g/x")? {
+    match place_on(rt.alloc(), disk, &mut view, 5, b"g/x")? {
         Ended::Refused(error) => assert_eq!(rt; error, Errno::ENOENT),
         Ended::Found(_) => return Err("a place".into()),
     }
-    match place_on(rt.alloc(), &disk, &mut view, 6, b"x")? {
+    match place_on(rt.alloc(), disk, &mut view, 6, b"x")? {
         Ended::Refused(error) => assert_eq!(rt; error, Errno::EACCES),
         Ended::Found(_) => return Err("a place".into()),
     }
-    match place_on(rt.alloc(), &disk, &mut view, 5, b"f/x")? {
+    match place_on(rt.alloc(), disk, &mut view, 5, b"f/x")? {
         Ended::Refused(error) => assert_eq!(rt; error, Errno::ENOTDIR),
         Ended::Found(_) => return Err("a place".into()),
+    }
+    Ok(())
+}
+
+#[test]
+fn errors_of_a_place(rt: HostRuntime) -> Result<(), Fail> {
+    let disk = volume(rt.alloc())?;
+    errors_of_a_place_over(&rt, &disk)
+}
+
+fn each_block_is_asked_for_over<R: Abort + AllocGlobal>(
+    rt: &R,
+    disk: &Gathered,
+) -> Result<(), Fail> {
+    for missing in 0..120 {
+        let mut view = without(rt.alloc(), disk, missing)?;
+        match find_on(rt.alloc(), disk, &mut view, 5, b"/big/n999")? {
+            Ended::Found(Answer::Node(stat)) => assert_eq!(rt; stat.ino, 4),
+            _ => return Err("no inode".into()),
+        }
     }
     Ok(())
 }
@@ -64,12 +97,5 @@ fn errors_of_a_place(rt: HostRuntime) -> Result<(), Fail> {
 #[test]
 fn each_block_is_asked_for(rt: HostRuntime) -> Result<(), Fail> {
     let disk = volume(rt.alloc())?;
-    for missing in 0..120 {
-        let mut view = without(rt.alloc(), &disk, missing)?;
-        match find_on(rt.alloc(), &disk, &mut view, 5, b"/big/n999")? {
-            Ended::Found(Answer::Node(stat)) => assert_eq!(rt; stat.ino, 4),
-            _ => return Err("no inode".into()),
-        }
-    }
-    Ok(())
+    each_block_is_asked_for_over(&rt, &disk)
 }

@@ -3,6 +3,7 @@ use mb_gathering::{Gathered, gather, nothing};
 use mb_iface::Changes;
 use mb_namei::{Sought, search};
 use std::alloc::Global;
+use std::process::Abort;
 use std::test::Fail;
 
 /// Searches a directory from a view of nothing, and counts how often blocks were asked for.
@@ -30,16 +31,32 @@ fn search_on(
     Err("a search asks too often".into())
 }
 
+fn slots_of_a_small_directory_over<R: Abort + AllocGlobal>(
+    rt: &R,
+    disk: &Gathered,
+) -> Result<(), Fail> {
+    let (found, _) = search_on(rt.alloc(), disk, 3, 96, b"f")?;
+    assert_eq!(rt; found, Sought::Found { at: 3, ino: 4 });
+    let (empty, _) = search_on(rt.alloc(), disk, 3, 96, b"gone")?;
+    assert_eq!(rt; empty, Sought::Empty { at: 2 });
+    let (first, _) = search_on(rt.alloc(), disk, 2, 96, b"new")?;
+    assert_eq!(rt; first, Sought::Empty { at: 3 });
+    let (full, _) = search_on(rt.alloc(), disk, 2, 48, b"big")?;
+    assert_eq!(rt; full, Sought::Full);
+    Ok(())
+}
+
 #[test]
 fn slots_of_a_small_directory(rt: HostRuntime) -> Result<(), Fail> {
     let disk = volume(rt.alloc())?;
-    let (found, _) = search_on(rt.alloc(), &disk, 3, 96, b"f")?;
-    assert_eq!(rt; found, Sought::Found { at: 3, ino: 4 });
-    let (empty, _) = search_on(rt.alloc(), &disk, 3, 96, b"gone")?;
-    assert_eq!(rt; empty, Sought::Empty { at: 2 });
-    let (first, _) = search_on(rt.alloc(), &disk, 2, 96, b"new")?;
-    assert_eq!(rt; first, Sought::Empty { at: 3 });
-    let (full, _) = search_on(rt.alloc(), &disk, 2, 48, b"big")?;
+    slots_of_a_small_directory_over(&rt, &disk)
+}
+
+fn windows_double_over<R: Abort + AllocGlobal>(rt: &R, disk: &Gathered) -> Result<(), Fail> {
+    let (last, asked) = search_on(rt.alloc(), disk, 5, 16_000, &numbered(999))?;
+    assert_eq!(rt; last, Sought::Found { at: 999, ino: 4 });
+    assert_eq!(rt; asked, 4);
+    let (full, _) = search_on(rt.alloc(), disk, 5, 16_000, b"none")?;
     assert_eq!(rt; full, Sought::Full);
     Ok(())
 }
@@ -49,11 +66,21 @@ fn slots_of_a_small_directory(rt: HostRuntime) -> Result<(), Fail> {
 #[test]
 fn windows_double(rt: HostRuntime) -> Result<(), Fail> {
     let disk = volume(rt.alloc())?;
-    let (last, asked) = search_on(rt.alloc(), &disk, 5, 16_000, &numbered(999))?;
-    assert_eq!(rt; last, Sought::Found { at: 999, ino: 4 });
-    assert_eq!(rt; asked, 4);
-    let (full, _) = search_on(rt.alloc(), &disk, 5, 16_000, b"none")?;
+    windows_double_over(&rt, &disk)
+}
+
+fn windows_of_blocks_apart_double_over<R: Abort + AllocGlobal>(
+    rt: &R,
+    disk: &Gathered,
+) -> Result<(), Fail> {
+    let (full, asked) = search_on(rt.alloc(), disk, 5, 10_240, b"none")?;
     assert_eq!(rt; full, Sought::Full);
+    assert_eq!(rt; asked, 4);
+    let (last, _) = search_on(rt.alloc(), disk, 5, 10_240, &numbered(639))?;
+    assert_eq!(rt; last, Sought::Found { at: 639, ino: 4 });
+    let (second, asked) = search_on(rt.alloc(), disk, 5, 10_240, &numbered(32))?;
+    assert_eq!(rt; second, Sought::Found { at: 32, ino: 4 });
+    assert_eq!(rt; asked, 2);
     Ok(())
 }
 
@@ -61,15 +88,7 @@ fn windows_double(rt: HostRuntime) -> Result<(), Fail> {
 #[test]
 fn windows_of_blocks_apart_double(rt: HostRuntime) -> Result<(), Fail> {
     let disk = volume_apart(rt.alloc())?;
-    let (full, asked) = search_on(rt.alloc(), &disk, 5, 10_240, b"none")?;
-    assert_eq!(rt; full, Sought::Full);
-    assert_eq!(rt; asked, 4);
-    let (last, _) = search_on(rt.alloc(), &disk, 5, 10_240, &numbered(639))?;
-    assert_eq!(rt; last, Sought::Found { at: 639, ino: 4 });
-    let (second, asked) = search_on(rt.alloc(), &disk, 5, 10_240, &numbered(32))?;
-    assert_eq!(rt; second, Sought::Found { at: 32, ino: 4 });
-    assert_eq!(rt; asked, 2);
-    Ok(())
+    windows_of_blocks_apart_double_over(&rt, &disk)
 }
 
 /// A name ends the search where it stands in the parts that were got last.
