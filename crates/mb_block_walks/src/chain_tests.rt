@@ -1,39 +1,57 @@
 use crate::volumes::{fresh, take_next};
 use mb_alloc::{Hung, free_block};
-use mb_gathering::nothing;
+use mb_gathering::{Gathered, nothing};
 use mb_iface::Changes;
 use std::test::Fail;
 
-/// Takes all of a chain of so many blocks from a view that has nothing at first, and puts them back.
-fn chain_of(rt: &HostRuntime, free: u32) -> Result<(), Fail> {
-    let disk = fresh(rt.alloc(), free)?;
-    let mut view = nothing(rt.alloc());
-    let mut changes = Changes::new(rt.alloc());
+/// Takes all of a chain of so many blocks, and then none.
+fn take_all(
+    disk: &Gathered,
+    view: &mut Gathered,
+    changes: &mut Changes,
+    free: u32,
+) -> Result<(), Fail> {
     for passed in 0..free.min(3995) {
-        let block = take_next(&disk, &mut view, &mut changes)?;
+        let block = take_next(disk, view, changes)?;
         if block != 4000_u32.saturating_sub(free).saturating_add(passed) {
             return Err("another block is taken".into());
         }
     }
-    if take_next(&disk, &mut view, &mut changes)? != 0 {
+    if take_next(disk, view, changes)? != 0 {
         return Err("a block is taken that is not free".into());
     }
+    Ok(())
+}
+
+/// Puts so many blocks back, the last one first.
+fn put_back(disk: &Gathered, changes: &mut Changes, free: u32) -> Result<(), Fail> {
     for passed in 0..free.min(3995) {
-        match free_block(&disk, &mut changes, 3999 - passed) {
+        match free_block(disk, changes, 3999 - passed) {
             Hung::Done => {}
             _ => return Err("a block is not put back".into()),
         }
     }
-    for passed in 0..free.min(3995) {
-        let block = take_next(&disk, &mut view, &mut changes)?;
-        if block != 4000_u32.saturating_sub(free).saturating_add(passed) {
-            return Err("another block is taken again".into());
-        }
-    }
-    if take_next(&disk, &mut view, &mut changes)? != 0 {
-        return Err("a block is taken twice".into());
-    }
     Ok(())
+}
+
+/// Takes all of a chain, puts them back, and takes them again.
+fn take_twice(
+    disk: &Gathered,
+    view: &mut Gathered,
+    changes: &mut Changes,
+    free: u32,
+) -> Result<(), Fail> {
+    take_all(disk, view, changes, free)?;
+    put_back(disk, changes, free)?;
+    take_all(disk, view, changes, free)
+}
+
+/// The same of a chain of so many blocks, with a view that has nothing at first.
+fn chain_of(rt: &HostRuntime, free: u32) -> Result<(), Fail> {
+    let disk = fresh(rt.alloc(), free)?;
+    let mut view = nothing(rt.alloc());
+    let mut changes = Changes::new(rt.alloc());
+    take_twice(&disk, &mut view, &mut changes, free)
 }
 
 #[test]

@@ -133,14 +133,14 @@ fn ends_without(
     disk: &Gathered,
     call: Call,
     lacking: u32,
-    whole: Told,
+    whole: &Told,
     made: &Changes,
 ) -> Result<bool, Fail> {
     let mut view = without(heap, disk, lacking)?;
     let mut changes = Changes::new(heap);
     let (ended, asks) = end_without(heap, disk, &mut view, &mut changes, call, lacking)?;
     holds(
-        ended == whole && is_same(&changes, made),
+        ended == *whole && is_same(&changes, made),
         "a call ends otherwise where it had to ask",
     )?;
     Ok(asks)
@@ -152,16 +152,16 @@ fn ends_without_each(
     ends: &Gathered,
     call: Call,
     read: &[u32],
-    end: Told,
+    end: &Told,
     made: &Changes,
 ) -> Result<(), Fail> {
     for place in 0..ends.blocks.len() {
         let (lacking, _) = ends.blocks.at(place);
         let asks = ends_without(heap, ends, call, lacking, end, made)?;
-        holds(
-            asks == read.contains(&lacking),
-            "other blocks are asked for than are read",
-        )?;
+        let is_read = read.contains(&lacking);
+        if asks != is_read {
+            return Err("other blocks are asked for than are read".into());
+        }
     }
     Ok(())
 }
@@ -173,11 +173,11 @@ fn asks_for(
     ends: &Gathered,
     call: Call,
     read: &[u32],
-    end: Told,
+    end: &Told,
 ) -> Result<(), Fail> {
     let mut made = Changes::new(heap);
     holds(
-        call_on(ends, &mut made, call) == end,
+        call_on(ends, &mut made, call) == *end,
         "a call ends otherwise",
     )?;
     ends_without_each(heap, ends, call, read, end, &made)
@@ -190,7 +190,7 @@ type Row<'a> = (Call, &'a [u32], Told);
 fn ask_each(heap: Global, disk: &Gathered, table: &[Row<'_>]) -> Result<(), Fail> {
     let ends = ends_of(heap, disk)?;
     for (call, read, end) in table {
-        asks_for(heap, &ends, *call, read, *end)?;
+        asks_for(heap, &ends, *call, read, end)?;
     }
     Ok(())
 }

@@ -34,29 +34,44 @@ fn reach_part(
     Err("a reach asks too often".into())
 }
 
+/// The block of a part; 0 where it has none.
+fn block_of(view: &Gathered, changes: &Changes, part: u32) -> u32 {
+    match address(view, changes, 3, part.min(2_113_673)) {
+        Located::At(block) => block,
+        _ => 0,
+    }
+}
+
+/// A part is reached at a block, twice the same, and has its address then; the next block is free.
+fn reaches(
+    heap: Global,
+    disk: &Gathered,
+    view: &mut Gathered,
+    changes: &mut Changes,
+    part: u32,
+    own: u32,
+) -> Result<(), Fail> {
+    for _ in 0..2 {
+        if reach_part(heap, disk, view, changes, part)? != own {
+            return Err("another block is reached".into());
+        }
+    }
+    if block_of(view, changes, part) != own {
+        return Err("the part has another address, or none".into());
+    }
+    if take_next(disk, view, changes)? != own.saturating_add(1) {
+        return Err("more blocks were taken".into());
+    }
+    Ok(())
+}
+
 /// A part is reached with so many index blocks on its way, and has its address then.
 fn part_at(rt: &HostRuntime, part: u32, depth: u32) -> Result<(), Fail> {
     let disk = fresh(rt.alloc(), 95)?;
     let mut view = nothing(rt.alloc());
     let mut changes = Changes::new(rt.alloc());
     let own = 3905_u32.saturating_add(depth);
-    for _ in 0..2 {
-        if reach_part(rt.alloc(), &disk, &mut view, &mut changes, part)? != own {
-            return Err("another block is reached".into());
-        }
-    }
-    match address(&view, &changes, 3, part.min(2_113_673)) {
-        Located::At(block) => {
-            if block != own {
-                return Err("the part has another address".into());
-            }
-        }
-        _ => return Err("the part has no address".into()),
-    }
-    if take_next(&disk, &mut view, &mut changes)? != own.saturating_add(1) {
-        return Err("more blocks were taken".into());
-    }
-    Ok(())
+    reaches(rt.alloc(), &disk, &mut view, &mut changes, part, own)
 }
 
 #[test]
@@ -83,22 +98,32 @@ fn parts_under_the_triple_index_block(rt: HostRuntime) -> Result<(), Fail> {
     part_at(&rt, 2_113_673, 3)
 }
 
-/// Example file-blocks, as far as its blocks: 94 parts and their one index block use the chain up.
+/// Reaches the first 94 parts, and none behind them.
+fn reach_all(
+    heap: Global,
+    disk: &Gathered,
+    view: &mut Gathered,
+    changes: &mut Changes,
+) -> Result<(), Fail> {
+    for part in 0..94 {
+        if reach_part(heap, disk, view, changes, part)? == 0 {
+            return Err("a part is refused too early".into());
+        }
+    }
+    if reach_part(heap, disk, view, changes, 94)? != 0 {
+        return Err("a part is reached that the chain has no block for".into());
+    }
+    if take_next(disk, view, changes)? != 0 {
+        return Err("a block is left".into());
+    }
+    Ok(())
+}
+
+/// A file's 94 parts and their one index block use a chain of 95 blocks up.
 #[test]
 fn file_uses_the_chain_up(rt: HostRuntime) -> Result<(), Fail> {
     let disk = fresh(rt.alloc(), 95)?;
     let mut view = nothing(rt.alloc());
     let mut changes = Changes::new(rt.alloc());
-    for part in 0..94 {
-        if reach_part(rt.alloc(), &disk, &mut view, &mut changes, part)? == 0 {
-            return Err("a part is refused too early".into());
-        }
-    }
-    if reach_part(rt.alloc(), &disk, &mut view, &mut changes, 94)? != 0 {
-        return Err("a part is reached that the chain has no block for".into());
-    }
-    if take_next(&disk, &mut view, &mut changes)? != 0 {
-        return Err("a block is left".into());
-    }
-    Ok(())
+    reach_all(rt.alloc(), &disk, &mut view, &mut changes)
 }
