@@ -21,7 +21,9 @@ pub enum Located {
 
 /// The address of a part of a file, read down its way (V7 filsys(5)): the block that holds the part,
 /// or the level of the first hole. An address of 262,144 or more, which no volume has, is told as a
-/// hole.
+/// hole. It stands in each of its callers, and so does `address_at`: what a look at a block finds is used
+/// there at once.
+#[inline(always)]
 pub fn address<V: View>(view: &V, changes: &Changes, ino: u16, part: u32) -> Located
     requires { part < 2113674 }
     ensures { Locates (V.shown view.now) changes.now ino part result }
@@ -32,6 +34,7 @@ pub fn address<V: View>(view: &V, changes: &Changes, ino: u16, part: u32) -> Loc
 /// The address that stands at a level of the way to a part, level 0 being the inode's: the block of
 /// the part at the last level, an index block before it. An address of 262,144 or more is told as a
 /// hole.
+#[inline(always)]
 pub fn address_at<V: View>(view: &V, changes: &Changes, ino: u16, part: u32, last: u8) -> Located
     requires part { part < 2113674 }
     requires last { last ≤ (route_of part).depth }

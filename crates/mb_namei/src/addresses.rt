@@ -43,6 +43,7 @@ fn inode_address(inode: &[u8; 512], ino: u16, place: u32) -> Option<u32>
 
 impl<'a> Addresses<'a> {
     /// The addresses of a file; `None` where its inode's block is not there.
+    #[inline(always)]
     pub fn read<V: View>(view: &'a V, changes: &'a Changes, ino: u16) -> Option<Addresses<'a>> {
         let inode = seen(view, changes, inode_block(ino))?;
         let index = match inode_address(inode, ino, DIRECT) {
@@ -63,6 +64,7 @@ impl<'a> Addresses<'a> {
     }
 
     /// The block of a part, where it has one and the blocks on its way are there.
+    #[inline(always)]
     pub fn block<V: View>(&self, view: &V, changes: &Changes, part: u32) -> Option<u32>
         requires { part < 2113674 }
         ensures { IfSome result (λ block. block < 262144) }

@@ -3,7 +3,7 @@ ghost use Rattle.mb_namei.specs.Frontiers.{LacksPart};
 
 use crate::addresses::Addresses;
 use crate::parts::{AT_ONCE, Fetched, fetch};
-use crate::slots::{Glimpse, may_have_name, scan_slots};
+use crate::slots::{Glimpse, front_place, scan_slots};
 use mb_iface::{Changes, Need, View, seen};
 use mb_kinds::Name;
 
@@ -126,5 +126,5 @@ fn has_name<V: View>(
     let Some(bytes) = seen(view, changes, block) else {
         return false;
     };
-    may_have_name(bytes, name) && matches!(scan_slots(bytes, 32, name), Glimpse::Named { .. })
+    front_place(bytes, name) < 32 && matches!(scan_slots(bytes, 32, name), Glimpse::Named { .. })
 }

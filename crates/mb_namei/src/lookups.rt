@@ -20,7 +20,8 @@ pub enum LookedUp {
 }
 
 /// Looks one component up in an inode, which must be a directory that the caller may search (V7
-/// namei).
+/// namei). It stands in each of its callers, which take what it finds apart at once.
+#[inline(always)]
 pub fn look_up<V: View>(view: &V, changes: &Changes, cred: Cred, dir: u16, name: &Name) -> LookedUp
     ensures { LooksUp (V.shown view.now) changes.now cred dir name.now result }
 {

@@ -42,7 +42,9 @@ pub fn find<V: View>(alloc: Global, view: &V, cwd: u16, cred: Cred, path: &Path)
 }
 
 /// Finds the place of a path's last component (V7 namei): the answer to the query `Place`. What the
-/// last component leads to is not looked at. It needs no memory.
+/// last component leads to is not looked at. It needs no memory. It stands in each of its callers, who
+/// put the query together and take the answer apart.
+#[inline(always)]
 pub fn place<V: View>(alloc: Global, view: &V, cwd: u16, cred: Cred, path: &Path) -> Asked
     ensures need { AsksFor (V.shown view.now) result }
     ensures answer { (image : Image) (tree : Tree) → IsPart (V.shown view.now) image.at → IsVolume image tree → Finds image tree (query.Place cwd cred path.now) result }
@@ -80,6 +82,7 @@ pub fn place<V: View>(alloc: Global, view: &V, cwd: u16, cred: Cred, path: &Path
 }
 
 /// What stat tells of an inode: the answer to the query `Info`. It needs no memory.
+#[inline(always)]
 pub fn info_of<V: View>(alloc: Global, view: &V, ino: u16) -> Asked
     ensures need { AsksFor (V.shown view.now) result }
     ensures answer { (image : Image) (tree : Tree) → IsPart (V.shown view.now) image.at → IsVolume image tree → Finds image tree (query.Info ino) result }

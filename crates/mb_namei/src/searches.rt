@@ -58,6 +58,7 @@ enum PartCounted {
 /// Searches a directory of so many bytes for a name, slot after slot (V7 dir(5)), 32 of them in a
 /// block. What it answers is promised where each part below the size has a block, as in every
 /// directory of a volume; a hole ends the search as if no slot were there.
+#[inline(always)]
 pub fn search<V: View>(view: &V, changes: &Changes, dir: u16, size: u32, name: &Name) -> Sought
     ensures { Seeks (V.shown view.now) changes.now dir size name.now result }
 {

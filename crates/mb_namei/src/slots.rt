@@ -45,19 +45,20 @@ fn has_name(bytes: &[u8; 512], place: u32, name: &Name, front: u64, back: u64) -
     eight_at(bytes, at + 2) == front && eight_at(bytes, at + 8) == back
 }
 
-/// Whether the first eight bytes of a name stand in a slot of a directory's block, in use or not: where
-/// they do not no slot has the name. To look for them alone takes a fifth of the time.
-pub(crate) fn may_have_name(bytes: &[u8; 512], name: &Name) -> bool
-    ensures { result ≡ false → AreUnnamed (slot_of bytes.now) name.now 32 }
+/// The first place of a directory's block in whose slot, in use or not, the first eight bytes of a name stand;
+/// 32 where they stand in none. No slot before it has the name. To look for these bytes alone takes a fifth of
+/// the time.
+pub(crate) fn front_place(bytes: &[u8; 512], name: &Name) -> u32
+    ensures { AreUnnamed (slot_of bytes.now) name.now result }
 {
     let _name = *name;
     let front = eight_at(name, 0);
     for place in 0..32u32 {
         if eight_at(bytes, 16 * place as usize + 2) == front {
-            return true;
+            return place;
         }
     }
-    false
+    32
 }
 
 /// The first empty one of the first `count` slots of a directory's block, or `count` where none is.
@@ -78,23 +79,17 @@ pub(crate) fn scan_slots(bytes: &[u8; 512], count: u32, name: &Name) -> Glimpse
     requires { count ≤ 32 }
     ensures { Glimpses bytes.now count name.now result }
 {
-    if !may_have_name(bytes, name) {
-        return Glimpse::Unnamed {
-            empty: first_gap(bytes, count),
-        };
-    }
     let front = eight_at(name, 0);
     let back = eight_at(name, 6);
-    let mut empty = count;
-    for place in 0..count {
+    for place in front_place(bytes, name)..count {
         let ino = word_at(bytes, 16 * place as usize);
-        if ino == EMPTY {
-            empty = empty.min(place);
-        } else if has_name(bytes, place, name, front, back) {
+        if ino != EMPTY && has_name(bytes, place, name, front, back) {
             return Glimpse::Named { place, ino };
         }
     }
-    Glimpse::Unnamed { empty }
+    Glimpse::Unnamed {
+        empty: first_gap(bytes, count),
+    }
 }
 
 /// How many of the first `count` slots of a directory's block are in use.
