@@ -160,22 +160,21 @@ fn gather(wild: &Wild, view: &mut Gathered, need: Need) -> Result<(), Fail> {
 }
 
 /// Every changed block is one that a volume can have.
-fn are_below(changes: &Changes) -> bool {
+fn are_below(changes: &Changes) -> Result<(), Fail> {
     for place in 0..changes.len() {
         let (block, _bytes) = changes.at(place);
         if block >= 262_144 {
-            return false;
+            return Err("a block past the greatest volume is changed".into());
         }
     }
-    true
+    Ok(())
 }
 
-/// A query comes to an answer, or asks for more blocks each time.
-pub fn asks_well(heap: Global, wild: &Wild, query: &Query) -> Result<(), Fail> {
-    let mut view = nothing(heap);
+/// A query of a view comes to an answer, or asks for more blocks each time.
+fn asks_over(heap: Global, wild: &Wild, view: &mut Gathered, query: &Query) -> Result<(), Fail> {
     for _ in 0..ROUNDS {
-        match V7.ask(heap, &view, query) {
-            Asked::Need(need) => gather(wild, &mut view, need)?,
+        match V7.ask(heap, view, query) {
+            Asked::Need(need) => gather(wild, view, need)?,
             Asked::NoMemory => return Err("no memory".into()),
             _ => return Ok(()),
         }
@@ -183,27 +182,33 @@ pub fn asks_well(heap: Global, wild: &Wild, query: &Query) -> Result<(), Fail> {
     Ok(())
 }
 
-/// An operation comes to an end, or asks for more blocks each time.
-pub fn acts_well(
+/// A query comes to an answer, or asks for more blocks each time.
+pub fn asks_well(heap: Global, wild: &Wild, query: &Query) -> Result<(), Fail> {
+    asks_over(heap, wild, &mut nothing(heap), query)
+}
+
+/// An operation on a view comes to an end, or asks for more blocks each time.
+fn acts_over(
     heap: Global,
     wild: &Wild,
+    view: &mut Gathered,
     opens: &Opens,
     op: &FsOp,
     pick: Option<u16>,
 ) -> Result<(), Fail> {
-    let mut view = nothing(heap);
     for _ in 0..ROUNDS {
-        match V7.act(heap, &view, opens, op, pick) {
-            Acted::Need(need) => gather(wild, &mut view, need)?,
+        match V7.act(heap, view, opens, op, pick) {
+            Acted::Need(need) => gather(wild, view, need)?,
             Acted::NoMemory => return Err("no memory".into()),
             Acted::Refused(_) => return Ok(()),
-            Acted::Done { changes, pick: _ } => {
-                if are_below(&changes) {
-                    return Ok(());
-                }
-                return Err("a block past the greatest volume is changed".into());
-            }
+            Acted::Done { changes, pick: _ } => return are_below(&changes),
         }
     }
     Ok(())
+}
+
+/// An operation comes to an end where no file is open, or asks for more blocks each time.
+pub fn acts_well(heap: Global, wild: &Wild, op: &FsOp, pick: Option<u16>) -> Result<(), Fail> {
+    let opens = Opens::new(heap);
+    acts_over(heap, wild, &mut nothing(heap), &opens, op, pick)
 }

@@ -1,5 +1,5 @@
 use crate::hostile::{Draws, Wild, acts_well, asks_well};
-use mb_iface::{Opens, Query};
+use mb_iface::Query;
 use mb_kinds::{Cred, Name, Octets, Path};
 use mb_tree::{FsOp, Inos};
 use std::alloc::Global;
@@ -17,11 +17,9 @@ fn name_of(draws: &mut Draws) -> Name {
 
 /// A path of two components.
 fn path_of(heap: Global, draws: &mut Draws) -> Result<Path, Fail> {
-    let mut text = Vec::new(heap);
-    text.push(b'/')?;
-    text.push(b'a' + draws.byte() % 4)?;
-    text.push(b'/')?;
-    text.push(b'a' + draws.byte() % 4)?;
+    let first = b'a' + draws.byte() % 4;
+    let second = b'a' + draws.byte() % 4;
+    let text = [b'/', first, b'/', second].to_vec(heap)?;
     if text.len() > 255 || text.contains(&0) {
         return Err("no path is drawn".into());
     }
@@ -145,17 +143,45 @@ fn pick_of(draws: &mut Draws) -> Option<u16> {
     }
 }
 
+/// The next query of an index comes to an answer.
+fn asks(heap: Global, wild: &Wild, draws: &mut Draws, index: u32) -> Result<(), Fail> {
+    let query = query_of(heap, draws, index)?;
+    asks_well(heap, wild, &query)
+}
+
+/// Of the blocks of a seed each query comes to an answer.
+fn asks_of(heap: Global, seed: u64) -> Result<(), Fail> {
+    let wild = Wild::new(seed);
+    let mut draws = Draws::new(seed);
+    for index in 0..5 {
+        asks(heap, &wild, &mut draws, index)?;
+    }
+    Ok(())
+}
+
 /// Whatever bytes stand in the blocks, each query comes to an answer.
 #[test]
 fn queries_of_any_blocks_are_answered(rt: HostRuntime) -> Result<(), Fail> {
     let heap = rt.alloc();
     for seed in 0..SEEDS {
-        let wild = Wild::new(seed);
-        let mut draws = Draws::new(seed);
-        for index in 0..5 {
-            let query = query_of(heap, &mut draws, index)?;
-            asks_well(heap, &wild, &query)?;
-        }
+        asks_of(heap, seed)?;
+    }
+    Ok(())
+}
+
+/// The next operation on names of an index comes to an end.
+fn renames(heap: Global, wild: &Wild, draws: &mut Draws, index: u32) -> Result<(), Fail> {
+    let op = names_op(draws, index);
+    let pick = pick_of(draws);
+    acts_well(heap, wild, &op, pick)
+}
+
+/// In the blocks of a seed each operation on names comes to an end.
+fn renames_in(heap: Global, seed: u64) -> Result<(), Fail> {
+    let wild = Wild::new(seed);
+    let mut draws = Draws::new(seed);
+    for index in 0..5 {
+        renames(heap, &wild, &mut draws, index)?;
     }
     Ok(())
 }
@@ -164,15 +190,24 @@ fn queries_of_any_blocks_are_answered(rt: HostRuntime) -> Result<(), Fail> {
 #[test]
 fn names_in_any_blocks_are_changed(rt: HostRuntime) -> Result<(), Fail> {
     let heap = rt.alloc();
-    let opens = Opens::new(heap);
     for seed in 0..SEEDS {
-        let wild = Wild::new(seed);
-        let mut draws = Draws::new(seed);
-        for index in 0..5 {
-            let op = names_op(&mut draws, index);
-            let pick = pick_of(&mut draws);
-            acts_well(heap, &wild, &opens, &op, pick)?;
-        }
+        renames_in(heap, seed)?;
+    }
+    Ok(())
+}
+
+/// The next operation on an inode of an index comes to an end.
+fn changes(heap: Global, wild: &Wild, draws: &mut Draws, index: u32) -> Result<(), Fail> {
+    let op = inode_op(heap, draws, index)?;
+    acts_well(heap, wild, &op, None)
+}
+
+/// In the blocks of a seed each operation on an inode comes to an end.
+fn changes_in(heap: Global, seed: u64) -> Result<(), Fail> {
+    let wild = Wild::new(seed);
+    let mut draws = Draws::new(seed);
+    for index in 0..7 {
+        changes(heap, &wild, &mut draws, index)?;
     }
     Ok(())
 }
@@ -181,14 +216,8 @@ fn names_in_any_blocks_are_changed(rt: HostRuntime) -> Result<(), Fail> {
 #[test]
 fn inodes_in_any_blocks_are_changed(rt: HostRuntime) -> Result<(), Fail> {
     let heap = rt.alloc();
-    let opens = Opens::new(heap);
     for seed in 0..SEEDS {
-        let wild = Wild::new(seed);
-        let mut draws = Draws::new(seed);
-        for index in 0..7 {
-            let op = inode_op(heap, &mut draws, index)?;
-            acts_well(heap, &wild, &opens, &op, None)?;
-        }
+        changes_in(heap, seed)?;
     }
     Ok(())
 }

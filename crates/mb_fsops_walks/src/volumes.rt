@@ -33,56 +33,93 @@ pub fn fresh(heap: Global) -> Result<Volume, Fail> {
     })
 }
 
-/// Asks a file system until it asks for no block any longer.
-fn asked<F: FileSys>(fs: F, heap: Global, disk: &Gathered, query: &Query) -> Result<Asked, Fail> {
-    let mut view = nothing(heap);
+/// Asks the file system over a view until it asks for no block any longer.
+fn asked_over(volume: &Volume, view: &mut Gathered, query: &Query) -> Result<Asked, Fail> {
     for _ in 0..100 {
-        match fs.ask(heap, &view, query) {
-            Asked::Need(need) => gather(disk, &mut view, need)?,
+        match V7.ask(volume.heap, view, query) {
+            Asked::Need(need) => gather(&volume.blocks, view, need)?,
             other => return Ok(other),
         }
     }
     Err("a query asks too often".into())
 }
 
-/// Lets a file system act until it asks for no block any longer.
-fn acted<F: FileSys>(
-    fs: F,
-    heap: Global,
-    disk: &Gathered,
-    opens: &Opens,
+/// Asks the file system until it asks for no block any longer.
+fn asked(volume: &Volume, query: &Query) -> Result<Asked, Fail> {
+    asked_over(volume, &mut nothing(volume.heap), query)
+}
+
+/// Lets the file system act over a view until it asks for no block any longer.
+fn acted_over(
+    volume: &Volume,
+    view: &mut Gathered,
     op: &FsOp,
     pick: Option<u16>,
 ) -> Result<Acted, Fail> {
-    let mut view = nothing(heap);
     for _ in 0..100 {
-        match fs.act(heap, &view, opens, op, pick) {
-            Acted::Need(need) => gather(disk, &mut view, need)?,
+        match V7.act(volume.heap, view, &volume.opens, op, pick) {
+            Acted::Need(need) => gather(&volume.blocks, view, need)?,
             other => return Ok(other),
         }
     }
     Err("an operation asks too often".into())
 }
 
-/// The first block of each of an operation's needs, one after another.
-pub fn asks_for(volume: &Volume, op: &FsOp, pick: Option<u16>) -> Result<Vec<u32>, Fail> {
-    let mut asked = Vec::new(volume.heap);
-    let mut view = nothing(volume.heap);
+/// Lets the file system act until it asks for no block any longer.
+fn acted(volume: &Volume, op: &FsOp, pick: Option<u16>) -> Result<Acted, Fail> {
+    acted_over(volume, &mut nothing(volume.heap), op, pick)
+}
+
+/// Adds the first block of each of an operation's needs, one after another.
+fn add_needs(
+    volume: &Volume,
+    view: &mut Gathered,
+    asked: &mut Vec<u32>,
+    op: &FsOp,
+    pick: Option<u16>,
+) -> Result<(), Fail> {
     for _ in 0..100 {
-        match V7.act(volume.heap, &view, &volume.opens, op, pick) {
+        match V7.act(volume.heap, view, &volume.opens, op, pick) {
             Acted::Need(need) => {
                 asked.push(need.first)?;
-                gather(&volume.blocks, &mut view, need)?;
+                gather(&volume.blocks, view, need)?;
             }
-            _ => return Ok(asked),
+            _ => return Ok(()),
         }
     }
     Err("an operation asks too often".into())
 }
 
+/// The first block of each of an operation's needs, one after another.
+fn asks_for(volume: &Volume, op: &FsOp, pick: Option<u16>) -> Result<Vec<u32>, Fail> {
+    let mut asked = Vec::new(volume.heap);
+    add_needs(volume, &mut nothing(volume.heap), &mut asked, op, pick)?;
+    Ok(asked)
+}
+
+/// The last of so many blocks that begin with these.
+fn last_of(asked: &[u32], count: usize, first: &[u32]) -> Result<u32, Fail> {
+    match asked.last() {
+        Some(last) if asked.len() == count && asked.starts_with(first) => Ok(*last),
+        _ => Err("other blocks are asked for".into()),
+    }
+}
+
+/// The last of the blocks that an operation asks for, which are so many and begin with these.
+pub fn last_need(
+    volume: &Volume,
+    op: &FsOp,
+    pick: Option<u16>,
+    count: usize,
+    first: &[u32],
+) -> Result<u32, Fail> {
+    let asked = asks_for(volume, op, pick)?;
+    last_of(&asked, count, first)
+}
+
 /// Does an operation on the volume, with a demanded number or without one.
 fn perform(volume: &mut Volume, op: &FsOp, pick: Option<u16>) -> Result<Ended, Fail> {
-    match acted(V7, volume.heap, &volume.blocks, &volume.opens, op, pick)? {
+    match acted(volume, op, pick)? {
         Acted::Done { changes, pick } => {
             volume.blocks.blocks.absorb(changes)?;
             Ok(Ended::Done(pick))
@@ -93,8 +130,8 @@ fn perform(volume: &mut Volume, op: &FsOp, pick: Option<u16>) -> Result<Ended, F
 }
 
 /// Does an operation, which has to end so.
-pub fn ends(volume: &mut Volume, op: &FsOp, wanted: Ended) -> Result<(), Fail> {
-    if perform(volume, op, None)? == wanted {
+pub fn ends(volume: &mut Volume, op: FsOp, wanted: Ended) -> Result<(), Fail> {
+    if perform(volume, &op, None)? == wanted {
         Ok(())
     } else {
         Err("another end".into())
@@ -126,7 +163,7 @@ pub fn creation(dir: u16, text: &[u8]) -> FsOp {
 
 /// Makes a file under a name of a directory.
 pub fn creates(volume: &mut Volume, dir: u16, text: &[u8], wanted: Ended) -> Result<(), Fail> {
-    ends(volume, &creation(dir, text), wanted)
+    ends(volume, creation(dir, text), wanted)
 }
 
 /// Makes a file with a demanded number under a name of the root.
@@ -152,7 +189,7 @@ pub fn directory_creation(text: &[u8]) -> FsOp {
 
 /// Makes a directory under a name of the root.
 pub fn makes_dir(volume: &mut Volume, text: &[u8], wanted: Ended) -> Result<(), Fail> {
-    ends(volume, &directory_creation(text), wanted)
+    ends(volume, directory_creation(text), wanted)
 }
 
 /// The removal of a directory by its name in the root.
@@ -166,7 +203,7 @@ pub fn removal(text: &[u8]) -> FsOp {
 
 /// Removes a directory by its name in the root.
 pub fn removes_dir(volume: &mut Volume, text: &[u8], wanted: Ended) -> Result<(), Fail> {
-    ends(volume, &removal(text), wanted)
+    ends(volume, removal(text), wanted)
 }
 
 /// Enters a further name of an inode in the root.
@@ -177,7 +214,7 @@ pub fn enlinks(volume: &mut Volume, text: &[u8], ino: u16, wanted: Ended) -> Res
         ino,
         moment: 8,
     };
-    ends(volume, &op, wanted)
+    ends(volume, op, wanted)
 }
 
 /// Takes a name out of the root.
@@ -187,7 +224,7 @@ pub fn delinks(volume: &mut Volume, text: &[u8], wanted: Ended) -> Result<(), Fa
         name: named(text),
         moment: 8,
     };
-    ends(volume, &op, wanted)
+    ends(volume, op, wanted)
 }
 
 /// Puts bytes into a file.
@@ -201,7 +238,7 @@ pub fn puts(volume: &mut Volume, ino: u16, offset: u32, text: &[u8]) -> Result<(
         bytes: Octets::from_vec(text.to_vec(volume.heap)?),
         moment: 9,
     };
-    ends(volume, &op, Ended::Done(None))
+    ends(volume, op, Ended::Done(None))
 }
 
 /// Sets how many open files an inode has.
@@ -220,7 +257,7 @@ pub fn lets_go(volume: &mut Volume, ino: u16, left: u32) -> Result<(), Fail> {
     let op = FsOp::Release {
         inos: Inos::from_vec([ino].to_vec(volume.heap)?),
     };
-    ends(volume, &op, Ended::Done(None))?;
+    ends(volume, op, Ended::Done(None))?;
     counts_open(volume, ino, left)
 }
 
@@ -244,17 +281,22 @@ fn found(volume: &Volume, text: &[u8]) -> Result<Asked, Fail> {
         cred: Cred { uid: 5, gid: 6 },
         path: path_of(volume.heap, text)?,
     };
-    asked(V7, volume.heap, &volume.blocks, &query)
+    asked(volume, &query)
 }
 
-/// The directory and the name of a path's last component, as the super-user finds them.
-pub fn name_at(volume: &Volume, text: &[u8]) -> Result<(u16, Name), Fail> {
+/// Finds the place of a path's last component as the super-user does.
+fn placed(volume: &Volume, text: &[u8]) -> Result<Asked, Fail> {
     let query = Query::Place {
         cwd: ROOT,
         cred: Cred { uid: 0, gid: 0 },
         path: path_of(volume.heap, text)?,
     };
-    match asked(V7, volume.heap, &volume.blocks, &query)? {
+    asked(volume, &query)
+}
+
+/// The directory and the name of a path's last component, as the super-user finds them.
+pub fn name_at(volume: &Volume, text: &[u8]) -> Result<(u16, Name), Fail> {
+    match placed(volume, text)? {
         Asked::Found(Answer::Place { dir, name, .. }) => Ok((dir, name)),
         _ => Err("no place".into()),
     }
@@ -298,7 +340,7 @@ pub fn is_missing(volume: &Volume, text: &[u8]) -> Result<(), Fail> {
 
 /// What stat tells of an inode.
 pub fn info(volume: &Volume, ino: u16) -> Result<Stat, Fail> {
-    match asked(V7, volume.heap, &volume.blocks, &Query::Info { ino })? {
+    match asked(volume, &Query::Info { ino })? {
         Asked::Found(Answer::Node(stat)) => Ok(stat),
         _ => Err("no inode".into()),
     }
@@ -316,7 +358,7 @@ pub fn is_so(volume: &Volume, ino: u16, mode: u16, nlink: u16, size: u32) -> Res
 
 /// So many slots of a directory are in use.
 pub fn counts(volume: &Volume, ino: u16, wanted: u32) -> Result<(), Fail> {
-    match asked(V7, volume.heap, &volume.blocks, &Query::Used { ino })? {
+    match asked(volume, &Query::Used { ino })? {
         Asked::Found(Answer::Used(count)) => {
             if count == wanted {
                 Ok(())
@@ -328,21 +370,29 @@ pub fn counts(volume: &Volume, ino: u16, wanted: u32) -> Result<(), Fail> {
     }
 }
 
-/// A read of 100 bytes of a file gets these.
-pub fn reads(volume: &Volume, ino: u16, offset: u32, wanted: &[u8]) -> Result<(), Fail> {
+/// Reads 100 bytes of a file.
+fn bytes_at(volume: &Volume, ino: u16, offset: u32) -> Result<Asked, Fail> {
     let query = Query::Bytes {
         ino,
         offset,
         count: 100,
     };
-    match asked(V7, volume.heap, &volume.blocks, &query)? {
-        Asked::Found(Answer::Bytes(bytes)) => {
-            if bytes.as_slice() == wanted {
-                Ok(())
-            } else {
-                Err("other bytes".into())
-            }
-        }
+    asked(volume, &query)
+}
+
+/// These bytes are the wanted ones.
+fn are(bytes: &[u8], wanted: &[u8]) -> Result<(), Fail> {
+    if bytes == wanted {
+        Ok(())
+    } else {
+        Err("other bytes".into())
+    }
+}
+
+/// A read of 100 bytes of a file gets these.
+pub fn reads(volume: &Volume, ino: u16, offset: u32, wanted: &[u8]) -> Result<(), Fail> {
+    match bytes_at(volume, ino, offset)? {
+        Asked::Found(Answer::Bytes(bytes)) => are(bytes.as_slice(), wanted),
         _ => Err("no bytes".into()),
     }
 }
