@@ -4,6 +4,7 @@ use crate::pairs::Pair;
 use crate::tallies::Tally;
 use mb_gathering::{SMALL, Size};
 use mb_kinds::{Cred, Creds};
+use mb_tree::FsOp;
 use std::alloc::Global;
 use std::test::Fail;
 
@@ -20,19 +21,65 @@ fn agrees(heap: Global, draws: &mut Draws, pair: &mut Pair, moment: u32) -> Resu
     pair.call(caller, &call, moment)
 }
 
+/// The next 100,000 calls are answered alike, and after every tenth of them the image shows the model's tree.
+fn calls_agree(heap: Global, draws: &mut Draws, pair: &mut Pair) -> Result<(), Fail> {
+    for moment in 1..100_001 {
+        agrees(heap, draws, pair, moment)?;
+        if moment % 10 == 0 {
+            pair.shows_the_tree()?;
+        }
+    }
+    pair.is_sound()
+}
+
 /// After every tenth of them the image shows the model's tree, and the checker finds no fault in the last.
 #[test]
 fn random_calls_are_answered_as_the_model_answers(rt: HostRuntime) -> Result<(), Fail> {
     let heap = rt.alloc();
     let mut draws = Draws::new(20_261_127);
     let mut pair = pair(heap, SMALL)?;
-    for moment in 1..100_001 {
-        agrees(heap, &mut draws, &mut pair, moment)?;
-        if moment % 10 == 0 {
-            pair.shows_the_tree()?;
+    calls_agree(heap, &mut draws, &mut pair)
+}
+
+/// After an operation the image shows the model's tree, and the checker finds no fault in every hundredth.
+fn shows(pair: &Pair, tally: &mut Tally, op: &FsOp) -> Result<(), Fail> {
+    pair.shows_the_tree()?;
+    tally.add(op);
+    if tally.total() % 100 == 0 {
+        pair.is_sound()?;
+    }
+    Ok(())
+}
+
+/// The next call is answered alike; if it did an operation, the image shows the model's tree.
+fn shows_next(
+    heap: Global,
+    draws: &mut Draws,
+    pair: &mut Pair,
+    tally: &mut Tally,
+    moment: u32,
+) -> Result<(), Fail> {
+    let answered = agrees(heap, draws, pair, moment)?;
+    match &answered.op {
+        Some(op) => shows(pair, tally, op),
+        None => Ok(()),
+    }
+}
+
+/// The next 10,000 operations leave the model's tree, in at most 200,000 calls.
+fn operations_agree(
+    heap: Global,
+    draws: &mut Draws,
+    pair: &mut Pair,
+    tally: &mut Tally,
+) -> Result<(), Fail> {
+    for moment in 1..200_001 {
+        shows_next(heap, draws, pair, tally, moment)?;
+        if tally.total() == 10_000 {
+            break;
         }
     }
-    pair.is_sound()
+    Ok(())
 }
 
 /// After each operation on a tree that grew by the calls before, the image shows the tree that the model has then, and the
@@ -47,19 +94,7 @@ fn random_operations_leave_the_tree_that_the_model_has(rt: HostRuntime) -> Resul
     };
     let mut pair = pair(heap, size)?;
     let mut tally = Tally::new();
-    for moment in 1..200_001 {
-        let Answered { op, .. } = agrees(heap, &mut draws, &mut pair, moment)?;
-        if let Some(op) = &op {
-            pair.shows_the_tree()?;
-            tally.add(op);
-            if tally.total() % 100 == 0 {
-                pair.is_sound()?;
-            }
-        }
-        if tally.total() == 10_000 {
-            break;
-        }
-    }
+    operations_agree(heap, &mut draws, &mut pair, &mut tally)?;
     assert_eq!(rt; tally.total(), 10_000);
     assert!(rt; tally.least() >= 10);
     Ok(())

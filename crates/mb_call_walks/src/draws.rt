@@ -1,5 +1,5 @@
 use mb_kinds::{Call, How, Octets, Path, Whence};
-use std::alloc::Global;
+use std::alloc::{AllocError, Global};
 use std::test::Fail;
 
 /// Calls that are drawn one after another, the same ones for the same seed.
@@ -55,9 +55,8 @@ impl Draws {
         }
     }
 
-    /// The next path, of one or two components.
-    fn path(&mut self, heap: Global) -> Result<Path, Fail> {
-        let mut text = Vec::new(heap);
+    /// Adds the next path, of one or two components.
+    fn add_path(&mut self, text: &mut Vec<u8>) -> Result<(), AllocError> {
         if self.next() % 2 == 0 {
             text.push(b'/')?;
         }
@@ -65,7 +64,13 @@ impl Draws {
             text.extend_from_slice(self.component())?;
             text.push(b'/')?;
         }
-        text.extend_from_slice(self.component())?;
+        text.extend_from_slice(self.component())
+    }
+
+    /// The next path, of one or two components.
+    fn path(&mut self, heap: Global) -> Result<Path, Fail> {
+        let mut text = Vec::new(heap);
+        self.add_path(&mut text)?;
         path_of(text)
     }
 

@@ -46,29 +46,33 @@ impl Marks {
         Ok(())
     }
 
+    /// Marks the blocks of a list of free blocks that begins at a byte of a block, and gives the block of the next list, or 0.
+    fn hold_list(&mut self, list: &[u8; 512], at: usize) -> Result<u32, Fail> {
+        let count = word(list, at);
+        if count == 0 {
+            return Ok(0);
+        }
+        if count > 50 {
+            return Err("a list of free blocks is too long".into());
+        }
+        let addresses = at.saturating_add(2);
+        for place in 1..usize::from(count) {
+            self.hold(long(list, addresses.saturating_add(4 * place)))?;
+        }
+        Ok(long(list, addresses))
+    }
+
     /// Marks the blocks of the free chain, list after list.
     pub fn hold_free(&mut self, volume: &Gathered) -> Result<(), Fail> {
-        let mut list = block_of(volume, 1)?;
-        let mut at = 6usize;
+        let first = block_of(volume, 1)?;
+        let mut next = self.hold_list(&first, 6)?;
         for _ in 0..self.held.len() {
-            let count = word(&list, at);
-            if count == 0 {
-                return Ok(());
-            }
-            if count > 50 {
-                return Err("a list of free blocks is too long".into());
-            }
-            let addresses = at.saturating_add(2);
-            for place in 1..usize::from(count) {
-                self.hold(long(&list, addresses.saturating_add(4 * place)))?;
-            }
-            let next = long(&list, addresses);
             if next == 0 {
                 return Ok(());
             }
             self.hold(next)?;
-            list = block_of(volume, next)?;
-            at = 0;
+            let list = block_of(volume, next)?;
+            next = self.hold_list(&list, 0)?;
         }
         Err("the free chain has no end".into())
     }
