@@ -1,5 +1,5 @@
 -- A walk one component further.
-use Rattle.std.proofs.Common.{◌≡◌, ◌≢◌, ℕ, suc, ◌+◌, ◌-◌, ◌<◌, true, List, ◌∷◌, ◌++◌, length, take, get_or, Option, Some, None, Result, Ok, Err, sym, ap, subst, ◌∙◌, arith}
+use Rattle.std.proofs.Common.{◌≡◌, ◌≢◌, ℕ, suc, ◌+◌, ◌-◌, ◌<◌, true, List, ◌∷◌, ◌++◌, length, get_or, Option, Some, None, Result, Ok, Err, sym, ap, subst, ◌∙◌, arith}
 use Rattle.std.proofs.lemmas.List.{drop-drop, get_or-drop, length-drop, length-take, take-append-drop}
 use Rattle.std.proofs.Math.Seq.{drop-cons}
 use Rattle.std.specs.Prelude.{drop, slice_index, IfSome}
@@ -14,7 +14,7 @@ use Rattle.mb_tree.specs.Lookup.{components, find_path, find_place, slash, start
 use Rattle.mb_tree.specs.declared.lookups.Placed.{Placed}
 use Rattle.mb_tree.specs.declared.seats.Seat.{Seat}
 use Rattle.mb_tree.specs.declared.trees.Tree.{Tree}
-use Rattle.mb_calls.specs.Following.{AsksNear, IsCut, IsGoing, IsKept, IsPlaceOf, LacksForCall, LacksOnWay}
+use Rattle.mb_calls.specs.Following.{AsksNear, IsAhead, IsCut, IsGoing, IsKept, IsPlaceOf, LacksForCall, LacksOnWay, piece_of}
 use Rattle.mb_calls.specs.Halts.{Matches, IsOver, Needs}
 use Rattle.mb_calls.specs.Following.{ViewGrows}
 use Rattle.mb_calls.specs.Looked.{IsFirst, IsLooked, paths_of}
@@ -22,16 +22,14 @@ use Rattle.mb_calls.specs.Looked.IsLooked.{passed}
 use Rattle.mb_calls.specs.Halts.Scope.{around}
 use Rattle.mb_calls.specs.declared.halts.Halt.{Halt}
 use Rattle.mb_calls.specs.declared.halts.Halt.TheVariants as why
+use Rattle.mb_calls.specs.declared.walks.Ahead.{Ahead}
 use Rattle.mb_calls.specs.declared.walks.PathWalk.{PathWalk}
 use Rattle.mb_calls.specs.declared.walks.PathWalks.{PathWalks}
 use Rattle.mb_calls.proofs.Nearby.{has_first, near_more}
 use Rattle.mb_calls.proofs.Walking.{find_followed, place_followed, way_followed, way_head, followed_on, grown_part}
 
-abbrev pub head_of : List ℕ → ℕ → ℕ → List ℕ
-head_of path from next = take (next - 1 - from) (drop from path)
-
 module _ (path : List ℕ) (from next : ℕ) (cut : IsCut path from next) where
-  cut_is : drop from path ≡ head_of path from next ++ slash ∷ drop next path
+  cut_is : drop from path ≡ piece_of path from next ++ slash ∷ drop next path
   cut_is =
       let low = cut.some in
       let high = cut.within in
@@ -39,10 +37,10 @@ module _ (path : List ℕ) (from next : ℕ) (cut : IsCut path from next) where
       let on : suc (next - 1) ≡ next = omega arith in
       let within : next - 1 < length path = omega arith in
       sym (take-append-drop (next - 1 - from) (drop from path))
-      ∙ ap (λ rest. head_of path from next ++ rest) (drop-drop (next - 1 - from) from path ∙ ap (λ n. drop n path) far ∙ drop-cons path (next - 1) 0 within
+      ∙ ap (λ rest. piece_of path from next ++ rest) (drop-drop (next - 1 - from) from path ∙ ap (λ n. drop n path) far ∙ drop-cons path (next - 1) 0 within
       ∙ ap (λ x. x ∷ drop (suc (next - 1)) path) cut.ends ∙ ap (λ n. slash ∷ drop n path) on)
 
-  head_some : 0 < length (head_of path from next)
+  head_some : 0 < length (piece_of path from next)
   head_some =
       let low = cut.some in
       let high = cut.within in
@@ -54,7 +52,7 @@ module _ (path : List ℕ) (from next : ℕ) (cut : IsCut path from next) where
   tail_other : slice_index (drop next path) 0 ≢ slash
   tail_other e = let zero_more : next + 0 ≡ next = omega arith in cut.begins (sym (get_or-drop next path 0 0 ∙ ap (λ n. get_or path n 0) zero_more) ∙ e)
 
-module _ (shown : ℕ → Option (List ℕ)) (seat : Seat) (path : List ℕ) (walk : PathWalk) (next : ℕ) (head : List ℕ) (kept : IsKept shown seat path walk) (cut : IsCut path walk.from next) (is : head ≡ head_of path walk.from next) where
+module _ (shown : ℕ → Option (List ℕ)) (seat : Seat) (path : List ℕ) (walk : PathWalk) (next : ℕ) (head : List ℕ) (kept : IsKept shown seat path walk) (cut : IsCut path walk.from next) (is : head ≡ piece_of path walk.from next) where
   cut_with : drop walk.from path ≡ head ++ slash ∷ drop next path
   cut_with = cut_is path walk.from next cut ∙ ap (λ h. h ++ slash ∷ drop next path) (sym is)
 
@@ -62,8 +60,9 @@ module _ (shown : ℕ → Option (List ℕ)) (seat : Seat) (path : List ℕ) (wa
   some_with = subst (λ h. 0 < length h) (sym is) (head_some path walk.from next cut)
 
   pub kept_on : (stat : Stat) → is_directory stat.mode ≡ true → ((image : Image) (tree : Tree) → IsOver shown seat image tree → find_path tree.nodes seat.cred walk.dir head ≡ Ok stat)
-      → IsKept shown seat path (record { dir = stat.ino; from = next; end = None })
+      → IsKept shown seat path (record { dir = stat.ino; from = next; ahead = None; end = None })
   kept_on stat d found = record {
+    ahead = tt;
     place = tt;
     within = let high = cut.within in omega arith;
     followed = λ image tree over. followed_on tree over.volume.sound seat.cred seat.cwd path walk.dir (drop walk.from path) head (drop next path) (kept.followed image tree over) cut_with some_with
@@ -117,11 +116,20 @@ place_grows : (shown later : ℕ → Option (List ℕ)) (seat : Seat) (path : Li
 place_grows shown later seat path None grows is = tt
 place_grows shown later seat path (Some placed) grows is = λ image tree over. is image tree (record { part = grown_part shown later image.at grows over.part; volume = over.volume; seated = over.seated })
 
+-- so does what is ahead
+ahead_grows : (shown later : ℕ → Option (List ℕ)) (seat : Seat) (path : List ℕ) (dir from : ℕ) (ahead : Option Ahead) → ViewGrows shown later → IfSome ahead (IsAhead shown seat path dir from) → IfSome ahead (IsAhead later seat path dir from)
+ahead_grows shown later seat path dir from None grows is = tt
+ahead_grows shown later seat path dir from (Some ahead) grows is = record {
+  cut = is.cut;
+  led = λ image tree over. is.led image tree (record { part = grown_part shown later image.at grows over.part; volume = over.volume; seated = over.seated });
+}
+
 -- and so does a walk
 pub kept_grows : (shown later : ℕ → Option (List ℕ)) (seat : Seat) (path : List ℕ) (walk : PathWalk) → ViewGrows shown later → IsKept shown seat path walk → IsKept later seat path walk
 kept_grows shown later seat path walk grows kept = record {
   within = kept.within;
   followed = λ image tree over. kept.followed image tree (record { part = grown_part shown later image.at grows over.part; volume = over.volume; seated = over.seated });
+  ahead = ahead_grows shown later seat path walk.dir walk.from walk.ahead grows kept.ahead;
   place = place_grows shown later seat path walk.end grows kept.place;
 }
 

@@ -6,3 +6,4 @@ pub mod Touched
 pub mod Fitting
 pub mod Walking
 pub mod Cutting
+pub mod Leading

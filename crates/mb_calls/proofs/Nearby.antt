@@ -53,7 +53,7 @@ walk_last nodes cred start first (second ∷ rest) dir ino h e =
     let one = bind_ok (enter nodes cred start first) _ dir h in
     ap (λ (r : Answer ℕ). r >>= (λ next. walk nodes cred next (second ∷ rest))) one.1 ∙ walk_last nodes cred one.0 second rest dir ino one.2 e
 
-end_on_way : (nodes : Numbered Node) (cred : Cred) (start : ℕ) (names : List (List ℕ)) (ino : ℕ) → walk nodes cred start names ≡ Ok ino → IsOnWay nodes cred start names ino
+pub end_on_way : (nodes : Numbered Node) (cred : Cred) (start : ℕ) (names : List (List ℕ)) (ino : ℕ) → walk nodes cred start names ≡ Ok ino → IsOnWay nodes cred start names ino
 end_on_way nodes cred start names ino h = (length names, omega arith, ap (walk nodes cred start) (take_all (length names) names (omega arith)) ∙ h)
 
 found_on_way : (nodes : Numbered Node) (cred : Cred) (cwd : ℕ) (path : List ℕ) (stat : Stat) → find_path nodes cred cwd path ≡ Ok stat → IsOnWay nodes cred (start_of cwd path) (components path) stat.ino

@@ -1,12 +1,13 @@
 -- What each question of a call comes to: the model's answer, and where the blocks are for which it asks. Both
 -- are said of each volume of which the view is a part, where the question can be asked of its tree.
-use Rattle.std.specs.Prelude.{List, ℕ, Ok, Option, Result, Some}
+use Rattle.std.specs.Prelude.{List, ℕ, ◌≡◌, Err, Ok, Option, Result, Some}
 use Rattle.std.specs.List.{Contains}
 use Rattle.mb_kinds.specs.Image.{Image}
 use Rattle.mb_kinds.specs.declared.calls.Call.{Call}
 use Rattle.mb_kinds.specs.declared.calls.Whence.{Whence}
 use Rattle.mb_kinds.specs.declared.credentials.Cred.{Cred}
 use Rattle.mb_kinds.specs.declared.replies.Stat.{Stat}
+use Rattle.mb_iface.specs.Near.{IsNear}
 use Rattle.mb_tree.specs.Fits.{IsOpenable}
 use Rattle.mb_tree.specs.LocalLaws.{IsKnown}
 use Rattle.mb_tree.specs.Lookup.{find_path, find_place, stat_in, used_in}
@@ -26,6 +27,7 @@ use Rattle.mb_calls.specs.Halts.Scope.{around}
 use Rattle.mb_calls.specs.Looked.{IsLooked, paths_of}
 use Rattle.mb_calls.specs.Spots.{AreTold, IsBeside, MatchesPlace, SpotBeside, SpotNeeds, SpotTold, SpotWants, placed_of, used_at, used_by}
 use Rattle.mb_calls.specs.declared.halts.Halt.{Halt}
+use Rattle.mb_calls.specs.declared.halts.Halt.TheVariants as why
 use Rattle.mb_calls.specs.declared.spots.Spot.{Spot}
 
 -- what a view shows of its blocks
@@ -58,6 +60,18 @@ NearSpot shown seat path result = (image : Image) (tree : Tree) (made : Call) �
 -- what stat tells of it, where it is there
 abbrev pub TellsInode : Shown → ℕ → Result Stat Halt → Type 0
 TellsInode shown ino result = (image : Image) (tree : Tree) → IsPart shown image.at → IsVolume image tree → IsThere tree.nodes ino → Matches result (stat_in tree.nodes ino)
+
+-- a block of the inode itself
+abbrev pub HaltsItself : Image → Tree → ℕ → Halt → Type 0
+HaltsItself image tree ino (why.Need need) = IsNear image tree (λ passed. passed ≡ ino) need.first
+HaltsItself image tree ino _ = Unit {0}
+
+abbrev pub AsksItself : {X : Type 0} → Image → Tree → ℕ → Result X Halt → Type 0
+AsksItself image tree ino (Ok x) = Unit {0}
+AsksItself image tree ino (Err stop) = HaltsItself image tree ino stop
+
+abbrev pub NearItself : {X : Type 0} → Shown → ℕ → Result X Halt → Type 0
+NearItself shown ino result = (image : Image) (tree : Tree) → IsPart shown image.at → IsVolume image tree → IsThere tree.nodes ino → AsksItself image tree ino result
 
 -- its used slots, where it is a directory
 abbrev pub TellsUsed : Shown → ℕ → Result ℕ Halt → Type 0
@@ -99,9 +113,6 @@ NearUsedAt shown asked result = (image : Image) (tree : Tree) (seat : Seat) (mad
 
 -- ---- of a path from a directory
 
-abbrev pub FindsFrom : Shown → Cred → ℕ → List ℕ → Result Stat Halt → Type 0
-FindsFrom shown cred dir path result = (image : Image) (tree : Tree) → IsPart shown image.at → IsVolume image tree → IsDirectoryAt tree.nodes dir → Matches result (find_path tree.nodes cred dir path)
-
 abbrev pub PlacesFrom : Shown → Cred → ℕ → List ℕ → Result Placed Halt → Type 0
 PlacesFrom shown cred dir path result = (image : Image) (tree : Tree) → IsPart shown image.at → IsVolume image tree → IsDirectoryAt tree.nodes dir → Matches result (find_place tree.nodes cred dir path)
 
@@ -120,6 +131,10 @@ NearWay shown seat path result = (image : Image) (tree : Tree) → IsOver shown 
 abbrev pub PlansRow : Shown → CountMap → List Seat → Seat → Call → ℕ → Result CallPlan Halt → Type 0
 PlansRow shown opens given seat made moment result = (image : Image) (tree : Tree) (others : List Seat) → IsOver shown seat image tree → BusyAlike made opens given others
     → Matches result (row tree.nodes others seat made moment (Some 0))
+
+-- for all sessions whatever
+abbrev pub PlansAlone : Shown → Seat → Call → ℕ → Result CallPlan Halt → Type 0
+PlansAlone shown seat made moment result = (image : Image) (tree : Tree) (others : List Seat) → IsOver shown seat image tree → Matches result (row tree.nodes others seat made moment (Some 0))
 
 -- a block near its inodes
 abbrev pub NearCall : {X : Type 0} → Shown → Seat → Call → Result X Halt → Type 0

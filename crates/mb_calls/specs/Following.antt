@@ -1,5 +1,5 @@
 -- A path that is followed a component at a time, while the view grows.
-use Rattle.std.specs.Prelude.{List, [], ℕ, ◌++◌, ◌⊎◌, Some, ◌+◌, ◌-◌, ◌<◌, ◌≤◌, ◌≡◌, ◌≢◌, Option, IfSome, slice_get, Result, Ok, Err, length, drop, slice_index}
+use Rattle.std.specs.Prelude.{List, [], ℕ, ◌++◌, ◌⊎◌, Some, ◌+◌, ◌-◌, ◌<◌, ◌≤◌, ◌≡◌, ◌≢◌, Option, IfSome, slice_get, Result, Ok, Err, length, drop, take, slice_index}
 use Rattle.mb_kinds.specs.Image.{Image}
 use Rattle.mb_kinds.specs.declared.calls.Call.{Call}
 use Rattle.mb_kinds.specs.declared.credentials.Cred.{Cred}
@@ -8,8 +8,9 @@ use Rattle.mb_iface.specs.Needs.{IsNeed}
 use Rattle.mb_iface.specs.declared.replies.Need.{Need}
 use Rattle.mb_tree.specs.Lookup.{components, find_place, start_of, walk}
 use Rattle.mb_tree.specs.Maps.{Numbered}
-use Rattle.mb_tree.specs.Trees.{IsDirectoryAt}
+use Rattle.mb_tree.specs.Trees.{IsDirectoryAt, IsThere}
 use Rattle.mb_tree.specs.declared.lookups.Placed.{Placed}
+use Rattle.mb_tree.specs.declared.lookups.Placed.TheVariants as placed
 use Rattle.mb_tree.specs.declared.nodes.Node.{Node}
 use Rattle.mb_tree.specs.declared.seats.Seat.{Seat}
 use Rattle.mb_tree.specs.declared.trees.Tree.{Tree}
@@ -17,6 +18,7 @@ use Rattle.mb_calls.specs.Halts.{IsOver}
 use Rattle.mb_calls.specs.Looked.{IsFirst, IsLooked, IsSecond}
 use Rattle.mb_calls.specs.declared.halts.Halt.{Halt}
 use Rattle.mb_calls.specs.declared.halts.Halt.TheVariants as why
+use Rattle.mb_calls.specs.declared.walks.Ahead.{Ahead}
 use Rattle.mb_calls.specs.declared.walks.PathWalk.{PathWalk}
 use Rattle.mb_calls.specs.declared.walks.PathWalks.{PathWalks}
 use Rattle.mb_calls.specs.declared.walks.Stepped.{Stepped}
@@ -35,11 +37,15 @@ pub record IsFollowed (nodes : Numbered Node) (cred : Cred) (cwd : ℕ) (path : 
 abbrev pub IsPlaceOf : (ℕ → Option (List ℕ)) → Seat → List ℕ → Placed → Type 0
 IsPlaceOf shown seat path placed = (image : Image) (tree : Tree) → IsOver shown seat image tree → find_place tree.nodes seat.cred seat.cwd path ≡ Ok placed
 
--- on each volume the walk is at a directory on the way of the path, and its end is the place of the path
-pub record IsKept (shown : ℕ → Option (List ℕ)) (seat : Seat) (path : List ℕ) (walk : PathWalk) : Type 0 where
-  pub within : walk.from ≤ length path
-  pub followed : (image : Image) (tree : Tree) → IsOver shown seat image tree → IsFollowed tree.nodes seat.cred seat.cwd path walk.dir (drop walk.from path)
-  pub place : IfSome walk.end (IsPlaceOf shown seat path)
+-- the inode to which a place leads
+abbrev pub led_by : Placed → Option ℕ
+led_by (placed.Itself ino) = Some ino
+led_by (placed.At dir name found) = found
+
+-- a path from a directory leads to an inode
+pub record IsLed (nodes : Numbered Node) (cred : Cred) (dir : ℕ) (path : List ℕ) (ino : ℕ) : Type 0 where
+  pub walked : walk nodes cred (start_of dir path) (components path) ≡ Ok ino
+  pub there : IsThere nodes ino
 
 -- a component ends before the slash, and another begins after it
 pub record IsCut (path : List ℕ) (from : ℕ) (next : ℕ) : Type 0 where
@@ -47,6 +53,23 @@ pub record IsCut (path : List ℕ) (from : ℕ) (next : ℕ) : Type 0 where
   pub within : next < length path
   pub ends : slice_index path (next - 1) ≡ 47
   pub begins : slice_index path next ≢ 47
+
+-- what stands before that slash
+abbrev pub piece_of : List ℕ → ℕ → ℕ → List ℕ
+piece_of path from next = take (next - 1 - from) (drop from path)
+
+-- on each volume the piece of the path leads to the inode
+pub record IsAhead (shown : ℕ → Option (List ℕ)) (seat : Seat) (path : List ℕ) (dir from : ℕ) (ahead : Ahead) : Type 0 where
+  pub cut : IsCut path from ahead.next
+  pub led : (image : Image) (tree : Tree) → IsOver shown seat image tree → IsLed tree.nodes seat.cred dir (piece_of path from ahead.next) ahead.ino
+
+-- on each volume the walk is at a directory on the way of the path, what is ahead is what the next component leads to, and its end is
+-- the place of the path
+pub record IsKept (shown : ℕ → Option (List ℕ)) (seat : Seat) (path : List ℕ) (walk : PathWalk) : Type 0 where
+  pub within : walk.from ≤ length path
+  pub followed : (image : Image) (tree : Tree) → IsOver shown seat image tree → IsFollowed tree.nodes seat.cred seat.cwd path walk.dir (drop walk.from path)
+  pub ahead : IfSome walk.ahead (IsAhead shown seat path walk.dir walk.from)
+  pub place : IfSome walk.end (IsPlaceOf shown seat path)
 
 -- the block of a Need is on the way of the path
 abbrev pub HaltsNear : Image → Tree → Cred → ℕ → List ℕ → Halt → Type 0

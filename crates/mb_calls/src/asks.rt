@@ -1,7 +1,7 @@
 ghost use Rattle.std.specs.Prelude.{◌≡◌};
 ghost use Rattle.mb_tree.specs.Fits.{IsOpenable};
 ghost use Rattle.mb_tree.specs.Trees.{IsDirectoryAt, IsThere};
-ghost use Rattle.mb_calls.specs.Asks.{FindsInode, FindsPlace, FindsSpot, NearBeside, NearInode, NearPath, NearSpot, NearUsedAt, NearUsedBy, TellsBeside, TellsBytes, TellsInode, TellsUsed, TellsUsedAt, TellsUsedBy};
+ghost use Rattle.mb_calls.specs.Asks.{FindsInode, FindsPlace, FindsSpot, NearBeside, NearInode, NearItself, NearPath, NearSpot, NearUsedAt, NearUsedBy, TellsBeside, TellsBytes, TellsInode, TellsUsed, TellsUsedAt, TellsUsedBy};
 ghost use Rattle.mb_calls.specs.Following.{IsKept};
 ghost use Rattle.mb_calls.specs.Halts.{Needs};
 ghost use Rattle.mb_calls.specs.Halts.Scope.{lacking};
@@ -33,11 +33,14 @@ pub fn find<F: FileSys, V: View>(
     find_rest(alloc, fs, view, seat, path, walk)
 }
 
-/// What stat tells of an inode that is there. An answer of another kind comes on no volume.
+/// What stat tells of an inode that is there. An answer of another kind comes on no volume. It stands in each of
+/// its callers, as the query does that it asks.
+#[inline(always)]
 pub fn info<F: FileSys, V: View>(alloc: Global, fs: &F, view: &V, ino: u16) -> Result<Stat, Halt>
     ensures wants { Needs (lacking (V.shown view.now)) result }
     ensures says { TellsInode (V.shown view.now) ino result }
     ensures near { NearInode (V.shown view.now) ino (λ tree. IsThere tree.nodes ino) result }
+    ensures itself { NearItself (V.shown view.now) ino result }
 {
     let query = Query::Info { ino };
     match fs.ask(alloc, view, &query) {

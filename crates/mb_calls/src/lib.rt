@@ -30,4 +30,4 @@ mod walks;
 
 pub use performing::{Performed, Ready, perform};
 pub use resuming::{Performing, walks_go_on};
-pub use walks::{PathWalk, PathWalks};
+pub use walks::{Ahead, PathWalk, PathWalks};

@@ -53,16 +53,7 @@ fn second_path(call: &Call) -> Option<&Path>
     }
 }
 
-/// Whether a call asks for the place of its first path, and not for the inode to which it leads.
-fn asks_place(call: &Call) -> bool {
-    matches!(
-        call,
-        Call::Creat { .. } | Call::Unlink { .. } | Call::Mkdir { .. } | Call::Rmdir { .. }
-    )
-}
-
-/// Follows a path to its last component, and where `place` says so finds its place; it tells which blocks the
-/// view lacks.
+/// Follows a path to its last component, and finds its place; it tells which blocks the view lacks.
 fn follow_to<F: FileSys, V: View>(
     alloc: Global,
     fs: &F,
@@ -70,7 +61,6 @@ fn follow_to<F: FileSys, V: View>(
     seat: &Seat,
     path: &Path,
     walk: &mut PathWalk,
-    place: bool,
 ) -> Option<Need>
     requires kept { IsKept (V.shown view.now) seat.now path.now walk.old }
     ensures kept { IsKept (V.shown view.now) seat.now path.now walk.new }
@@ -80,7 +70,7 @@ fn follow_to<F: FileSys, V: View>(
         return None;
     }
     let need = follow(alloc, fs, view, seat, path, walk);
-    if !place || need.is_some() {
+    if need.is_some() {
         return need;
     }
     find_place(alloc, fs, view, seat, path, walk)
@@ -101,7 +91,7 @@ fn first_on<F: FileSys, V: View>(
     ensures lacking { IfSome result (LacksForCall (V.shown view.now) seat.now call.now) }
 {
     match first_path(call) {
-        Some(path) => follow_to(alloc, fs, view, seat, path, walk, asks_place(call)),
+        Some(path) => follow_to(alloc, fs, view, seat, path, walk),
         None => None,
     }
 }

@@ -1,14 +1,24 @@
 ghost use Rattle.std.specs.Prelude.{◌≡◌, ◌≤◌, ◌-◌, IfOk, IfSome, None, drop, length, take};
-ghost use Rattle.mb_calls.specs.Asks.{FindsFrom, FindsInode, FindsPlace, NearFrom, NearWay, PlacesFrom};
-ghost use Rattle.mb_calls.specs.Following.{BeginsWalk, BeginsWalks, IsCut, IsKept, LacksOnWay, StepsOn};
+ghost use Rattle.mb_calls.specs.Asks.{FindsInode, FindsPlace, NearFrom, NearWay, PlacesFrom};
+ghost use Rattle.mb_calls.specs.Following.{BeginsWalk, BeginsWalks, IsAhead, IsCut, IsKept, LacksOnWay, StepsOn, led_by};
 ghost use Rattle.mb_calls.specs.Halts.{Needs};
 ghost use Rattle.mb_calls.specs.Halts.Scope.{lacking};
 
+use crate::asks::info;
 use crate::halts::Halt;
 use mb_iface::{Answer, Asked, FileSys, Need, Query, View};
-use mb_kinds::{Cred, Path, Stat};
+use mb_kinds::{Cred, Errno, Path, Stat};
 use mb_tree::{Placed, Seat, is_directory};
 use std::alloc::{AllocError, Global};
+
+/// What the next component of a path leads to.
+#[derive(Clone, Copy, Debug, Drop)]
+pub struct Ahead {
+    /// The number of the inode.
+    pub ino: u16,
+    /// The index of the first byte behind the component and its slash.
+    pub next: usize,
+}
 
 /// How far a path has been followed: a directory on its way, and where in the path the rest begins.
 #[derive(Clone, Copy, Debug, Drop)]
@@ -17,6 +27,8 @@ pub struct PathWalk {
     pub dir: u16,
     /// The index of the first byte of the rest.
     pub from: usize,
+    /// What the next component leads to, once it was found and while its inode is to be looked at.
+    pub ahead: Option<Ahead>,
     /// The place of the path, once it was found.
     pub end: Option<Placed>,
 }
@@ -56,6 +68,7 @@ pub fn begin(seat: &Seat) -> PathWalk
     PathWalk {
         dir: seat.cwd,
         from: 0,
+        ahead: None,
         end: None,
     }
 }
@@ -92,34 +105,48 @@ fn rest_of(alloc: Global, path: &Path, from: usize) -> Result<Path, AllocError>
     Ok(Path::from_vec(bytes))
 }
 
-/// The inode to which a path leads from a directory.
-fn find_at<F: FileSys, V: View>(
-    alloc: Global,
-    fs: &F,
-    view: &V,
-    dir: u16,
-    cred: Cred,
-    path: Path,
-) -> Result<Stat, Halt>
-    ensures wants { Needs (lacking (V.shown view.now)) result }
-    ensures says { FindsFrom (V.shown view.now) cred dir path result }
-    ensures near { NearFrom (V.shown view.now) cred dir path result }
+/// The inode to which a place leads.
+fn led_by(placed: Placed) -> Option<u16>
+    ensures { result ≡ led_by placed }
 {
-    let query = Query::Find {
-        cwd: dir,
-        cred,
-        path,
-    };
-    match fs.ask(alloc, view, &query) {
-        Asked::Found(Answer::Node(stat)) => Ok(stat),
-        Asked::Found(_) => Err(Halt::NoMemory),
-        Asked::Refused(error) => Err(Halt::Refused(error)),
-        Asked::Need(need) => Err(Halt::Need(need)),
-        Asked::NoMemory => Err(Halt::NoMemory),
+    match placed {
+        Placed::Itself(ino) => Some(ino),
+        Placed::At { ino, .. } => ino,
     }
 }
 
-/// One component further, to the one that begins at `next`.
+/// Finds what the next component leads to, with another one that begins at `next`, and keeps it. It tells
+/// which blocks the view lacks for that.
+fn look_ahead<F: FileSys, V: View>(
+    alloc: Global,
+    fs: &F,
+    view: &V,
+    seat: &Seat,
+    path: &Path,
+    walk: &mut PathWalk,
+    next: usize,
+) -> Option<Need>
+    requires kept { IsKept (V.shown view.now) seat.now path.now walk.old }
+    requires cut { IsCut path.now walk.old.from next }
+    ensures kept { IsKept (V.shown view.now) seat.now path.now walk.new }
+    ensures lacking { IfSome result (LacksOnWay (V.shown view.now) seat.now path.now) }
+{
+    let Ok(head) = piece(alloc, path, walk.from, next - 1) else {
+        return None;
+    };
+    match place_at(alloc, fs, view, walk.dir, seat.cred, head) {
+        Ok(placed) => {
+            if let Some(ino) = led_by(placed) {
+                walk.ahead = Some(Ahead { ino, next });
+            }
+            None
+        }
+        Err(Halt::Need(need)) => Some(need),
+        Err(_) => None,
+    }
+}
+
+/// One component further, to the directory that it leads to.
 fn step<F: FileSys, V: View>(
     alloc: Global,
     fs: &F,
@@ -127,21 +154,19 @@ fn step<F: FileSys, V: View>(
     seat: &Seat,
     path: &Path,
     walk: PathWalk,
-    next: usize,
+    ahead: Ahead,
 ) -> Stepped
     requires kept { IsKept (V.shown view.now) seat.now path.now walk }
-    requires cut { IsCut path.now walk.from next }
+    requires ahead { IsAhead (V.shown view.now) seat.now path.now walk.dir walk.from ahead }
     ensures { StepsOn (V.shown view.now) seat.now path.now result }
 {
-    let Ok(head) = piece(alloc, path, walk.from, next - 1) else {
-        return Stepped::Stopped;
-    };
-    match find_at(alloc, fs, view, walk.dir, seat.cred, head) {
+    match info(alloc, fs, view, ahead.ino) {
         Ok(stat) => {
             if is_directory(stat.mode) {
                 Stepped::On(PathWalk {
                     dir: stat.ino,
-                    from: next,
+                    from: ahead.next,
+                    ahead: None,
                     end: None,
                 })
             } else {
@@ -171,10 +196,19 @@ pub(crate) fn follow<F: FileSys, V: View>(
     ensures lacking { IfSome result (LacksOnWay (V.shown view.now) seat.now path.now) }
 {
     for _ in 0..path.as_slice().len() {
-        let Some(next) = cut(path.as_slice(), walk.from) else {
+        if walk.ahead.is_none() {
+            let Some(next) = cut(path.as_slice(), walk.from) else {
+                return None;
+            };
+            let need = look_ahead(alloc, fs, view, seat, path, walk, next);
+            if need.is_some() {
+                return need;
+            }
+        }
+        let Some(ahead) = walk.ahead else {
             return None;
         };
-        match step(alloc, fs, view, seat, path, *walk, next) {
+        match step(alloc, fs, view, seat, path, *walk, ahead) {
             Stepped::On(further) => *walk = further,
             Stepped::Need(need) => return Some(need),
             Stepped::Stopped => return None,
@@ -183,7 +217,8 @@ pub(crate) fn follow<F: FileSys, V: View>(
     None
 }
 
-/// The place of a path from a directory.
+/// The place of a path from a directory. It stands in each of its callers, as the query does that it asks.
+#[inline(always)]
 fn place_at<F: FileSys, V: View>(
     alloc: Global,
     fs: &F,
@@ -211,7 +246,7 @@ fn place_at<F: FileSys, V: View>(
     }
 }
 
-/// The inode to which a path leads, by the rest of its walk.
+/// The inode to which a path leads, by the place of its rest.
 pub fn find_rest<F: FileSys, V: View>(
     alloc: Global,
     fs: &F,
@@ -225,8 +260,13 @@ pub fn find_rest<F: FileSys, V: View>(
     ensures says { FindsInode (V.shown view.now) seat.now path.now result }
     ensures near { NearWay (V.shown view.now) seat.now path.now result }
 {
-    let rest = rest_of(alloc, path, walk.from)?;
-    find_at(alloc, fs, view, walk.dir, seat.cred, rest)
+    match place_rest(alloc, fs, view, seat, path, walk) {
+        Ok(placed) => match led_by(placed) {
+            Some(ino) => info(alloc, fs, view, ino),
+            None => Err(Halt::Refused(Errno::ENOENT)),
+        },
+        Err(stop) => Err(stop),
+    }
 }
 
 /// The place of a path that was found, or else by the rest of its walk.

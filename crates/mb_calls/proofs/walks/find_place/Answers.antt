@@ -11,6 +11,7 @@ pub returns-in-Ok-clause-kept : goal.returns-in-Ok-clause-kept
 returns-in-Ok-clause-kept g c = record {
   within = c.requires.kept.within;
   followed = c.requires.kept.followed;
+  ahead = c.requires.kept.ahead;
   place = c.in-Ok.ensures.says;
 }
 
