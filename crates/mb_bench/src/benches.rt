@@ -7,6 +7,7 @@ use mb_calls::{Performed, Performing, Ready, walks_go_on};
 use mb_fsops::V7;
 use mb_kinds::{Call, Cred, Creds, Reply};
 use mb_tables::Tables;
+use mb_tree::SessionChange;
 use std::alloc::Global;
 
 /// A call that asks more often is given up.
@@ -66,10 +67,12 @@ impl Bench {
         self.counts.asks = self.counts.asks.saturating_add(asks);
         self.device.let_go();
         self.device.write(&ready.changes);
-        if self.tables.sessions().callers() == 0 || self.tables.stamp() == u64::MAX {
-            return Err(Fault::Call);
+        if ready.op.is_some() || !matches!(ready.session, SessionChange::Same) {
+            if self.tables.sessions().callers() == 0 || self.tables.stamp() == u64::MAX {
+                return Err(Fault::Call);
+            }
+            self.tables.log(0, &ready.op, ready.pick, ready.session)?;
         }
-        self.tables.log(0, &ready.op, ready.pick, ready.session)?;
         match ready.reply {
             Reply::Refused(_) => Err(Fault::Call),
             reply => Ok(reply),
@@ -96,7 +99,7 @@ fn performed(
     for asks in 0..MOST_ASKS {
         match performing.go(heap, &V7, &*device, seats, tables.opens(), 0, call, moment) {
             Performed::Ready(ready) => return Ok((ready, asks)),
-            Performed::Need(need) => device.gather(&need)?,
+            Performed::Need(need) => device.gather(&need),
             Performed::NoMemory => return Err(Fault::NoMemory),
         }
     }

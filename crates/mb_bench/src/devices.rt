@@ -1,5 +1,5 @@
-ghost use Rattle.std.specs.Prelude.{◌≡◌, false, get_or};
-ghost use Rattle.mb_bench.specs.Gathered.{ShowsMore};
+ghost use Rattle.std.specs.Prelude.{◌≡◌};
+ghost use Rattle.mb_bench.specs.Gathered.{ShowsMore, is_gathered};
 
 use crate::faults::Fault;
 use mb_edge::{Bytes, Disk, Fails, MemDisk};
@@ -11,9 +11,10 @@ use std::alloc::Global;
 #[derive(Drop)]
 pub struct Device {
     blocks: Vec<[u8; 512]>,
-    gathered: Vec<bool>,
-    /// The blocks that are gathered, in the order in which they were.
-    order: Vec<u32>,
+    /// The number of the call for which each block was gathered last, 0 where it never was.
+    gathered: Vec<u64>,
+    /// The number of the call that is made, from 1 on.
+    call: u64,
 }
 
 impl View for Device {
@@ -41,8 +42,8 @@ impl Device {
         }
         let mut device = Device {
             blocks: Vec::with_capacity(heap, usize::from(blocks))?,
-            gathered: vec![in heap; false; usize::from(blocks)]?,
-            order: Vec::new(heap),
+            gathered: vec![in heap; 0; usize::from(blocks)]?,
+            call: 1,
         };
         let mut bytes = [0; 512];
         for block in 0..room {
@@ -56,49 +57,41 @@ impl Device {
 
     /// Whether a block is gathered.
     fn is_gathered(&self, block: u32) -> bool
-        ensures { result ≡ get_or self.now.gathered.items block false }
+        ensures { result ≡ is_gathered self.now block }
     {
         let at = block as usize;
-        at < self.gathered.len() && self.gathered[at]
+        at < self.gathered.len() && self.gathered[at] == self.call
     }
 
     /// Gathers a block, where the volume has it.
-    fn gather_block(&mut self, block: u32) -> Result<(), Fault>
+    fn gather_block(&mut self, block: u32)
         ensures { ShowsMore self.old self.new }
     {
-        let at = block as usize;
-        if at >= self.gathered.len() || self.is_gathered(block) {
-            return Ok(());
+        let call = self.call;
+        if let Some(gathered) = self.gathered.get_mut(block as usize) {
+            *gathered = call;
         }
-        self.order.push(block)?;
-        self.gathered[at] = true;
-        Ok(())
     }
 
     /// Gathers what a call asks for, as far as the volume has it.
-    pub fn gather(&mut self, need: &Need) -> Result<(), Fault>
+    pub fn gather(&mut self, need: &Need)
         ensures { ShowsMore self.old self.new }
     {
         for block in need.first..need.first.saturating_add(need.count) {
-            self.gather_block(block)?;
+            self.gather_block(block);
         }
         for at in 0..7usize {
             let block = need.others.blocks()[at];
-            if block > 0 {
-                self.gather_block(block)?;
+            if block == 0 {
+                break;
             }
+            self.gather_block(block);
         }
-        Ok(())
     }
 
-    /// Lets go of the blocks that are gathered.
+    /// Lets go of the blocks that are gathered: another call is made.
     pub fn let_go(&mut self) {
-        for block in &self.order {
-            if let Some(gathered) = self.gathered.get_mut(*block as usize) {
-                *gathered = false;
-            }
-        }
-        self.order.clear();
+        self.call = self.call.saturating_add(1);
     }
 
     /// Writes the changed blocks that the volume has.

@@ -8,7 +8,9 @@ use std::alloc::Global;
 pub enum Kind {
     /// `creat` and `close` of new files, and `mkdir` of each hundredth one's directory.
     Make,
-    /// `stat` of files, each time in another directory.
+    /// The paths of files, each time in another directory, and no call.
+    Path,
+    /// `stat` of the files of these paths.
     Stat,
     /// `lseek` to the beginning of a file.
     Seek,
@@ -36,6 +38,7 @@ const WRITTEN: u32 = 32_768;
 fn kind_of(word: &str) -> Option<Kind> {
     match word {
         "make" => Some(Kind::Make),
+        "path" => Some(Kind::Path),
         "stat" => Some(Kind::Stat),
         "seek" => Some(Kind::Seek),
         "read" => Some(Kind::Read),
@@ -48,6 +51,7 @@ fn kind_of(word: &str) -> Option<Kind> {
 pub fn name_of(kind: Kind) -> &'static str {
     match kind {
         Kind::Make => "make",
+        Kind::Path => "path",
         Kind::Stat => "stat",
         Kind::Seek => "seek",
         Kind::Read => "read",
@@ -72,7 +76,7 @@ fn size_of(kind: Kind) -> u32 {
     match kind {
         Kind::Make => 0,
         Kind::Unlink => 1_048_576,
-        Kind::Stat | Kind::Seek | Kind::Read => 100,
+        Kind::Path | Kind::Stat | Kind::Seek | Kind::Read => 100,
     }
 }
 
@@ -93,6 +97,11 @@ fn directory(heap: Global, number: u32) -> Result<Path, Fault> {
 /// The path of a file, in its directory.
 fn file(heap: Global, number: u32) -> Result<Path, Fault> {
     path_of(format!(in heap; "/d{}/f{}", number / FILES, number)?)
+}
+
+/// The path of a file that lies 13 directories and 73 files behind that of the number before.
+fn far_file(heap: Global, number: u32, made: u32) -> Result<Path, Fault> {
+    file(heap, number.wrapping_mul(1_373) % made.max(1))
 }
 
 /// The descriptor that a call was answered.
@@ -155,14 +164,16 @@ fn make_calls(heap: Global, bench: &mut Bench, job: Job) -> Result<(), Fault> {
     match kind {
         Kind::Seek => return seek(heap, bench, calls, false),
         Kind::Read => return seek(heap, bench, calls, true),
-        Kind::Make | Kind::Stat | Kind::Unlink => {}
+        Kind::Make | Kind::Path | Kind::Stat | Kind::Unlink => {}
     }
     for number in 0..calls {
         match kind {
             Kind::Make => make_file(heap, bench, made.saturating_add(number), 0)?,
+            Kind::Path => {
+                far_file(heap, number, made)?;
+            }
             Kind::Stat => {
-                // 13 directories further, and 73 files
-                let path = file(heap, number.wrapping_mul(1_373) % made.max(1))?;
+                let path = far_file(heap, number, made)?;
                 bench.call(&Call::Stat { path })?;
             }
             _ => {

@@ -18,8 +18,9 @@ use std::process::ExitCode;
 use std::{env, io};
 
 /// What is done where no words tell a job.
-const ALL: [(Kind, u32, u32); 5] = [
+const ALL: [(Kind, u32, u32); 6] = [
     (Kind::Make, 0, 200),
+    (Kind::Path, 200, 100),
     (Kind::Stat, 200, 100),
     (Kind::Seek, 1, 10),
     (Kind::Read, 1, 10),
@@ -67,7 +68,7 @@ fn run_words(rt: &HostRuntime, heap: Global) -> io::Result<bool> {
         Some(job) => run_and_tell(rt, heap, job),
         None => {
             println!(*rt;
-                "mb_bench KIND FILES CALLS, where KIND is make, stat, seek, read or unlink"
+                "mb_bench KIND FILES CALLS, where KIND is make, path, stat, seek, read or unlink"
             )?;
             Ok(false)
         }
