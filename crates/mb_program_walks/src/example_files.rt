@@ -1,5 +1,6 @@
 //! The texts of the files in `examples`, for the tests: they know the files by their checksums.
 use crate::volumes::{changed_volume, hello_volume};
+use std::process::Abort;
 use std::test::Fail;
 
 /// The text of `examples/hello/job.toml`.
@@ -205,33 +206,66 @@ fn cksum(bytes: &[u8]) -> u32 {
     !sum
 }
 
-// `.ci/example-files` finds the lines that `cksum` prints for the files of `examples` here.
-#[test]
-fn the_files_of_the_examples_are_those_of_the_tests(rt: HostRuntime) -> Result<(), Fail> {
-    let volume = hello_volume(rt.alloc())?;
-    let wiped = changed_volume(rt.alloc(), 0o640, 3)?;
-    let session = format!(in rt.alloc();
-        "made 100 blocks 16 inodes\n{TWO_CALLERS_TEXT}{TWO_CALLERS_SOUND}"
-    )?;
+fn starts_so<R: Abort>(rt: &R, line: &str, found: &str) -> Result<(), Fail> {
+    assert!(rt; line.starts_with(found), "{line}: {found}");
+    Ok(())
+}
+
+// That a line is the one that `cksum` prints for these bytes.
+fn is_line_of<R: Abort + AllocGlobal>(rt: &R, line: &str, bytes: &[u8]) -> Result<(), Fail> {
+    let sum = cksum(bytes);
+    let length = bytes.len();
+    let found = format!(in rt.alloc(); "{sum} {length} ")?;
+    starts_so(rt, line, found.as_str())
+}
+
+// The files of the two examples of one caller.
+fn are_those_of_one_caller<'a, R: Abort + AllocGlobal>(
+    rt: &R,
+    volume: &'a [u8],
+    wiped: &'a [u8],
+) -> Result<(), Fail> {
     for (line, bytes) in [
-        ("3209886507 51200 hello/volume.v7", volume.as_slice()),
+        ("3209886507 51200 hello/volume.v7", volume),
         ("229460024 110 hello/job.toml", HELLO_JOB.as_bytes()),
         ("3866134745 144 hello/job.out", HELLO_TEXT.as_bytes()),
         ("4193218373 121 hello/wiped.toml", WIPED_JOB.as_bytes()),
         ("266878701 135 hello/wiped.out", WIPED_TEXT.as_bytes()),
-        ("3753691949 51200 hello/wiped.v7", wiped.as_slice()),
+        ("3753691949 51200 hello/wiped.v7", wiped),
+    ] {
+        is_line_of(rt, line, bytes)?;
+    }
+    Ok(())
+}
+
+// Those of the examples of more callers.
+fn are_those_of_more_callers<R: Abort + AllocGlobal>(rt: &R, session: &[u8]) -> Result<(), Fail> {
+    for (line, bytes) in [
         (
             "2967201208 852 two-callers/job.toml",
             TWO_CALLERS_JOB.as_bytes(),
         ),
-        ("1427719782 467 two-callers/session.out", session.as_bytes()),
+        ("1427719782 467 two-callers/session.out", session),
         ("2525395326 1442 threads/job.toml", THREADS_JOB.as_bytes()),
         ("1705368960 1089 threads/own.out", THREADS_OWN.as_bytes()),
     ] {
-        let sum = cksum(bytes);
-        let length = bytes.len();
-        let found = format!(in rt.alloc(); "{sum} {length} ")?;
-        assert!(rt; line.starts_with(found.as_str()), "{line}: {found}");
+        is_line_of(rt, line, bytes)?;
     }
     Ok(())
+}
+
+fn example_volumes_are_those<R: Abort + AllocGlobal>(rt: &R) -> Result<(), Fail> {
+    let volume = hello_volume(rt.alloc())?;
+    let wiped = changed_volume(rt.alloc(), 0o640, 3)?;
+    are_those_of_one_caller(rt, &volume, &wiped)
+}
+
+// `.ci/example-files` finds the lines that `cksum` prints for the files of `examples` here.
+#[test]
+fn the_files_of_the_examples_are_those_of_the_tests(rt: HostRuntime) -> Result<(), Fail> {
+    example_volumes_are_those(&rt)?;
+    let session = format!(in rt.alloc();
+        "made 100 blocks 16 inodes\n{TWO_CALLERS_TEXT}{TWO_CALLERS_SOUND}"
+    )?;
+    are_those_of_more_callers(&rt, session.as_bytes())
 }

@@ -1,5 +1,6 @@
-use crate::trials::{expect, fresh};
+use crate::trials::prints;
 use std::alloc::{AllocError, Global};
+use std::process::Abort;
 use std::test::Fail;
 
 // Four times the same stat, after a file was made, with faults planned.
@@ -24,20 +25,24 @@ end 7 faults {faults} seal 7
     )
 }
 
+// That so many of the faults planned strike.
+fn strikes<R: Abort + AllocGlobal>(rt: &R, faults: &str, struck: u8) -> Result<(), Fail> {
+    let job = stat_job(rt.alloc(), faults)?;
+    let text = stat_text(rt.alloc(), struck)?;
+    prints(rt, job.as_str(), 0, text.as_str())
+}
+
 // A stat of a name in the root gathers the tables, the block of the inodes, and then the root's block: the fault at its
 // third time strikes. Once two such calls looked at both blocks, the next ones ask for them together, and gather twice.
 #[test]
 fn third_call_of_a_kind_asks_at_once(rt: HostRuntime) -> Result<(), Fail> {
-    let heap = rt.alloc();
     for (faults, struck) in [
         ("'3 gather 2 1'", 1),
         ("'4 gather 2 1'", 1),
         ("'5 gather 2 1', '6 gather 2 1'", 0),
         ("'5 gather 1 1', '6 gather 1 1'", 2),
     ] {
-        let job = stat_job(heap, faults)?;
-        let text = stat_text(heap, struck)?;
-        expect(&rt, fresh(heap)?, job.as_str(), 0, text.as_str())?;
+        strikes(&rt, faults, struck)?;
     }
     Ok(())
 }

@@ -1,11 +1,26 @@
 use crate::example_files::{TWO_CALLERS_JOB, TWO_CALLERS_SOUND, TWO_CALLERS_TEXT};
 use crate::trials::{
-    NOTHING_FAILS, checked, expect_fresh, fresh, is_stale, replays, run, stales, unwinds,
+    End, NOTHING_FAILS, checked, ends_with, expect_fresh, fresh, is_stale, leaves, prints,
+    replays_and_leaves, run, stales_and_leaves, unwinds,
 };
 use mb_core_spec::Step;
 use mb_kinds::{FaultRecord, Kind};
 use std::alloc::{AllocError, Global};
+use std::process::Abort;
 use std::test::Fail;
+
+// That the fault struck the first of the two, and that both were unwound.
+fn both_are_unwound<R: Abort + AllocGlobal>(rt: &R, end: &End) -> Result<(), Fail> {
+    let record = FaultRecord {
+        caller: 0,
+        ordinal: 1,
+        kind: Kind::Gather,
+        nth: 1,
+    };
+    assert_eq!(rt; end.records.as_slice(), [record].as_slice());
+    unwinds(rt, end, &[0, 1])?;
+    checked(rt, &end.image, 0, "sound nodes 3 held 1 free 95\n")
+}
 
 #[test]
 fn two_callers_wiped(rt: HostRuntime) -> Result<(), Fail> {
@@ -23,15 +38,7 @@ order = 'bbaa'
 end 4 faults 1 seal 4
 ";
     let end = expect_fresh(&rt, job, 0, lines)?;
-    let record = FaultRecord {
-        caller: 0,
-        ordinal: 1,
-        kind: Kind::Gather,
-        nth: 1,
-    };
-    assert_eq!(rt; end.records.as_slice(), [record].as_slice());
-    unwinds(&rt, &end, &[0, 1])?;
-    checked(&rt, &end.image, 0, "sound nodes 3 held 1 free 95\n")
+    both_are_unwound(&rt, &end)
 }
 
 #[test]
@@ -49,8 +56,7 @@ order = 'AB'
 end 4 faults 0 seal 4
 ";
     let end = expect_fresh(&rt, job, 0, lines)?;
-    stales(&rt, &end, &[1])?;
-    checked(&rt, &end.image, 0, "sound nodes 2 held 1 free 95\n")
+    stales_and_leaves(&rt, &end, &[1], "sound nodes 2 held 1 free 95\n")
 }
 
 #[test]
@@ -73,8 +79,12 @@ end 8 faults 0 seal 8
 ";
     let end = expect_fresh(&rt, job, 0, lines)?;
     let wanted = [0, 0, 0, 0, 1];
-    stales(&rt, &end, &wanted)?;
-    checked(&rt, &end.image, 0, "sound nodes 7 held 1 free 95\n")
+    stales_and_leaves(&rt, &end, &wanted, "sound nodes 7 held 1 free 95\n")
+}
+
+fn is_sealed_once<R: Abort + AllocGlobal>(rt: &R, end: &End) -> Result<(), Fail> {
+    assert!(rt; end.trail.contains(&Step::Sealed(1)));
+    replays_and_leaves(rt, end, &[1, 2], "sound nodes 2 held 2 free 94\n")
 }
 
 // `=` takes a checkpoint: what was answered before it is not done again. `>` writes a page back, and `*` makes a step of a
@@ -95,9 +105,7 @@ order = '*Aaa = Aaa >>>>> *'
 end 5 faults 1 seal 5
 ";
     let end = expect_fresh(&rt, job, 0, lines)?;
-    assert!(rt; end.trail.contains(&Step::Sealed(1)));
-    replays(&rt, &end, &[1, 2])?;
-    checked(&rt, &end.image, 0, "sound nodes 2 held 2 free 94\n")
+    is_sealed_once(&rt, &end)
 }
 
 // Who reads needs leave of the mode; moments follow the callers' first letters in the order.
@@ -120,20 +128,16 @@ order = 'ba'
 8 b exit = 0
 end 8 faults 0 seal 8
 ";
-    expect_fresh(&rt, job, 0, lines)?;
-    Ok(())
+    prints(&rt, job, 0, lines)
 }
 
 // The session of `examples/two-callers`.
 #[test]
 fn two_callers_are_struck_four_times(rt: HostRuntime) -> Result<(), Fail> {
-    let end = expect_fresh(&rt, TWO_CALLERS_JOB, 0, TWO_CALLERS_TEXT)?;
-    checked(&rt, &end.image, 0, TWO_CALLERS_SOUND)
+    leaves(&rt, TWO_CALLERS_JOB, 0, TWO_CALLERS_TEXT, TWO_CALLERS_SOUND)
 }
 
-// The job of eight callers, each of whom makes a file, by an order that goes round.
-fn eight_callers_job(alloc: Global) -> Result<String, AllocError> {
-    let mut job = String::new(alloc);
+fn push_eight_callers(job: &mut String) -> Result<(), AllocError> {
     job.push_str(
         "callers = ['a 0 0', 'b 0 0', 'c 0 0', 'd 0 0', 'e 0 0', 'f 0 0', 'g 0 0', 'h 0 0']\n",
     )?;
@@ -145,25 +149,37 @@ fn eight_callers_job(alloc: Global) -> Result<String, AllocError> {
     for _ in 0..100 {
         job.push_str("abcdefgh**")?;
     }
-    job.push_str("'\n")?;
+    job.push_str("'\n")
+}
+
+// The job of eight callers, each of whom makes a file, by an order that goes round.
+fn eight_callers_job(alloc: Global) -> Result<String, AllocError> {
+    let mut job = String::new(alloc);
+    push_eight_callers(&mut job)?;
     Ok(job)
+}
+
+fn run_of_eight(alloc: Global) -> Result<End, Fail> {
+    let job = eight_callers_job(alloc)?;
+    run(
+        alloc,
+        &["run", "v"],
+        fresh(alloc)?,
+        job.as_str(),
+        NOTHING_FAILS,
+    )
+}
+
+fn eight_have_stepped<R: Abort + AllocGlobal>(rt: &R, end: &End) -> Result<(), Fail> {
+    ends_with(rt, end, 0, b"\nend 16 faults 2 seal 16\n")?;
+    assert!(rt; is_stale(&end.trail));
+    checked(rt, &end.image, 0, "sound nodes 9 held 1 free 95\n")
 }
 
 // Each of eight callers makes a file, all of them step by step at the same time: as each name is a change of the root, one
 // caller after another is done. Faults strike the second and the fifth, and the recoveries go on between the steps.
 #[test]
 fn eight_callers_step_at_the_same_time(rt: HostRuntime) -> Result<(), Fail> {
-    let job = eight_callers_job(rt.alloc())?;
-    let words = ["run", "v"];
-    let end = run(
-        rt.alloc(),
-        &words,
-        fresh(rt.alloc())?,
-        job.as_str(),
-        NOTHING_FAILS,
-    )?;
-    assert_eq!(rt; end.status, 0);
-    assert!(rt; end.printed.ends_with(b"\nend 16 faults 2 seal 16\n"));
-    assert!(rt; is_stale(&end.trail));
-    checked(&rt, &end.image, 0, "sound nodes 9 held 1 free 95\n")
+    let end = run_of_eight(rt.alloc())?;
+    eight_have_stepped(&rt, &end)
 }

@@ -1,13 +1,15 @@
 use crate::example_files::{WIPED_JOB, WIPED_TEXT};
 use crate::example_tests::HI_JOB;
 use crate::trials::{
-    Failing, NOTHING_FAILS, checked, expect, expect_fresh, first_read, fresh, printed, replays,
+    End, NOTHING_FAILS, checked, ends_with, expect, expect_fresh, fresh, image_after, is_fresh,
+    keeps, leaves, prints, prints_without_its_first_read, replays, replays_and_leaves,
     replays_nothing, run,
 };
-use crate::volumes::{HELLO_CTIME_LOW, HELLO_MODE, changed_volume, hello_volume};
+use crate::volumes::{HELLO_CTIME_LOW, HELLO_MODE, hello_volume, is_changed_volume};
 use mb_core_spec::Step;
 use mb_kinds::{FaultRecord, Kind};
 use std::alloc::{AllocError, Global};
+use std::process::Abort;
 use std::test::Fail;
 
 // The job of the example with a line more.
@@ -23,41 +25,48 @@ const HI_STRUCK: &str = "\
 end 4 faults 1 seal 4
 ";
 
-#[test]
-fn chmod_wiped(rt: HostRuntime) -> Result<(), Fail> {
-    let end = expect(&rt, hello_volume(rt.alloc())?, WIPED_JOB, 0, WIPED_TEXT)?;
-    assert_eq!(rt; end.image.len(), 51200);
-    assert!(rt; end.image[1152..].starts_with(b"\xa0\x81"));
-    assert!(rt; end.image[1212..].starts_with(b"\0\0\x03\0"));
+fn is_changed_once<R: Abort + AllocGlobal>(rt: &R, image: &[u8]) -> Result<(), Fail> {
+    assert_eq!(rt; image.len(), 51200);
+    assert!(rt; image[1152..].starts_with(b"\xa0\x81"));
+    assert!(rt; image[1212..].starts_with(b"\0\0\x03\0"));
     assert!(rt;
-        end.image == changed_volume(rt.alloc(), 0o640, 3)?,
+        is_changed_volume(rt.alloc(), image, 0o640, 3)?,
         "nothing else changed"
     );
     Ok(())
 }
 
 #[test]
+fn chmod_wiped(rt: HostRuntime) -> Result<(), Fail> {
+    let end = expect(&rt, hello_volume(rt.alloc())?, WIPED_JOB, 0, WIPED_TEXT)?;
+    is_changed_once(&rt, &end.image)
+}
+
+#[test]
 fn wiped_at_gather(rt: HostRuntime) -> Result<(), Fail> {
     let job = hi_job(rt.alloc(), "faults = ['2 gather 0 1 wipe 255']")?;
     let end = expect_fresh(&rt, job.as_str(), 0, HI_STRUCK)?;
-    replays(&rt, &end, &[1])?;
-    checked(&rt, &end.image, 0, "sound nodes 2 held 2 free 94\n")
+    replays_and_leaves(&rt, &end, &[1], "sound nodes 2 held 2 free 94\n")
+}
+
+fn has_the_name_once<R: Abort + AllocGlobal>(rt: &R, image: &[u8]) -> Result<(), Fail> {
+    assert_eq!(rt; image.len(), 51200);
+    assert!(rt;
+        image[2080..].starts_with(b"\x03\0f\0\0"),
+        "the third slot of the root"
+    );
+    assert!(rt;
+        image[2096..].starts_with(&[0; 464]),
+        "the name stands once"
+    );
+    checked(rt, image, 0, "sound nodes 2 held 2 free 94\n")
 }
 
 #[test]
 fn wiped_at_leave(rt: HostRuntime) -> Result<(), Fail> {
     let job = hi_job(rt.alloc(), "faults = ['1 leave 0 1 wipe 0']")?;
-    let end = expect_fresh(&rt, job.as_str(), 0, HI_STRUCK)?;
-    assert_eq!(rt; end.image.len(), 51200);
-    assert!(rt;
-        end.image[2080..].starts_with(b"\x03\0f\0\0"),
-        "the third slot of the root"
-    );
-    assert!(rt;
-        end.image[2096..].starts_with(&[0; 464]),
-        "the name stands once"
-    );
-    checked(&rt, &end.image, 0, "sound nodes 2 held 2 free 94\n")
+    let image = image_after(&rt, job.as_str(), 0, HI_STRUCK)?;
+    has_the_name_once(&rt, &image)
 }
 
 #[test]
@@ -79,8 +88,17 @@ end 8 faults 1 seal 8
 ";
     let end = expect_fresh(&rt, job, 0, lines)?;
     let wanted = [1, 2, 3, 4, 5];
-    replays(&rt, &end, &wanted)?;
-    Ok(())
+    replays(&rt, &end, &wanted)
+}
+
+fn prints_with_fault<R: Abort + AllocGlobal>(
+    rt: &R,
+    calls: &str,
+    fault: &str,
+    lines: &str,
+) -> Result<(), Fail> {
+    let job = format!(in rt.alloc(); "{calls}\nfaults = ['{fault}']\n")?;
+    prints(rt, job.as_str(), 0, lines)
 }
 
 // The second of two numbers that were freed is picked first.
@@ -101,8 +119,7 @@ fn relayed_later(rt: HostRuntime) -> Result<(), Fail> {
 end 9 faults 1 seal 9
 ";
     for fault in ["7 enter 0 1 wipe 0", "8 enter 0 1 wipe 0"] {
-        let job = format!(in rt.alloc(); "{calls}\nfaults = ['{fault}']\n")?;
-        expect_fresh(&rt, job.as_str(), 0, lines)?;
+        prints_with_fault(&rt, calls, fault, lines)?;
     }
     Ok(())
 }
@@ -130,8 +147,7 @@ end 9 faults 1 seal 9
 ";
     let end = expect_fresh(&rt, job, 0, lines)?;
     let wanted = [1, 2, 3, 4];
-    replays(&rt, &end, &wanted)?;
-    checked(&rt, &end.image, 0, "sound nodes 2 held 2 free 94\n")
+    replays_and_leaves(&rt, &end, &wanted, "sound nodes 2 held 2 free 94\n")
 }
 
 // Each recovery folds what the one before left, with the operations that came since; one that a fault cut off does too.
@@ -152,8 +168,7 @@ end 6 faults 3 seal 6
 ";
     let end = expect_fresh(&rt, job, 0, lines)?;
     let wanted = [1, 2, 1, 1, 2];
-    replays(&rt, &end, &wanted)?;
-    checked(&rt, &end.image, 0, "sound nodes 2 held 2 free 94\n")
+    replays_and_leaves(&rt, &end, &wanted, "sound nodes 2 held 2 free 94\n")
 }
 
 #[test]
@@ -176,8 +191,7 @@ faults = ['5 enter 0 1 wipe 255 count 3 0']
 10 a exit = 0
 end 10 faults 1 seal 10
 ";
-    expect_fresh(&rt, job, 0, lines)?;
-    Ok(())
+    prints(&rt, job, 0, lines)
 }
 
 #[test]
@@ -195,7 +209,12 @@ faults = ['2 gather 0 2 wipe 9']
 6 a exit = 0
 end 6 faults 2 seal 6
 ";
-    expect_fresh(&rt, job, 0, lines)?;
+    prints(&rt, job, 0, lines)
+}
+
+fn fails_as_it_was<R: Abort + AllocGlobal>(rt: &R, end: &End) -> Result<(), Fail> {
+    replays(rt, end, &[1])?;
+    assert!(rt; is_fresh(rt.alloc(), &end.image)?);
     Ok(())
 }
 
@@ -216,8 +235,21 @@ faults = ['4 gather 0 1', '4 replay 1 1']
 failed 6 faults 2 seal 0
 ";
     let end = expect_fresh(&rt, job, 4, lines)?;
-    replays(&rt, &end, &[1])?;
-    assert!(rt; end.image == fresh(rt.alloc())?);
+    fails_as_it_was(&rt, &end)
+}
+
+// That an image is the one that is left by a run which ends at its sync(2).
+fn ends_at_its_sync<R: Abort + AllocGlobal>(rt: &R, image: &[u8]) -> Result<(), Fail> {
+    let job = "calls = ['a creat /f 644', 'a text 3 hi', 'a sync']";
+    let lines = "\
+1 a creat /f 644 = 3
+2 a text 3 hi = 2
+3 a sync = 0
+4 a exit = 0
+end 4 faults 0 seal 4
+";
+    let left = image_after(rt, job, 0, lines)?;
+    assert!(rt; left.as_slice() == image);
     Ok(())
 }
 
@@ -238,18 +270,8 @@ faults = ['5 enter 0 1']
 6 a exit = FAILED 1
 failed 6 faults 1 seal 3
 ";
-    let end = expect_fresh(&rt, job, 4, lines)?;
-    let job = "calls = ['a creat /f 644', 'a text 3 hi', 'a sync']";
-    let lines = "\
-1 a creat /f 644 = 3
-2 a text 3 hi = 2
-3 a sync = 0
-4 a exit = 0
-end 4 faults 0 seal 4
-";
-    let ended = expect_fresh(&rt, job, 0, lines)?;
-    assert!(rt; end.image == ended.image);
-    Ok(())
+    let image = image_after(&rt, job, 4, lines)?;
+    ends_at_its_sync(&rt, &image)
 }
 
 /// A job whose volume fails after its first call, of which a checkpoint was taken.
@@ -268,8 +290,7 @@ fn a_volume_that_failed_is_left_as_it_was_at_its_checkpoint(rt: HostRuntime) -> 
 3 a exit = FAILED 1
 failed 3 faults 1 seal 1
 ";
-    let end = expect_fresh(&rt, FAILED_JOB, 4, lines)?;
-    checked(&rt, &end.image, 0, "sound nodes 2 held 1 free 95\n")
+    leaves(&rt, FAILED_JOB, 4, lines, "sound nodes 2 held 1 free 95\n")
 }
 
 // The first fault at one kind of fault point of the second call of the one caller.
@@ -280,6 +301,16 @@ fn first_of_second(kind: Kind) -> FaultRecord {
         kind,
         nth: 1,
     }
+}
+
+fn recovery_is_struck<R: Abort + AllocGlobal>(rt: &R, end: &End) -> Result<(), Fail> {
+    let wanted = [
+        first_of_second(Kind::Gather),
+        first_of_second(Kind::Remount),
+        first_of_second(Kind::Replay),
+    ];
+    assert_eq!(rt; end.records.as_slice(), wanted.as_slice());
+    replays_and_leaves(rt, end, &[1], "sound nodes 2 held 2 free 94\n")
 }
 
 // The faults of a recovery are not the call's own.
@@ -297,14 +328,13 @@ fn faults_strike_a_recovery_too(rt: HostRuntime) -> Result<(), Fail> {
 end 4 faults 3 seal 4
 ";
     let end = expect_fresh(&rt, job.as_str(), 0, lines)?;
-    let wanted = [
-        first_of_second(Kind::Gather),
-        first_of_second(Kind::Remount),
-        first_of_second(Kind::Replay),
-    ];
-    assert_eq!(rt; end.records.as_slice(), wanted.as_slice());
-    replays(&rt, &end, &[1])?;
-    checked(&rt, &end.image, 0, "sound nodes 2 held 2 free 94\n")
+    recovery_is_struck(&rt, &end)
+}
+
+fn is_sealed<R: Abort>(rt: &R, trail: &[Step]) -> Result<(), Fail> {
+    assert!(rt; replays_nothing(trail));
+    assert!(rt; trail.contains(&Step::Sealed(1)));
+    Ok(())
 }
 
 #[test]
@@ -322,42 +352,55 @@ faults = ['3 enter 0 1 wipe 1']
 end 4 faults 1 seal 4
 ";
     let end = expect_fresh(&rt, job, 0, lines)?;
-    assert!(rt; replays_nothing(&end.trail));
-    assert!(rt; end.trail.contains(&Step::Sealed(1)));
-    Ok(())
+    is_sealed(&rt, &end.trail)
 }
 
-fn long_job(alloc: Global) -> Result<String, AllocError> {
-    let mut job = String::new(alloc);
+fn push_long_job(job: &mut String) -> Result<(), AllocError> {
     job.push_str(
         "threshold = 4096\nfaults = ['4003 enter 0 1 wipe 1']\ncalls = ['a creat /f 644', 'a sync'",
     )?;
     for _ in 0..4000 {
         job.push_str(", 'a text 3 x'")?;
     }
-    job.push_str(", 'a close 3']\n")?;
+    job.push_str(", 'a close 3']\n")
+}
+
+fn long_job(alloc: Global) -> Result<String, AllocError> {
+    let mut job = String::new(alloc);
+    push_long_job(&mut job)?;
     Ok(job)
+}
+
+fn push_write(lines: &mut String, alloc: Global, moment: u32) -> Result<(), AllocError> {
+    let line = format!(in alloc; "{moment} a text 3 x = 1\n")?;
+    lines.push_str(line.as_str())
+}
+
+fn push_long_text(lines: &mut String, alloc: Global) -> Result<(), AllocError> {
+    lines.push_str("1 a creat /f 644 = 3\n2 a sync = 0\n")?;
+    for moment in 3..4003 {
+        push_write(lines, alloc, moment)?;
+    }
+    lines.push_str("4003 a close 3 = 0\n4004 a exit = 0\nend 4004 faults 1 seal 4004\n")
 }
 
 fn long_text(alloc: Global) -> Result<String, AllocError> {
     let mut lines = String::new(alloc);
-    lines.push_str("1 a creat /f 644 = 3\n2 a sync = 0\n")?;
-    for moment in 3..4003 {
-        let line = format!(in alloc; "{moment} a text 3 x = 1\n")?;
-        lines.push_str(line.as_str())?;
-    }
-    lines.push_str("4003 a close 3 = 0\n4004 a exit = 0\nend 4004 faults 1 seal 4004\n")?;
+    push_long_text(&mut lines, alloc)?;
     Ok(lines)
+}
+
+fn long_run<R: Abort + AllocGlobal>(rt: &R) -> Result<End, Fail> {
+    let job = long_job(rt.alloc())?;
+    let lines = long_text(rt.alloc())?;
+    expect_fresh(rt, job.as_str(), 0, lines.as_str())
 }
 
 // The 4,000 writes since the checkpoint are one that is done again.
 #[test]
 fn long_log(rt: HostRuntime) -> Result<(), Fail> {
-    let job = long_job(rt.alloc())?;
-    let lines = long_text(rt.alloc())?;
-    let end = expect_fresh(&rt, job.as_str(), 0, lines.as_str())?;
-    replays(&rt, &end, &[1])?;
-    checked(&rt, &end.image, 0, "sound nodes 2 held 9 free 87\n")
+    let end = long_run(&rt)?;
+    replays_and_leaves(&rt, &end, &[1], "sound nodes 2 held 9 free 87\n")
 }
 
 #[test]
@@ -369,14 +412,7 @@ fn failing_remount(rt: HostRuntime) -> Result<(), Fail> {
 3 a exit = 0
 end 3 faults 1 seal 3
 ";
-    let image = fresh(rt.alloc())?;
-    let reads = [first_read(rt.alloc(), &image)?];
-    let failing = Failing {
-        reads: &reads,
-        ..NOTHING_FAILS
-    };
-    let end = run(rt.alloc(), &["run", "v"], image, job, failing)?;
-    printed(&rt, &end, 0, lines)
+    prints_without_its_first_read(&rt, job, lines)
 }
 
 #[test]
@@ -390,14 +426,7 @@ fn resumed_by_other(rt: HostRuntime) -> Result<(), Fail> {
 4 b exit = 0
 end 4 faults 1 seal 4
 ";
-    let image = fresh(rt.alloc())?;
-    let reads = [first_read(rt.alloc(), &image)?];
-    let failing = Failing {
-        reads: &reads,
-        ..NOTHING_FAILS
-    };
-    let end = run(rt.alloc(), &["run", "v"], image, job, failing)?;
-    printed(&rt, &end, 0, lines)
+    prints_without_its_first_read(&rt, job, lines)
 }
 
 #[test]
@@ -405,9 +434,27 @@ fn two_rules_at_one_fault_point_are_one_fault(rt: HostRuntime) -> Result<(), Fai
     let job =
         "calls = ['a open /hello r']\nfaults = ['1 finish 0 1 wipe 7', '1 finish 0 1 wipe 8']";
     let lines = "1 a open /hello r = 3\n2 a exit = 0\nend 2 faults 1 seal 2\n";
-    let end = expect(&rt, hello_volume(rt.alloc())?, job, 0, lines)?;
-    assert!(rt; end.image == hello_volume(rt.alloc())?);
-    Ok(())
+    let volume = hello_volume(rt.alloc())?;
+    keeps(&rt, &["run", "v"], &volume, job, NOTHING_FAILS, 0, lines)
+}
+
+// That a job ends so, and leaves a fresh volume as it is.
+fn keeps_a_fresh_one<R: Abort + AllocGlobal>(rt: &R, job: &str, lines: &str) -> Result<(), Fail> {
+    let image = fresh(rt.alloc())?;
+    keeps(rt, &["run", "v"], &image, job, NOTHING_FAILS, 0, lines)
+}
+
+fn is_answered<R: Abort + AllocGlobal>(
+    rt: &R,
+    fault: &str,
+    reply: &str,
+    faults: u8,
+) -> Result<(), Fail> {
+    let job = format!(in rt.alloc(); "calls = ['a open / r']\nfaults = ['{fault}']")?;
+    let lines = format!(in rt.alloc();
+        "1 a open / r = {reply}\n2 a exit = 0\nend 2 faults {faults} seal 2\n"
+    )?;
+    keeps_a_fresh_one(rt, job.as_str(), lines.as_str())
 }
 
 // Where faults may strike one call at every fault point, and what it is answered then.
@@ -428,54 +475,60 @@ fn each_fault_point_is_one_of_a_call(rt: HostRuntime) -> Result<(), Fail> {
         ("1 leave 0 2", "3", 1),
         ("1 finish 0 1 wipe 0 page 0 7 count 2 9", "3", 1),
     ] {
-        let job = format!(in rt.alloc(); "calls = ['a open / r']\nfaults = ['{fault}']")?;
-        let lines = format!(in rt.alloc();
-            "1 a open / r = {reply}\n2 a exit = 0\nend 2 faults {faults} seal 2\n"
-        )?;
-        let end = expect_fresh(&rt, job.as_str(), 0, lines.as_str())?;
-        assert!(rt; end.image == fresh(rt.alloc())?);
+        is_answered(&rt, fault, reply, faults)?;
     }
     Ok(())
 }
 
-// 255 calls of chmod, each with a fault that wipes the pages.
-fn many_faults(alloc: Global) -> Result<String, AllocError> {
-    let mut job = String::new(alloc);
+fn push_fault(job: &mut String, alloc: Global, call: u32) -> Result<(), AllocError> {
+    let text = format!(in alloc; "'{call} finish 0 1 wipe 255', ")?;
+    job.push_str(text.as_str())
+}
+
+fn push_many_faults(job: &mut String, alloc: Global) -> Result<(), AllocError> {
     job.push_str("calls = [")?;
     for _ in 0..255 {
         job.push_str("'a chmod /hello 600', ")?;
     }
     job.push_str("]\nfaults = [")?;
     for call in 1..256u32 {
-        let text = format!(in alloc; "'{call} finish 0 1 wipe 255', ")?;
-        job.push_str(text.as_str())?;
+        push_fault(job, alloc, call)?;
     }
-    job.push_str("]")?;
+    job.push_str("]")
+}
+
+// 255 calls of chmod, each with a fault that wipes the pages.
+fn many_faults(alloc: Global) -> Result<String, AllocError> {
+    let mut job = String::new(alloc);
+    push_many_faults(&mut job, alloc)?;
     Ok(job)
+}
+
+fn run_with_many_faults(alloc: Global) -> Result<End, Fail> {
+    let job = many_faults(alloc)?;
+    run(
+        alloc,
+        &["run", "v"],
+        hello_volume(alloc)?,
+        job.as_str(),
+        NOTHING_FAILS,
+    )
+}
+
+fn has_the_last_change<R: Abort>(rt: &R, image: &[u8]) -> Result<(), Fail> {
+    assert_eq!(rt; image.len(), 51200);
+    assert_eq!(rt; image[HELLO_MODE], 0x80);
+    assert_eq!(rt; image[HELLO_CTIME_LOW], 255, "the moment of the last call");
+    Ok(())
+}
+
+fn has_recovered_from_all<R: Abort>(rt: &R, end: &End) -> Result<(), Fail> {
+    ends_with(rt, end, 0, b"256 a exit = 0\nend 256 faults 255 seal 256\n")?;
+    has_the_last_change(rt, &end.image)
 }
 
 #[test]
 fn as_many_faults_as_there_may_be_are_recovered_from(rt: HostRuntime) -> Result<(), Fail> {
-    let job = many_faults(rt.alloc())?;
-    let failing = NOTHING_FAILS;
-    let end = run(
-        rt.alloc(),
-        &["run", "v"],
-        hello_volume(rt.alloc())?,
-        job.as_str(),
-        failing,
-    )?;
-    assert_eq!(rt; end.status, 0);
-    assert!(rt;
-        end.printed
-            .ends_with(b"256 a exit = 0\nend 256 faults 255 seal 256\n")
-    );
-    assert_eq!(rt; end.image.len(), 51200);
-    assert_eq!(rt; end.image[HELLO_MODE], 0x80);
-    assert_eq!(rt;
-        end.image[HELLO_CTIME_LOW],
-        255,
-        "the moment of the last call"
-    );
-    Ok(())
+    let end = run_with_many_faults(rt.alloc())?;
+    has_recovered_from_all(&rt, &end)
 }

@@ -1,8 +1,22 @@
-use crate::trials::{NOTHING_FAILS, checked, expect, expect_fresh, fresh, printed, run};
+use crate::trials::{
+    End, NOTHING_FAILS, checked, ends_with, fresh, image_after, keeps, opened, run,
+};
 use crate::volumes::{hello_volume, put};
 use std::alloc::{AllocError, Global};
 use std::process::Abort;
 use std::test::Fail;
+
+// That words end the program so over the volume of the example, which stays as it is.
+fn keeps_the_example<R: Abort + AllocGlobal>(
+    rt: &R,
+    words: &[&str],
+    job: &str,
+    status: u8,
+    lines: &str,
+) -> Result<(), Fail> {
+    let volume = hello_volume(rt.alloc())?;
+    keeps(rt, words, &volume, job, NOTHING_FAILS, status, lines)
+}
 
 // Near misses of each command. None reads its job, which is none, nor the image.
 #[test]
@@ -20,19 +34,27 @@ fn words_end_the_program_by_their_command(rt: HostRuntime) -> Result<(), Fail> {
         (["soak", "v", "1", "0", "0"].as_slice(), refused),
         (["soak", "v", "1", "1", "256"].as_slice(), refused),
     ] {
-        let image = hello_volume(rt.alloc())?;
-        let end = run(rt.alloc(), words, image, "calls = [", NOTHING_FAILS)?;
-        printed(&rt, &end, 1, line)?;
-        assert!(rt; end.image == hello_volume(rt.alloc())?);
+        keeps_the_example(&rt, words, "calls = [", 1, line)?;
     }
     Ok(())
 }
 
-// What a job ends with that leaves the volume as it is.
-fn keeps<R: Abort + AllocGlobal>(rt: &R, job: &str, status: u8, lines: &str) -> Result<(), Fail> {
-    let end = expect(rt, hello_volume(rt.alloc())?, job, status, lines)?;
-    assert!(rt; end.image == hello_volume(rt.alloc())?);
-    Ok(())
+// The same for a job.
+fn job_keeps_it<R: Abort + AllocGlobal>(
+    rt: &R,
+    job: &str,
+    status: u8,
+    lines: &str,
+) -> Result<(), Fail> {
+    keeps_the_example(rt, &["run", "v"], job, status, lines)
+}
+
+fn blanks(alloc: Global) -> Result<String, AllocError> {
+    let mut blanks = String::new(alloc);
+    for _ in 0..4_194_305 {
+        blanks.push(' ')?;
+    }
+    Ok(blanks)
 }
 
 #[test]
@@ -47,68 +69,87 @@ fn refused_jobs(rt: HostRuntime) -> Result<(), Fail> {
         ("calls = []\norder = 'az'", "job refused: order 2\n"),
         ("calls = [", "job refused: not toml\n"),
     ] {
-        keeps(&rt, job, 2, line)?;
+        job_keeps_it(&rt, job, 2, line)?;
     }
-    let mut blanks = String::new(rt.alloc());
-    for _ in 0..4_194_305 {
-        blanks.push(' ')?;
-    }
-    keeps(&rt, blanks.as_str(), 2, "job refused: too long\n")
+    let blanks = blanks(rt.alloc())?;
+    job_keeps_it(&rt, blanks.as_str(), 2, "job refused: too long\n")
 }
 
-// A job of the same call so many times, and then of another.
-fn repeated(alloc: Global, times: u32, call: &str, last: &str) -> Result<String, AllocError> {
-    let mut job = String::new(alloc);
+fn push_repeated(job: &mut String, times: u32, call: &str, last: &str) -> Result<(), AllocError> {
     job.push_str("calls = [")?;
     for _ in 0..times {
         job.push_str(call)?;
         job.push_str(", ")?;
     }
     job.push_str(last)?;
-    job.push_str("]\n")?;
+    job.push_str("]\n")
+}
+
+// A job of the same call so many times, and then of another.
+fn repeated(alloc: Global, times: u32, call: &str, last: &str) -> Result<String, AllocError> {
+    let mut job = String::new(alloc);
+    push_repeated(&mut job, times, call, last)?;
     Ok(job)
+}
+
+// That such a job is refused, with that line.
+fn refuses_repeated<R: Abort + AllocGlobal>(
+    rt: &R,
+    times: u32,
+    call: &str,
+    last: &str,
+    line: &str,
+) -> Result<(), Fail> {
+    let job = repeated(rt.alloc(), times, call, last)?;
+    job_keeps_it(rt, job.as_str(), 2, line)
 }
 
 #[test]
 fn job_limits(rt: HostRuntime) -> Result<(), Fail> {
     let read = "'a read 3 65535'";
-    let job = repeated(rt.alloc(), 256, read, "'a read 3 257'")?;
-    keeps(&rt, job.as_str(), 2, "job refused: call 257\n")?;
-    keeps(
+    refuses_repeated(&rt, 256, read, "'a read 3 257'", "job refused: call 257\n")?;
+    job_keeps_it(
         &rt,
         "calls = ['a exit', 'a sync']",
         2,
         "job refused: call 2\n",
     )?;
-    let job = repeated(rt.alloc(), 100_000, "'a sync'", "'a sync'")?;
-    keeps(&rt, job.as_str(), 2, "job refused: call 100001\n")?;
-    Ok(())
+    let sync = "'a sync'";
+    refuses_repeated(&rt, 100_000, sync, sync, "job refused: call 100001\n")
+}
+
+fn run_at_the_limit(alloc: Global) -> Result<End, Fail> {
+    let read = "'a read 3 65535'";
+    let job = repeated(alloc, 256, read, "'a read 3 256'")?;
+    run(
+        alloc,
+        &["run", "v"],
+        hello_volume(alloc)?,
+        job.as_str(),
+        NOTHING_FAILS,
+    )
 }
 
 #[test]
 fn job_at_the_limit(rt: HostRuntime) -> Result<(), Fail> {
-    let read = "'a read 3 65535'";
-    let job = repeated(rt.alloc(), 256, read, "'a read 3 256'")?;
-    let end = run(
-        rt.alloc(),
-        &["run", "v"],
-        hello_volume(rt.alloc())?,
-        job.as_str(),
-        NOTHING_FAILS,
-    )?;
-    assert_eq!(rt; end.status, 0);
-    assert!(rt;
-        end.printed.ends_with(
-            b"257 a read 3 256 = EBADF\n258 a exit = 0\nend 258 faults 0 seal 258\n"
-        )
-    );
-    Ok(())
+    let end = run_at_the_limit(rt.alloc())?;
+    ends_with(
+        &rt,
+        &end,
+        0,
+        b"257 a read 3 256 = EBADF\n258 a exit = 0\nend 258 faults 0 seal 258\n",
+    )
+}
+
+fn is_so_without<R: Abort + AllocGlobal>(rt: &R, keys: &str) -> Result<(), Fail> {
+    let lines = "1 a close 3 = EBADF\n2 a exit = 0\nend 2 faults 0 seal 2\n";
+    let job = format!(in rt.alloc(); "{keys}\ncalls = ['a close 3']\n")?;
+    job_keeps_it(rt, job.as_str(), 0, lines)
 }
 
 // Keys that say what is so without them, or what this job does not come to.
 #[test]
 fn keys_may_say_what_is_so_without_them(rt: HostRuntime) -> Result<(), Fail> {
-    let lines = "1 a close 3 = EBADF\n2 a exit = 0\nend 2 faults 0 seal 2\n";
     for keys in [
         "",
         "callers = ['a 0 0']",
@@ -127,10 +168,17 @@ fn keys_may_say_what_is_so_without_them(rt: HostRuntime) -> Result<(), Fail> {
         "order = '=>*'",
         "order = 'aaaaaaaaaaaaaaaaaaaa'",
     ] {
-        let job = format!(in rt.alloc(); "{keys}\ncalls = ['a close 3']\n")?;
-        keeps(&rt, job.as_str(), 0, lines)?;
+        is_so_without(&rt, keys)?;
     }
     Ok(())
+}
+
+fn is_a_name<R: Abort + AllocGlobal>(rt: &R, path: &str) -> Result<(), Fail> {
+    let job = format!(in rt.alloc(); "calls = ['a open {path} rw', 'a stat {path}']\n")?;
+    let lines = format!(in rt.alloc();
+        "1 a open {path} rw = 3\n2 a stat {path} = ino 3 mode 100644 nlink 1 uid 0 gid 0 size 5 atime 0 mtime 0 ctime 0\n3 a exit = 0\nend 3 faults 0 seal 3\n"
+    )?;
+    job_keeps_it(rt, job.as_str(), 0, lines.as_str())
 }
 
 #[test]
@@ -143,31 +191,46 @@ fn a_file_has_many_names_of_its_path(rt: HostRuntime) -> Result<(), Fail> {
         "/../hello",
         "../hello",
     ] {
-        let job = format!(in rt.alloc(); "calls = ['a open {path} rw', 'a stat {path}']\n")?;
-        let lines = format!(in rt.alloc();
-            "1 a open {path} rw = 3\n2 a stat {path} = ino 3 mode 100644 nlink 1 uid 0 gid 0 size 5 atime 0 mtime 0 ctime 0\n3 a exit = 0\nend 3 faults 0 seal 3\n"
-        )?;
-        keeps(&rt, job.as_str(), 0, lines.as_str())?;
+        is_a_name(&rt, path)?;
     }
     Ok(())
 }
 
+// That `check` and `run` say that line of an image, and leave it as it is.
+fn refused_with<R: Abort + AllocGlobal>(rt: &R, image: &[u8], line: &str) -> Result<(), Fail> {
+    checked(rt, image, 3, line)?;
+    let job = "calls = ['a sync']";
+    keeps(rt, &["run", "v"], image, job, NOTHING_FAILS, 3, line)
+}
+
 // What `check` and `run` say of an image.
-fn refused<R: Abort + AllocGlobal>(rt: &R, image: Vec<u8>, rule: &str) -> Result<(), Fail> {
+fn refused<R: Abort + AllocGlobal>(rt: &R, image: &[u8], rule: &str) -> Result<(), Fail> {
     let line = format!(in rt.alloc(); "volume refused: {rule}\n")?;
-    checked(rt, &image, 3, line.as_str())?;
-    let before = image.to_vec(rt.alloc())?;
-    let end = expect(rt, image, "calls = ['a sync']", 3, line.as_str())?;
-    assert!(rt; end.image == before);
-    Ok(())
+    refused_with(rt, image, line.as_str())
 }
 
 #[test]
 fn cut_superblock(rt: HostRuntime) -> Result<(), Fail> {
+    refused(&rt, &[], "block 1 rule 1")?;
     let mut image = fresh(rt.alloc())?;
     image.truncate(712);
-    refused(&rt, image, "block 1 rule 1")?;
-    refused(&rt, Vec::new(rt.alloc()), "block 1 rule 1")
+    refused(&rt, &image, "block 1 rule 1")
+}
+
+// Bytes of an image and where they stand.
+type Edit<'a> = (usize, &'a [u8]);
+
+fn put_all(image: &mut [u8], edits: &[Edit<'_>]) {
+    for (at, bytes) in edits {
+        put(image, *at, bytes);
+    }
+}
+
+// That the fresh volume with these edits breaks that rule.
+fn edits_break<R: Abort + AllocGlobal>(rt: &R, edits: &[Edit<'_>], rule: &str) -> Result<(), Fail> {
+    let mut image = fresh(rt.alloc())?;
+    put_all(&mut image, edits);
+    refused(rt, &image, rule)
 }
 
 // The fresh volume with some edits. Its super-block stands at byte 512, with s_nfree at 518 and s_free from 520 on; the
@@ -214,11 +277,7 @@ fn refused_volumes(rt: HostRuntime) -> Result<(), Fail> {
         ([(2064, [3, 0].as_slice())].as_slice(), "block 4 rule 10"),
         ([(1090, [3, 0].as_slice())].as_slice(), "block 2 rule 14"),
     ] {
-        let mut image = fresh(rt.alloc())?;
-        for (at, bytes) in edits {
-            put(&mut image, *at, bytes);
-        }
-        refused(&rt, image, rule)?;
+        edits_break(&rt, edits, rule)?;
     }
     Ok(())
 }
@@ -229,10 +288,26 @@ fn refused_volumes_with_a_directory_in_itself(rt: HostRuntime) -> Result<(), Fai
     let job = "calls = ['a mkdir /d 755', 'a mkdir /d/e 755']";
     let lines =
         "1 a mkdir /d 755 = 0\n2 a mkdir /d/e 755 = 0\n3 a exit = 0\nend 3 faults 0 seal 3\n";
-    let end = expect_fresh(&rt, job, 0, lines)?;
-    let mut image = end.image;
+    let mut image = image_after(&rt, job, 0, lines)?;
     put(&mut image, 5 * 512 + 32, &[3, 0]);
-    refused(&rt, image, "block 2 rule 13")
+    refused(&rt, &image, "block 2 rule 13")
+}
+
+// The volume of the example with one edit.
+fn edited(alloc: Global, at: usize, bytes: &[u8]) -> Result<Vec<u8>, AllocError> {
+    let mut image = hello_volume(alloc)?;
+    put(&mut image, at, bytes);
+    Ok(image)
+}
+
+fn edit_breaks<R: Abort + AllocGlobal>(
+    rt: &R,
+    at: usize,
+    bytes: &[u8],
+    rule: &str,
+) -> Result<(), Fail> {
+    let image = edited(rt.alloc(), at, bytes)?;
+    refused(rt, &image, rule)
 }
 
 // Near misses of the volume of the example, by one edit: the rule that it breaks.
@@ -265,11 +340,19 @@ fn each_edit_breaks_the_rule_of_its_place(rt: HostRuntime) -> Result<(), Fail> {
         (1154, [0, 0].as_slice(), "block 2 rule 14"),
         (1154, [2, 0].as_slice(), "block 2 rule 14"),
     ] {
-        let mut image = hello_volume(rt.alloc())?;
-        put(&mut image, at, bytes);
-        refused(&rt, image, rule)?;
+        edit_breaks(&rt, at, bytes, rule)?;
     }
     Ok(())
+}
+
+fn edit_breaks_nothing<R: Abort + AllocGlobal>(
+    rt: &R,
+    at: usize,
+    bytes: &[u8],
+) -> Result<(), Fail> {
+    let image = edited(rt.alloc(), at, bytes)?;
+    let line = "sound nodes 2 held 2 free 94\n";
+    opened(rt, &image, line, line)
 }
 
 // Edits that break no rule: a size past the parts, a name of 14 bytes, cached numbers and times.
@@ -283,12 +366,7 @@ fn some_edits_break_no_rule(rt: HostRuntime) -> Result<(), Fail> {
         (1151, [0xff].as_slice()),
         (1204, [1, 2, 3, 4, 5, 6, 7, 8].as_slice()),
     ] {
-        let mut image = hello_volume(rt.alloc())?;
-        put(&mut image, at, bytes);
-        let before = image.to_vec(rt.alloc())?;
-        checked(&rt, &image, 0, "sound nodes 2 held 2 free 94\n")?;
-        let end = expect(&rt, before, "calls = []", 0, "end 0 faults 0 seal 0\n")?;
-        checked(&rt, &end.image, 0, "sound nodes 2 held 2 free 94\n")?;
+        edit_breaks_nothing(&rt, at, bytes)?;
     }
     Ok(())
 }

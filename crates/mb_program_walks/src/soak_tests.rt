@@ -1,5 +1,7 @@
-use crate::trials::{Failing, NOTHING_FAILS, checked, fresh, printed, run};
+use crate::trials::{End, Failing, NOTHING_FAILS, checked, fresh, printed, run, tells};
 use crate::volumes::{hello_volume, put};
+use std::alloc::{AllocError, Global};
+use std::process::Abort;
 use std::test::Fail;
 
 // The job of the number 1, of 20 calls and 6 faults, by the generator's table with a PCG32 written apart from the program.
@@ -20,24 +22,39 @@ faults = [
 // By hand: all but the two `creat` are refused; five calls are struck, one of them where two rules meet, none twice.
 const SOAK_LINE: &str = "soak entries 22 faults 5 refused 18 restarts 0 seal 22\n";
 
+fn ended_well<R: Abort>(rt: &R, end: &End, image: &[u8]) -> Result<(), Fail> {
+    assert_eq!(rt; end.status, 0);
+    assert!(rt; end.image.as_slice() == image);
+    Ok(())
+}
+
+// That the job of the number leaves that image.
+fn listed_job_leaves<R: Abort + AllocGlobal>(rt: &R, image: &[u8]) -> Result<(), Fail> {
+    let alloc = rt.alloc();
+    let listed = run(alloc, &["run", "v"], fresh(alloc)?, SOAK_JOB, NOTHING_FAILS)?;
+    ended_well(rt, &listed, image)
+}
+
+fn is_the_run_of_its_job<R: Abort + AllocGlobal>(rt: &R, end: &End) -> Result<(), Fail> {
+    printed(rt, end, 0, SOAK_LINE)?;
+    listed_job_leaves(rt, &end.image)?;
+    checked(rt, &end.image, 0, "sound nodes 2 held 1 free 95\n")
+}
+
 #[test]
 fn a_soak_is_the_run_of_its_job(rt: HostRuntime) -> Result<(), Fail> {
     let alloc = rt.alloc();
     let words = ["soak", "v", "1", "20", "6"];
     let end = run(alloc, &words, fresh(alloc)?, "", NOTHING_FAILS)?;
-    printed(&rt, &end, 0, SOAK_LINE)?;
-    let listed = run(alloc, &["run", "v"], fresh(alloc)?, SOAK_JOB, NOTHING_FAILS)?;
-    assert_eq!(rt; listed.status, 0);
-    assert!(rt; listed.image == end.image);
-    checked(&rt, &end.image, 0, "sound nodes 2 held 1 free 95\n")
+    is_the_run_of_its_job(&rt, &end)
 }
 
-#[test]
-fn two_soaks_of_a_number_are_alike(rt: HostRuntime) -> Result<(), Fail> {
-    let alloc = rt.alloc();
+fn long_soak(alloc: Global) -> Result<End, Fail> {
     let words = ["soak", "v", "1", "1000", "20"];
-    let one = run(alloc, &words, fresh(alloc)?, "", NOTHING_FAILS)?;
-    let other = run(alloc, &words, fresh(alloc)?, "", NOTHING_FAILS)?;
+    run(alloc, &words, fresh(alloc)?, "", NOTHING_FAILS)
+}
+
+fn are_alike<R: Abort>(rt: &R, one: &End, other: &End) -> Result<(), Fail> {
     assert_eq!(rt; one.status, 0);
     assert!(rt; one.printed.starts_with(b"soak entries 1002 faults "));
     assert!(rt; one.printed == other.printed);
@@ -45,20 +62,38 @@ fn two_soaks_of_a_number_are_alike(rt: HostRuntime) -> Result<(), Fail> {
     Ok(())
 }
 
-// A soak reads no job, and refuses an image as `check` does.
+fn is_like_another<R: Abort + AllocGlobal>(rt: &R, one: &End) -> Result<(), Fail> {
+    let other = long_soak(rt.alloc())?;
+    are_alike(rt, one, &other)
+}
+
 #[test]
-fn a_soak_over_what_is_no_volume(rt: HostRuntime) -> Result<(), Fail> {
-    let alloc = rt.alloc();
-    let words = ["soak", "v", "1", "1", "0"];
+fn two_soaks_of_a_number_are_alike(rt: HostRuntime) -> Result<(), Fail> {
+    let one = long_soak(rt.alloc())?;
+    is_like_another(&rt, &one)
+}
+
+// The volume of the example with another size of its list of inodes.
+fn broken_volume(alloc: Global) -> Result<Vec<u8>, AllocError> {
     let mut broken = hello_volume(alloc)?;
     put(&mut broken, 512, b"\xff\xff");
-    let told = run(
-        alloc,
-        &["check", "v"],
-        broken.to_vec(alloc)?,
-        "",
-        NOTHING_FAILS,
-    )?;
+    Ok(broken)
+}
+
+fn refuses<R: Abort>(rt: &R, end: &End, told: &End, broken: &[u8]) -> Result<(), Fail> {
+    assert_eq!(rt; end.status, 3);
+    assert!(rt; end.printed == told.printed);
+    assert!(rt; end.image.as_slice() == broken);
+    Ok(())
+}
+
+fn is_refused_as_told<R: Abort + AllocGlobal>(
+    rt: &R,
+    broken: &[u8],
+    told: &End,
+) -> Result<(), Fail> {
+    let alloc = rt.alloc();
+    let words = ["soak", "v", "1", "1", "0"];
     let end = run(
         alloc,
         &words,
@@ -66,20 +101,42 @@ fn a_soak_over_what_is_no_volume(rt: HostRuntime) -> Result<(), Fail> {
         "calls = [",
         NOTHING_FAILS,
     )?;
-    assert_eq!(rt; end.status, 3);
-    assert!(rt; end.printed == told.printed);
-    assert!(rt; end.image == broken);
-    Ok(())
+    refuses(rt, &end, told, broken)
+}
+
+fn is_refused_as_checked<R: Abort + AllocGlobal>(rt: &R, broken: &[u8]) -> Result<(), Fail> {
+    let alloc = rt.alloc();
+    let told = run(
+        alloc,
+        &["check", "v"],
+        broken.to_vec(alloc)?,
+        "",
+        NOTHING_FAILS,
+    )?;
+    is_refused_as_told(rt, broken, &told)
+}
+
+// A soak reads no job, and refuses an image as `check` does.
+#[test]
+fn a_soak_over_what_is_no_volume(rt: HostRuntime) -> Result<(), Fail> {
+    let broken = broken_volume(rt.alloc())?;
+    is_refused_as_checked(&rt, &broken)
 }
 
 #[test]
 fn a_soak_over_a_disk_that_fails(rt: HostRuntime) -> Result<(), Fail> {
-    let alloc = rt.alloc();
     let words = ["soak", "v", "1", "1", "0"];
     let failing = Failing {
         reads: &[1],
         ..NOTHING_FAILS
     };
-    let end = run(alloc, &words, fresh(alloc)?, "", failing)?;
-    printed(&rt, &end, 5, "disk fault\n")
+    tells(
+        &rt,
+        &words,
+        fresh(rt.alloc())?,
+        "",
+        failing,
+        5,
+        "disk fault\n",
+    )
 }

@@ -4,7 +4,7 @@ ghost use Rattle.mb_commands.specs.Words.{command_of, is_threaded};
 
 use mb_commands::asks_threads;
 use mb_core_spec::Step;
-use mb_edge::{Bytes, Fails, MemDisk, MemSink, MemSource};
+use mb_edge::{Bytes, Fails, MemDisk, MemSink, MemSource, SureSource};
 use mb_host::{Word8, Words};
 use mb_kinds::FaultRecord;
 use mb_program::{Finish, Held, membrane_alone};
@@ -85,6 +85,23 @@ pub fn disk(alloc: Global, image: Vec<u8>, failing: Failing) -> Result<MemDisk, 
     )?)
 }
 
+/// An input of that job, some reads of which fail.
+pub fn source(alloc: Global, job: &str, failing: &[u64]) -> Result<MemSource, AllocError> {
+    let input = Bytes::from_vec(job.as_bytes().to_vec(alloc)?);
+    Ok(MemSource::new(input, fails(alloc, failing)?))
+}
+
+/// An input of that job which never fails.
+pub fn sure_source(alloc: Global, job: &str) -> Result<SureSource, AllocError> {
+    let input = Bytes::from_vec(job.as_bytes().to_vec(alloc)?);
+    Ok(SureSource::new(input))
+}
+
+/// An output, some writes of which fail.
+pub fn sink(alloc: Global, failing: &[u64]) -> Result<MemSink, Fail> {
+    Ok(MemSink::new(alloc, 1_048_576, fails(alloc, failing)?)?)
+}
+
 fn trail_of(alloc: Global, held: &Held<MemDisk>) -> Result<Vec<Step>, AllocError> {
     match held {
         Held::Disk(_) => Ok(Vec::new(alloc)),
@@ -99,23 +116,88 @@ fn records_of(alloc: Global, held: &Held<MemDisk>) -> Result<Vec<FaultRecord>, A
     }
 }
 
-/// What is left of a run that ended with that status and printed that.
-pub fn ended(
+// What the core tells of a run.
+fn told_by(
+    alloc: Global,
+    held: &Held<MemDisk>,
+) -> Result<(Vec<Step>, Vec<FaultRecord>), AllocError> {
+    let trail = trail_of(alloc, held)?;
+    Ok((trail, records_of(alloc, held)?))
+}
+
+// An end of those parts.
+fn end_of(
     alloc: Global,
     status: u8,
     printed: &[u8],
-    held: Held<MemDisk>,
-) -> Result<End, AllocError> {
-    let trail: Result<_, _> = trail_of(alloc, &held);
-    let records: Result<_, _> = records_of(alloc, &held);
-    let disk = held.into_disk();
+    image: &[u8],
+    trail: Vec<Step>,
+    records: Vec<FaultRecord>,
+) -> Result<End, Fail> {
     Ok(End {
         status,
         printed: printed.to_vec(alloc)?,
-        image: disk.bytes().to_vec(alloc)?,
-        trail: trail?,
-        records: records?,
+        image: image.to_vec(alloc)?,
+        trail,
+        records,
     })
+}
+
+// The same, where they were told.
+fn end_where_told(
+    alloc: Global,
+    status: u8,
+    printed: &[u8],
+    image: &[u8],
+    told: Result<(Vec<Step>, Vec<FaultRecord>), AllocError>,
+) -> Result<End, Fail> {
+    let (trail, records) = told?;
+    end_of(alloc, status, printed, image, trail, records)
+}
+
+/// What is left of a run that ended with that status and printed that.
+pub fn ended(alloc: Global, status: u8, printed: &[u8], held: Held<MemDisk>) -> Result<End, Fail> {
+    let told: Result<_, _> = told_by(alloc, &held);
+    let disk = held.into_disk();
+    end_where_told(alloc, status, printed, disk.bytes(), told)
+}
+
+// The run over a disk, between an input and an output.
+fn run_on(
+    alloc: Global,
+    list: &[&str],
+    source: &mut MemSource,
+    disk: MemDisk,
+    sink: &mut MemSink,
+) -> Result<End, Fail> {
+    let words = words_alone(alloc, list)?;
+    let Finish { status, held } = membrane_alone(alloc, &words, source, disk, sink);
+    ended(alloc, status, sink.taken(), held)
+}
+
+// The run over an image.
+fn run_between(
+    alloc: Global,
+    list: &[&str],
+    source: &mut MemSource,
+    image: Vec<u8>,
+    failing: Failing,
+    sink: &mut MemSink,
+) -> Result<End, Fail> {
+    let disk = disk(alloc, image, failing)?;
+    run_on(alloc, list, source, disk, sink)
+}
+
+// The run from an input.
+fn run_from(
+    alloc: Global,
+    list: &[&str],
+    source: &mut MemSource,
+    image: Vec<u8>,
+    failing: Failing,
+) -> Result<End, Fail> {
+    let mut sink = sink(alloc, failing.outputs)?;
+    run_between(alloc, list, source, image, failing, &mut sink)
 }
 
 /// Runs the program with those words, which ask for no threads, over that image, with that job as its input.
@@ -126,13 +208,8 @@ pub fn run(
     job: &str,
     failing: Failing,
 ) -> Result<End, Fail> {
-    let input = Bytes::from_vec(job.as_bytes().to_vec(alloc)?);
-    let mut source = MemSource::new(input, fails(alloc, failing.inputs)?);
-    let disk = disk(alloc, image, failing)?;
-    let mut sink = MemSink::new(alloc, 1_048_576, fails(alloc, failing.outputs)?)?;
-    let words = words_alone(alloc, list)?;
-    let Finish { status, held } = membrane_alone(alloc, &words, &mut source, disk, &mut sink);
-    Ok(ended(alloc, status, sink.taken(), held)?)
+    let mut source = source(alloc, job, failing.inputs)?;
+    run_from(alloc, list, &mut source, image, failing)
 }
 
 /// The volume that the program makes with the words `mkfs v 100 16`.
@@ -147,6 +224,54 @@ pub fn printed<R: Abort>(rt: &R, end: &End, status: u8, lines: &str) -> Result<(
     assert_eq!(rt; str::from_utf8(&end.printed)?, lines);
     assert_eq!(rt; end.status, status);
     Ok(())
+}
+
+/// That a run printed those lines, ended with that status and left that image.
+pub fn left<R: Abort>(
+    rt: &R,
+    end: &End,
+    status: u8,
+    lines: &str,
+    image: &[u8],
+) -> Result<(), Fail> {
+    printed(rt, end, status, lines)?;
+    assert!(rt; end.image.as_slice() == image);
+    Ok(())
+}
+
+/// That a run ended with that status, and that what it printed ends so.
+pub fn ends_with<R: Abort>(rt: &R, end: &End, status: u8, last: &[u8]) -> Result<(), Fail> {
+    assert_eq!(rt; end.status, status);
+    assert!(rt; end.printed.ends_with(last));
+    Ok(())
+}
+
+/// Runs the program as `run` does. It is to end with that status and to print those lines.
+pub fn tells<R: Abort + AllocGlobal>(
+    rt: &R,
+    list: &[&str],
+    image: Vec<u8>,
+    job: &str,
+    failing: Failing,
+    status: u8,
+    lines: &str,
+) -> Result<(), Fail> {
+    let end = run(rt.alloc(), list, image, job, failing)?;
+    printed(rt, &end, status, lines)
+}
+
+/// The same over an image that is to stay as it is.
+pub fn keeps<R: Abort + AllocGlobal>(
+    rt: &R,
+    list: &[&str],
+    image: &[u8],
+    job: &str,
+    failing: Failing,
+    status: u8,
+    lines: &str,
+) -> Result<(), Fail> {
+    let end = run(rt.alloc(), list, image.to_vec(rt.alloc())?, job, failing)?;
+    left(rt, &end, status, lines, image)
 }
 
 /// Runs a job over an image while nothing fails. It is to end with that status and to print those lines.
@@ -172,6 +297,28 @@ pub fn expect_fresh<R: Abort + AllocGlobal>(
     expect(rt, fresh(rt.alloc())?, job, status, lines)
 }
 
+/// That a job ends so over a fresh volume, of which nothing more is asked.
+pub fn prints<R: Abort + AllocGlobal>(
+    rt: &R,
+    job: &str,
+    status: u8,
+    lines: &str,
+) -> Result<(), Fail> {
+    let _end = expect_fresh(rt, job, status, lines)?;
+    Ok(())
+}
+
+/// The image that a job leaves which ends so over a fresh volume.
+pub fn image_after<R: Abort + AllocGlobal>(
+    rt: &R,
+    job: &str,
+    status: u8,
+    lines: &str,
+) -> Result<Vec<u8>, Fail> {
+    let end = expect_fresh(rt, job, status, lines)?;
+    Ok(end.image)
+}
+
 /// Checks an image, which is to stay as it is, with that status and that line.
 pub fn checked<R: Abort + AllocGlobal>(
     rt: &R,
@@ -179,28 +326,80 @@ pub fn checked<R: Abort + AllocGlobal>(
     status: u8,
     line: &str,
 ) -> Result<(), Fail> {
+    keeps(rt, &["check", "v"], image, "", NOTHING_FAILS, status, line)
+}
+
+/// That a job over a fresh volume ends so, and that a check of what it leaves prints that line.
+pub fn leaves<R: Abort + AllocGlobal>(
+    rt: &R,
+    job: &str,
+    status: u8,
+    lines: &str,
+    sound: &str,
+) -> Result<(), Fail> {
+    let end = expect_fresh(rt, job, status, lines)?;
+    checked(rt, &end.image, 0, sound)
+}
+
+/// That a check of an image prints one line, and a check of what a job without a call leaves of it another.
+pub fn opened<R: Abort + AllocGlobal>(
+    rt: &R,
+    image: &[u8],
+    before: &str,
+    after: &str,
+) -> Result<(), Fail> {
+    checked(rt, image, 0, before)?;
     let copy = image.to_vec(rt.alloc())?;
-    let end = run(rt.alloc(), &["check", "v"], copy, "", NOTHING_FAILS)?;
-    printed(rt, &end, status, line)?;
-    assert!(rt; end.image.as_slice() == image);
-    Ok(())
+    let end = expect(rt, copy, "calls = []", 0, "end 0 faults 0 seal 0\n")?;
+    checked(rt, &end.image, 0, after)
+}
+
+/// Whether an image is that of a fresh volume.
+pub fn is_fresh(alloc: Global, image: &[u8]) -> Result<bool, Fail> {
+    let fresh = fresh(alloc)?;
+    Ok(fresh.as_slice() == image)
+}
+
+// The status of a run without a call over a copy of that image, one read of which fails.
+fn status_without_read(alloc: Global, image: &[u8], read: u64) -> Result<u8, Fail> {
+    let reads = [read];
+    let failing = Failing {
+        reads: &reads,
+        ..NOTHING_FAILS
+    };
+    let end = run(
+        alloc,
+        &["run", "v"],
+        image.to_vec(alloc)?,
+        "calls = []",
+        failing,
+    )?;
+    Ok(end.status)
 }
 
 /// The number of the disk's first read after the opening: a run without a call makes none.
 pub fn first_read(alloc: Global, image: &[u8]) -> Result<u64, Fail> {
     for read in 1..1000 {
-        let reads = [read];
-        let failing = Failing {
-            reads: &reads,
-            ..NOTHING_FAILS
-        };
-        let image = image.to_vec(alloc)?;
-        let end = run(alloc, &["run", "v"], image, "calls = []", failing)?;
-        if end.status == 0 {
+        if status_without_read(alloc, image, read)? == 0 {
             return Ok(read);
         }
     }
     Err("the opening does not end".into())
+}
+
+/// That a job ends so over a fresh volume whose first read after the opening fails.
+pub fn prints_without_its_first_read<R: Abort + AllocGlobal>(
+    rt: &R,
+    job: &str,
+    lines: &str,
+) -> Result<(), Fail> {
+    let image = fresh(rt.alloc())?;
+    let reads = [first_read(rt.alloc(), &image)?];
+    let failing = Failing {
+        reads: &reads,
+        ..NOTHING_FAILS
+    };
+    tells(rt, &["run", "v"], image, job, failing, 0, lines)
 }
 
 /// The numbers of the operations that were replayed, in order.
@@ -256,20 +455,52 @@ fn unwound(alloc: Global, trail: &[Step]) -> Result<Vec<u8>, AllocError> {
     Ok(callers)
 }
 
+fn are_numbers<R: Abort>(rt: &R, found: &[u32], wanted: &[u32]) -> Result<(), Fail> {
+    assert_eq!(rt; found, wanted);
+    Ok(())
+}
+
+fn are_callers<R: Abort>(rt: &R, found: &[u8], wanted: &[u8]) -> Result<(), Fail> {
+    assert_eq!(rt; found, wanted);
+    Ok(())
+}
+
 /// That a run replayed the operations with these numbers.
 pub fn replays<R: Abort + AllocGlobal>(rt: &R, end: &End, numbers: &[u32]) -> Result<(), Fail> {
-    assert_eq!(rt; replayed(rt.alloc(), &end.trail)?.as_slice(), numbers);
-    Ok(())
+    let found = replayed(rt.alloc(), &end.trail)?;
+    are_numbers(rt, &found, numbers)
 }
 
 /// That the copies of these callers were stale.
 pub fn stales<R: Abort + AllocGlobal>(rt: &R, end: &End, callers: &[u8]) -> Result<(), Fail> {
-    assert_eq!(rt; stale(rt.alloc(), &end.trail)?.as_slice(), callers);
-    Ok(())
+    let found = stale(rt.alloc(), &end.trail)?;
+    are_callers(rt, &found, callers)
 }
 
 /// That the calls of these callers were unwound.
 pub fn unwinds<R: Abort + AllocGlobal>(rt: &R, end: &End, callers: &[u8]) -> Result<(), Fail> {
-    assert_eq!(rt; unwound(rt.alloc(), &end.trail)?.as_slice(), callers);
-    Ok(())
+    let found = unwound(rt.alloc(), &end.trail)?;
+    are_callers(rt, &found, callers)
+}
+
+/// That a run replayed these operations, and that a check of what it left prints that line.
+pub fn replays_and_leaves<R: Abort + AllocGlobal>(
+    rt: &R,
+    end: &End,
+    numbers: &[u32],
+    sound: &str,
+) -> Result<(), Fail> {
+    replays(rt, end, numbers)?;
+    checked(rt, &end.image, 0, sound)
+}
+
+/// That the copies of these callers were stale, and that a check of what the run left prints that line.
+pub fn stales_and_leaves<R: Abort + AllocGlobal>(
+    rt: &R,
+    end: &End,
+    callers: &[u8],
+    sound: &str,
+) -> Result<(), Fail> {
+    stales(rt, end, callers)?;
+    checked(rt, &end.image, 0, sound)
 }

@@ -214,3 +214,14 @@ pub fn changed_volume(alloc: Global, mode: u16, moment: u8) -> Result<Vec<u8>, A
     put(&mut image, HELLO_CTIME, &[0, 0, moment, 0]);
     Ok(image)
 }
+
+/// Whether an image is that volume.
+pub fn is_changed_volume(
+    alloc: Global,
+    image: &[u8],
+    mode: u16,
+    moment: u8,
+) -> Result<bool, AllocError> {
+    let changed = changed_volume(alloc, mode, moment)?;
+    Ok(changed.as_slice() == image)
+}
