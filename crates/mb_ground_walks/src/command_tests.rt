@@ -2,6 +2,7 @@ use mb_commands::{Command, Made, command_of, image_name, make_volume, refused_li
 use mb_edge::{Bytes, Fails, MemDisk};
 use mb_host::{Word8, Words};
 use std::alloc::{AllocError, Global};
+use std::process::Abort;
 use std::test::Fail;
 
 fn words_of(alloc: Global, words: &[&str]) -> Result<Words, AllocError> {
@@ -10,6 +11,32 @@ fn words_of(alloc: Global, words: &[&str]) -> Result<Words, AllocError> {
         list.push(Word8::from_vec(word.as_bytes().to_vec(alloc)?))?;
     }
     Ok(Words::from_vec(list))
+}
+
+/// Words, and the command that they are.
+type Row<'a> = (&'a [&'a str], Option<Command>);
+
+fn are_read<R: Abort + AllocGlobal>(
+    rt: &R,
+    words: &[&str],
+    wanted: Option<Command>,
+) -> Result<(), Fail> {
+    let list = words_of(rt.alloc(), words)?;
+    assert_eq!(rt; command_of(&list), wanted, "at {words:?}");
+    Ok(())
+}
+
+fn each_is_read<R: Abort + AllocGlobal>(rt: &R, table: &[Row<'_>]) -> Result<(), Fail> {
+    for (words, wanted) in table {
+        are_read(rt, words, *wanted)?;
+    }
+    Ok(())
+}
+
+fn image_is_named<R: Abort + AllocGlobal>(rt: &R) -> Result<(), Fail> {
+    let list = words_of(rt.alloc(), &["run", "--threads", "v"])?;
+    assert!(rt; image_name(&list) == b"v".as_slice());
+    Ok(())
 }
 
 #[test]
@@ -25,7 +52,7 @@ fn words_are_commands_or_none(rt: HostRuntime) -> Result<(), Fail> {
         calls: 32768,
         faults: 255,
     });
-    for (words, wanted) in [
+    let table = [
         (["run", "v"].as_slice(), run),
         (["run", "v", "--threads"].as_slice(), threads),
         (["run", "--threads", "v"].as_slice(), threads),
@@ -48,42 +75,61 @@ fn words_are_commands_or_none(rt: HostRuntime) -> Result<(), Fail> {
         (["soak", "v", "1", "1", "256"].as_slice(), None),
         (["make", "v"].as_slice(), None),
         ([].as_slice(), None),
-    ] {
-        let list = words_of(rt.alloc(), words)?;
-        assert_eq!(rt; command_of(&list), wanted, "at {words:?}");
+    ];
+    each_is_read(&rt, &table)?;
+    image_is_named(&rt)
+}
+
+/// An empty disk with room for 100 blocks.
+fn empty_disk(alloc: Global) -> Result<MemDisk, Fail> {
+    let empty = Bytes::from_vec(Vec::new(alloc));
+    let none = || Fails::from_vec(Vec::new(alloc));
+    match MemDisk::new(alloc, empty, 100, none(), none(), none()) {
+        Ok(disk) => Ok(disk),
+        Err(_) => Err(Fail::from("no memory")),
     }
-    let list = words_of(rt.alloc(), &["run", "--threads", "v"])?;
-    assert_eq!(rt; image_name(&list), b"v".as_slice());
+}
+
+fn is_made(rt: &impl Abort, alloc: Global, disk: &mut MemDisk) -> Result<(), Fail> {
+    let Made::Line(line) = make_volume(alloc, disk, 100, 16) else {
+        return Err(Fail::from("no volume was made"));
+    };
+    assert_eq!(rt; line.as_slice(), b"made 100 blocks 16 inodes\n".as_slice());
+    Ok(())
+}
+
+fn is_made_whole(rt: &impl Abort, alloc: Global, disk: &mut MemDisk) -> Result<(), Fail> {
+    is_made(rt, alloc, disk)?;
+    assert!(rt; disk.bytes().len() == 51200);
     Ok(())
 }
 
 #[test]
 fn a_volume_is_made_with_its_line(rt: HostRuntime) -> Result<(), Fail> {
-    let alloc = rt.alloc();
-    let empty = Bytes::from_vec(Vec::new(alloc));
-    let none = || Fails::from_vec(Vec::new(alloc));
-    let Ok(mut disk) = MemDisk::new(alloc, empty, 100, none(), none(), none()) else {
-        return Err(Fail::from("no memory"));
-    };
-    let Made::Line(line) = make_volume(alloc, &mut disk, 100, 16) else {
-        return Err(Fail::from("no volume was made"));
-    };
-    assert_eq!(rt; line.as_slice(), b"made 100 blocks 16 inodes\n".as_slice());
-    assert_eq!(rt; disk.bytes().len(), 51200);
-    Ok(())
+    let mut disk = empty_disk(rt.alloc())?;
+    is_made_whole(&rt, rt.alloc(), &mut disk)
 }
 
-#[test]
-fn lines_are_printed(rt: HostRuntime) -> Result<(), Fail> {
+fn sound_line_is_printed<R: Abort + AllocGlobal>(rt: &R) -> Result<(), Fail> {
     let sound = sound_line(rt.alloc(), 1, 1, 95)?;
     assert_eq!(rt;
         sound.as_slice(),
         b"sound nodes 1 held 1 free 95\n".as_slice()
     );
+    Ok(())
+}
+
+fn refused_line_is_printed<R: Abort + AllocGlobal>(rt: &R) -> Result<(), Fail> {
     let refused = refused_line(rt.alloc(), 1, 2)?;
     assert_eq!(rt;
         refused.as_slice(),
         b"volume refused: block 1 rule 2\n".as_slice()
     );
     Ok(())
+}
+
+#[test]
+fn lines_are_printed(rt: HostRuntime) -> Result<(), Fail> {
+    sound_line_is_printed(&rt)?;
+    refused_line_is_printed(&rt)
 }

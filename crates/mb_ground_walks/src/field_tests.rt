@@ -1,5 +1,13 @@
 use mb_layout::{Chain, Dinode, Slot, Super, index_at, inode_block, inode_place, put_index};
 
+/// Whether these bytes stand from a place on.
+fn stand_at(block: &[u8; 512], at: usize, wanted: &[u8]) -> bool {
+    match block.get(at..) {
+        Some(rest) => rest.starts_with(wanted),
+        None => false,
+    }
+}
+
 /// Block 1 of a fresh volume of 100 blocks and 16 inodes, as far as its first free blocks.
 fn fresh_super_block() -> [u8; 512] {
     let mut block = [0; 512];
@@ -19,15 +27,19 @@ fn fresh_inodes() -> [u8; 512] {
     block
 }
 
+fn is_fresh(block: &Super) -> bool {
+    block.s_isize == 4
+        && block.s_fsize == 100
+        && block.s_nfree == 46
+        && block.s_free[0] == 50
+        && block.s_free[1] == 49
+        && block.s_ninode == 0
+}
+
 #[test]
 fn fresh_super_block_reads_field_by_field(rt: HostRuntime) {
     let fresh = Super::read(&fresh_super_block());
-    assert_eq!(rt; fresh.s_isize, 4);
-    assert_eq!(rt; fresh.s_fsize, 100);
-    assert_eq!(rt; fresh.s_nfree, 46);
-    assert_eq!(rt; fresh.s_free[0], 50);
-    assert_eq!(rt; fresh.s_free[1], 49);
-    assert_eq!(rt; fresh.s_ninode, 0);
+    assert!(rt; is_fresh(&fresh));
 }
 
 #[test]
@@ -39,17 +51,21 @@ fn super_block_writes_its_fields_and_keeps_the_rest(rt: HostRuntime) {
     assert_eq!(rt; block[414], 7);
 }
 
+fn is_root(root: &Dinode) -> bool {
+    root.mode == 0o040777
+        && root.nlink == 2
+        && root.uid == 0
+        && root.gid == 0
+        && root.size == 32
+        && root.address(0) == 4
+        && root.address(1) == 0
+        && root.mtime == 0
+}
+
 #[test]
 fn fresh_root_reads_field_by_field(rt: HostRuntime) {
     let root = Dinode::read(&fresh_inodes(), 1);
-    assert_eq!(rt; root.mode, 0o040777);
-    assert_eq!(rt; root.nlink, 2);
-    assert_eq!(rt; root.uid, 0);
-    assert_eq!(rt; root.gid, 0);
-    assert_eq!(rt; root.size, 32);
-    assert_eq!(rt; root.address(0), 4);
-    assert_eq!(rt; root.address(1), 0);
-    assert_eq!(rt; root.mtime, 0);
+    assert!(rt; is_root(&root));
 }
 
 #[test]
@@ -71,9 +87,9 @@ fn directory_begins_with_its_own_slot(rt: HostRuntime) {
     name[0] = b'.';
     name[1] = b'.';
     Slot { ino: 2, name }.write(&mut block, 1);
-    assert_eq!(rt; &block[16..20], [0x02, 0x00, 0x2e, 0x2e].as_slice());
-    assert_eq!(rt; Slot::read(&block, 1).name, name);
-    assert_eq!(rt; Slot::read(&block, 0).ino, 0);
+    assert!(rt; stand_at(&block, 16, &[0x02, 0x00, 0x2e, 0x2e]));
+    assert!(rt; Slot::read(&block, 1).name == name);
+    assert!(rt; Slot::read(&block, 0).ino == 0);
 }
 
 #[test]
@@ -83,11 +99,11 @@ fn chain_and_index_blocks_hold_longs(rt: HostRuntime) {
     chain.count = 50;
     chain.list[49] = 0x0001_2345;
     chain.write(&mut block);
-    assert_eq!(rt; &block[..2], [50, 0].as_slice());
-    assert_eq!(rt; &block[198..202], [0x01, 0x00, 0x45, 0x23].as_slice());
+    assert!(rt; stand_at(&block, 0, &[50, 0]));
+    assert!(rt; stand_at(&block, 198, &[0x01, 0x00, 0x45, 0x23]));
     put_index(&mut block, 127, 0x0001_2345);
-    assert_eq!(rt; &block[508..], [0x01, 0x00, 0x45, 0x23].as_slice());
-    assert_eq!(rt; index_at(&block, 127), 0x0001_2345);
+    assert!(rt; stand_at(&block, 508, &[0x01, 0x00, 0x45, 0x23]));
+    assert!(rt; index_at(&block, 127) == 0x0001_2345);
 }
 
 #[test]

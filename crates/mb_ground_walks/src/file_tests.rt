@@ -8,27 +8,48 @@ fn named<R: AllocGlobal>(rt: &R, path: &str) -> Result<Word8, Fail> {
     Ok(Word8::from_vec(path.as_bytes().to_vec(rt.alloc())?))
 }
 
-fn reads_and_grows<D: Disk>(rt: &impl Abort, disk: &mut D) {
+// A file of so many bytes, each of which is 7.
+fn put_file(rt: &HostRuntime, path: &str, size: usize) -> Result<(), Fail> {
+    let bytes = vec![in rt.alloc(); 7; size]?;
+    fs::write(rt, path, bytes.as_slice())?;
+    Ok(())
+}
+
+// Whether the disk says that it has so many blocks.
+fn has_blocks<D: Disk>(disk: &mut D, count: u32) -> bool {
+    disk.blocks() == Ok(count)
+}
+
+// Whether a block is read, each byte of which is the same one.
+fn holds<D: Disk>(disk: &mut D, block: u32, byte: u8) -> bool {
     let mut into = [9; 512];
-    assert_eq!(rt; disk.blocks(), Ok(1));
-    assert_eq!(rt; disk.read(0, &mut into), Ok(()));
-    assert_eq!(rt; into, [7; 512]);
-    assert_eq!(rt; disk.read(1, &mut into), Ok(()));
-    assert_eq!(rt; into, [0; 512], "a part of a block is no block");
-    assert_eq!(rt; disk.write(2, &[5; 512]), Ok(()));
-    assert_eq!(rt; disk.blocks(), Ok(3));
-    assert_eq!(rt; disk.read(1, &mut into), Ok(()));
-    assert_eq!(rt; into, [0; 512], "the part of a block is cut off");
-    assert_eq!(rt; disk.read(2, &mut into), Ok(()));
-    assert_eq!(rt; into, [5; 512]);
+    disk.read(block, &mut into).is_ok() && into == [byte; 512]
+}
+
+// Whether a block is written with one byte.
+fn fills<D: Disk>(disk: &mut D, block: u32, byte: u8) -> bool {
+    disk.write(block, &[byte; 512]).is_ok()
+}
+
+fn reads_and_grows<D: Disk>(rt: &impl Abort, disk: &mut D) {
+    assert!(rt; has_blocks(disk, 1) && holds(disk, 0, 7));
+    assert!(rt; holds(disk, 1, 0), "a part of a block is no block");
+    assert!(rt; fills(disk, 2, 5));
+    assert!(rt; has_blocks(disk, 3));
+    assert!(rt; holds(disk, 1, 0), "the part of a block is cut off");
+    assert!(rt; holds(disk, 2, 5));
+}
+
+fn is_a_disk<D: Disk + Drop>(rt: &impl Abort, mut disk: D) {
+    reads_and_grows(rt, &mut disk);
 }
 
 #[test]
 fn a_file_is_a_disk_of_its_whole_blocks(rt: HostRuntime) -> Result<(), Fail> {
     let path = "file_disk_test";
-    fs::write(&rt, path, vec![in rt.alloc(); 7; 600]?.as_slice())?;
-    let mut disk = FileDisk::new(&rt, named(&rt, path)?, false);
-    reads_and_grows(&rt, &mut disk);
+    put_file(&rt, path, 600)?;
+    let disk = FileDisk::new(&rt, named(&rt, path)?, false);
+    is_a_disk(&rt, disk);
     fs::remove_file(&rt, path)?;
     Ok(())
 }
@@ -40,18 +61,25 @@ fn a_file_that_is_not_there_is_a_fault(rt: HostRuntime) -> Result<(), Fail> {
     Ok(())
 }
 
+fn is_empty_and_grows<D: Disk>(rt: &impl Abort, disk: &mut D) {
+    assert!(rt;
+        has_blocks(disk, 0),
+        "the file is emptied at the first call"
+    );
+    assert!(rt; fills(disk, 0, 5));
+    assert!(rt; has_blocks(disk, 1));
+}
+
+fn is_emptied<D: Disk + Drop>(rt: &impl Abort, mut disk: D) {
+    is_empty_and_grows(rt, &mut disk);
+}
+
 #[test]
 fn a_file_is_made_or_emptied(rt: HostRuntime) -> Result<(), Fail> {
     let path = "made_disk_test";
-    fs::write(&rt, path, vec![in rt.alloc(); 7; 2048]?.as_slice())?;
-    let mut disk = FileDisk::new(&rt, named(&rt, path)?, true);
-    assert_eq!(rt;
-        disk.blocks(),
-        Ok(0),
-        "the file is emptied at the first call"
-    );
-    assert_eq!(rt; disk.write(0, &[5; 512]), Ok(()));
-    assert_eq!(rt; disk.blocks(), Ok(1));
+    put_file(&rt, path, 2048)?;
+    let disk = FileDisk::new(&rt, named(&rt, path)?, true);
+    is_emptied(&rt, disk);
     fs::remove_file(&rt, path)?;
     Ok(())
 }
@@ -60,10 +88,10 @@ fn a_file_is_made_or_emptied(rt: HostRuntime) -> Result<(), Fail> {
 fn a_reader_is_a_source_to_its_end(rt: HostRuntime) -> Result<(), Fail> {
     let mut source = InSource::new(b"abc".as_slice());
     let mut into = [0; 2];
-    assert_eq!(rt; source.read(&mut into), Ok(2));
-    assert_eq!(rt; into, *b"ab");
-    assert_eq!(rt; source.read(&mut into), Ok(1));
-    assert_eq!(rt; source.read(&mut into), Ok(0));
+    assert!(rt; source.read(&mut into) == Ok(2));
+    assert!(rt; into == *b"ab");
+    assert!(rt; source.read(&mut into) == Ok(1));
+    assert!(rt; source.read(&mut into) == Ok(0));
     Ok(())
 }
 

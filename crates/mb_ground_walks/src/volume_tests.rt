@@ -4,6 +4,7 @@ use mb_edge::{Bytes, Fails, MemDisk};
 use mb_layout::{Chain, Dinode, Slot, Super};
 use mb_mkfs::{MakeFault, make};
 use std::alloc::{AllocError, Global};
+use std::process::Abort;
 use std::test::Fail;
 
 // A disk of so many blocks in which each byte is 7, with room for 400, whose stated write fails.
@@ -116,66 +117,86 @@ impl Freeing {
     }
 }
 
+// Whether these bytes stand from a place on.
+fn stand_at(bytes: &[u8], at: usize, wanted: &[u8]) -> bool {
+    match bytes.get(at..) {
+        Some(rest) => rest.starts_with(wanted),
+        None => false,
+    }
+}
+
+fn are_those_of_the_format(rt: &impl Abort, bytes: &[u8]) {
+    assert!(rt; bytes.len() == 51200);
+    assert!(rt; stand_at(bytes, 512, &[4, 0]), "s_isize");
+    assert!(rt; stand_at(bytes, 514, &[0, 0, 100, 0]), "s_fsize");
+    assert!(rt; stand_at(bytes, 518, &[46, 0]), "s_nfree");
+    assert!(rt; stand_at(bytes, 520, &[0, 0, 50, 0, 0, 0, 49, 0]), "s_free");
+    let root = [0xff, 0x41, 2, 0, 0, 0, 0, 0, 0, 0, 0x20, 0, 0, 4, 0];
+    assert!(rt; stand_at(bytes, 1088, &root), "the root's inode");
+    let list = [50, 0, 0, 0, 0, 0, 0, 0, 99, 0];
+    assert!(rt; stand_at(bytes, 25600, &list), "the list in block 50");
+}
+
 #[test]
 fn the_first_bytes_of_the_volume_of_100_blocks_are_those_of_the_format(
     rt: HostRuntime,
 ) -> Result<(), Fail> {
     let mut disk = disk(rt.alloc(), 0, 0)?;
     assert_eq!(rt; make(&mut disk, 100, 16), Ok(()));
-    let bytes = disk.bytes();
-    assert_eq!(rt; bytes.len(), 51200);
-    assert_eq!(rt; bytes.get(512..514), Some([4, 0].as_slice()), "s_isize");
-    assert_eq!(rt;
-        bytes.get(514..518),
-        Some([0, 0, 100, 0].as_slice()),
-        "s_fsize"
-    );
-    assert_eq!(rt; bytes.get(518..520), Some([46, 0].as_slice()), "s_nfree");
-    assert_eq!(rt;
-        bytes.get(520..528),
-        Some([0, 0, 50, 0, 0, 0, 49, 0].as_slice()),
-        "s_free"
-    );
-    assert_eq!(rt;
-        bytes.get(1088..1103),
-        Some([0xff, 0x41, 2, 0, 0, 0, 0, 0, 0, 0, 0x20, 0, 0, 4, 0].as_slice()),
-        "the root's inode"
-    );
-    assert_eq!(rt;
-        bytes.get(25600..25610),
-        Some([50, 0, 0, 0, 0, 0, 0, 0, 99, 0].as_slice()),
-        "the list in block 50"
-    );
+    are_those_of_the_format(&rt, disk.bytes());
     Ok(())
 }
 
-#[test]
-fn each_byte_is_as_the_freeing_steps_leave_it(rt: HostRuntime) -> Result<(), Fail> {
-    for (inodes, s_isize) in [(8u32, 3u16), (16, 4), (200, 27)] {
-        for blocks in [
-            28, 29, 53, 54, 55, 56, 77, 78, 79, 103, 104, 105, 154, 333, 400u32,
-        ] {
-            let mut disk = disk(rt.alloc(), 0, 0)?;
-            assert_eq!(rt;
-                make(&mut disk, blocks, inodes),
-                Ok(()),
-                "{blocks} {inodes}"
-            );
-            let wanted = Freeing::volume(rt.alloc(), s_isize, blocks)?;
-            assert_eq!(rt;
-                disk.bytes() == wanted.as_slice(),
-                true,
-                "{blocks} {inodes}"
-            );
-        }
+// Whether the bytes are those that the freeing steps leave.
+fn is_freed(alloc: Global, s_isize: u16, blocks: u32, bytes: &[u8]) -> Result<bool, AllocError> {
+    let wanted = Freeing::volume(alloc, s_isize, blocks)?;
+    Ok(bytes == wanted.as_slice())
+}
+
+fn is_made_so(
+    rt: &impl Abort,
+    alloc: Global,
+    disk: &mut MemDisk,
+    (inodes, s_isize): (u32, u16),
+    blocks: u32,
+) -> Result<(), Fail> {
+    assert_eq!(rt; make(disk, blocks, inodes), Ok(()), "{blocks} {inodes}");
+    let is_same = is_freed(alloc, s_isize, blocks, disk.bytes())?;
+    assert!(rt; is_same, "{blocks} {inodes}");
+    Ok(())
+}
+
+fn is_made_on_an_empty_disk<R: Abort + AllocGlobal>(
+    rt: &R,
+    sizes: (u32, u16),
+    blocks: u32,
+) -> Result<(), Fail> {
+    let mut disk = disk(rt.alloc(), 0, 0)?;
+    is_made_so(rt, rt.alloc(), &mut disk, sizes, blocks)
+}
+
+fn each_is_made<R: Abort + AllocGlobal>(
+    rt: &R,
+    sizes: (u32, u16),
+    all: &[u32],
+) -> Result<(), Fail> {
+    for blocks in all {
+        is_made_on_an_empty_disk(rt, sizes, *blocks)?;
     }
     Ok(())
 }
 
 #[test]
-fn other_sizes_are_refused_and_nothing_is_written(rt: HostRuntime) -> Result<(), Fail> {
-    let mut disk = disk(rt.alloc(), 3, 0)?;
-    let before = disk.bytes().to_vec(rt.alloc())?;
+fn each_byte_is_as_the_freeing_steps_leave_it(rt: HostRuntime) -> Result<(), Fail> {
+    let all = [
+        28, 29, 53, 54, 55, 56, 77, 78, 79, 103, 104, 105, 154, 333, 400u32,
+    ];
+    each_is_made(&rt, (8, 3), &all)?;
+    each_is_made(&rt, (16, 4), &all)?;
+    each_is_made(&rt, (200, 27), &all)
+}
+
+fn are_refused(rt: &impl Abort, disk: &mut MemDisk) {
     for (blocks, inodes) in [
         (4u32, 16u32),
         (3, 8),
@@ -186,31 +207,60 @@ fn other_sizes_are_refused_and_nothing_is_written(rt: HostRuntime) -> Result<(),
         (8193, 65528),
     ] {
         assert_eq!(rt;
-            make(&mut disk, blocks, inodes),
+            make(disk, blocks, inodes),
             Err(MakeFault::Sizes),
             "{blocks} {inodes}"
         );
     }
-    assert_eq!(rt; disk.bytes() == before.as_slice(), true);
-    assert_eq!(rt; make(&mut disk, 4, 8), Ok(()), "the smallest");
+}
+
+fn nothing_is_written(rt: &impl Abort, alloc: Global, disk: &mut MemDisk) -> Result<(), Fail> {
+    let before = disk.bytes().to_vec(alloc)?;
+    are_refused(rt, disk);
+    assert!(rt; disk.bytes() == before.as_slice());
+    Ok(())
+}
+
+fn smallest_alone_is_made(rt: &impl Abort, alloc: Global, disk: &mut MemDisk) -> Result<(), Fail> {
+    nothing_is_written(rt, alloc, disk)?;
+    assert!(rt; make(disk, 4, 8) == Ok(()), "the smallest");
+    Ok(())
+}
+
+#[test]
+fn other_sizes_are_refused_and_nothing_is_written(rt: HostRuntime) -> Result<(), Fail> {
+    let mut disk = disk(rt.alloc(), 3, 0)?;
+    smallest_alone_is_made(&rt, rt.alloc(), &mut disk)
+}
+
+// Whether the bytes from block 6 on are there, each of them 7.
+fn later_blocks_are_kept(bytes: &[u8]) -> bool {
+    match bytes.get(6 * 512..) {
+        Some(later) => later == [7; 1024].as_slice(),
+        None => false,
+    }
+}
+
+fn keeps_later_blocks(rt: &impl Abort, disk: &mut MemDisk, failing: u64) {
+    let wanted = if failing <= 6 {
+        Err(MakeFault::Device)
+    } else {
+        Ok(())
+    };
+    assert_eq!(rt; make(disk, 6, 16), wanted, "write {failing}");
+    assert!(rt; later_blocks_are_kept(disk.bytes()), "write {failing}");
+}
+
+fn is_made_or_fails<R: Abort + AllocGlobal>(rt: &R, failing: u64) -> Result<(), Fail> {
+    let mut disk = disk(rt.alloc(), 8, failing)?;
+    keeps_later_blocks(rt, &mut disk, failing);
     Ok(())
 }
 
 #[test]
 fn a_disk_that_fails_any_write_keeps_its_later_blocks(rt: HostRuntime) -> Result<(), Fail> {
     for failing in 1..9u64 {
-        let mut disk = disk(rt.alloc(), 8, failing)?;
-        let wanted = if failing <= 6 {
-            Err(MakeFault::Device)
-        } else {
-            Ok(())
-        };
-        assert_eq!(rt; make(&mut disk, 6, 16), wanted, "write {failing}");
-        assert_eq!(rt;
-            disk.bytes().get(6 * 512..),
-            Some([7; 1024].as_slice()),
-            "write {failing}"
-        );
+        is_made_or_fails(&rt, failing)?;
     }
     Ok(())
 }
