@@ -1,22 +1,29 @@
-use crate::volumes::{empty, named, scanned};
+use crate::volumes::{Figures, empty, named, scanned};
 use mb_check::OpenFault;
-use mb_edge::Fails;
+use mb_edge::{Fails, MemDisk};
 use mb_mkfs::make;
+use std::alloc::Global;
 use std::test::Fail;
 
-// What the scan says of the fresh volume over a disk that fails one count of its blocks, or one read.
-fn over(
-    rt: &HostRuntime,
-    count: u64,
-    read: u64,
-) -> Result<Result<crate::volumes::Figures, OpenFault>, Fail> {
-    let counts = Fails::from_vec([count].to_vec(rt.alloc())?);
-    let reads = Fails::from_vec([read].to_vec(rt.alloc())?);
-    let mut disk = empty(rt.alloc(), counts, reads)?;
-    if make(&mut disk, 100, 16).is_err() {
+// The one call that fails.
+fn once(alloc: Global, call: u64) -> Result<Fails, Fail> {
+    Ok(Fails::from_vec([call].to_vec(alloc)?))
+}
+
+// What the scan says of the fresh volume on a disk.
+fn scanned_fresh(alloc: Global, disk: &mut MemDisk) -> Result<Result<Figures, OpenFault>, Fail> {
+    if make(disk, 100, 16).is_err() {
         return Err("no volume was made".into());
     }
-    Ok(scanned(rt.alloc(), &mut disk))
+    Ok(scanned(alloc, disk))
+}
+
+// What the scan says of the fresh volume over a disk that fails one count of its blocks, or one read.
+fn over(rt: &HostRuntime, count: u64, read: u64) -> Result<Result<Figures, OpenFault>, Fail> {
+    let counts = once(rt.alloc(), count)?;
+    let reads = once(rt.alloc(), read)?;
+    let mut disk = empty(rt.alloc(), counts, reads)?;
+    scanned_fresh(rt.alloc(), &mut disk)
 }
 
 #[test]

@@ -1,4 +1,4 @@
-use crate::volumes::{Figures, Patch, broken, keeps, named};
+use crate::volumes::{Figures, Patch, all_broken, all_kept, broken, keeps, named};
 use std::test::Fail;
 
 /// A regular file in inode 3, without a name.
@@ -16,29 +16,41 @@ fn nameless(held: u32, free: u32) -> Figures {
 
 #[test]
 fn modes_have_a_kind(rt: HostRuntime) -> Result<(), Fail> {
-    broken(&rt, &[(2, 129, 0x10)], 2, 5)?;
-    broken(&rt, &[(2, 1, 0x10)], 2, 5)?;
-    broken(&rt, &[(3, 1, 0x10)], 3, 5)?;
-    keeps(&rt, &[FILE], nameless(1, 95))?;
-    keeps(&rt, &[(2, 129, 0x20)], nameless(1, 95))?;
-    keeps(&rt, &[(2, 129, 0x60)], nameless(1, 95))?;
-    keeps(&rt, &[(2, 1, 0x80)], named(2, 1, 95))
+    let broken = [
+        ([(2, 129, 0x10)].as_slice(), 2, 5),
+        (&[(2, 1, 0x10)], 2, 5),
+        (&[(3, 1, 0x10)], 3, 5),
+    ];
+    all_broken(&rt, &broken)?;
+    let kept = [
+        ([FILE].as_slice(), nameless(1, 95)),
+        (&[(2, 129, 0x20)], nameless(1, 95)),
+        (&[(2, 129, 0x60)], nameless(1, 95)),
+        (&[(2, 1, 0x80)], named(2, 1, 95)),
+    ];
+    all_kept(&rt, &kept)
 }
 
 #[test]
 fn addresses_of_files_are_open(rt: HostRuntime) -> Result<(), Fail> {
-    broken(&rt, &[(2, 77, 3)], 2, 6)?;
-    broken(&rt, &[(2, 77, 100)], 2, 6)?;
-    broken(&rt, &[(2, 77, 5)], 5, 7)?;
-    broken(&rt, &[FILE, (2, 141, 4)], 4, 7)?;
+    let broken = [
+        ([(2, 77, 3)].as_slice(), 2, 6),
+        (&[(2, 77, 100)], 2, 6),
+        (&[(2, 77, 5)], 5, 7),
+        (&[FILE, (2, 141, 4)], 4, 7),
+    ];
+    all_broken(&rt, &broken)?;
     keeps(&rt, &[FILE, (1, 6, 45), (2, 141, 5)], nameless(2, 94))
 }
 
 #[test]
 fn index_blocks_hold_an_address(rt: HostRuntime) -> Result<(), Fail> {
-    broken(&rt, &[FILE, (1, 6, 45), (2, 171, 5)], 5, 6)?;
-    broken(&rt, &[FILE, (1, 6, 45), (2, 171, 5), (5, 2, 6)], 6, 7)?;
-    broken(&rt, &[FILE, (1, 6, 45), (2, 171, 5), (5, 2, 3)], 5, 6)?;
+    let broken = [
+        ([FILE, (1, 6, 45), (2, 171, 5)].as_slice(), 5, 6),
+        (&[FILE, (1, 6, 45), (2, 171, 5), (5, 2, 6)], 6, 7),
+        (&[FILE, (1, 6, 45), (2, 171, 5), (5, 2, 3)], 5, 6),
+    ];
+    all_broken(&rt, &broken)?;
     keeps(
         &rt,
         &[FILE, (1, 6, 44), (2, 171, 5), (5, 510, 6)],
@@ -48,30 +60,29 @@ fn index_blocks_hold_an_address(rt: HostRuntime) -> Result<(), Fail> {
 
 #[test]
 fn double_and_triple_index_blocks_are_gone_through(rt: HostRuntime) -> Result<(), Fail> {
-    broken(&rt, &[FILE, (1, 6, 44), (2, 174, 5), (5, 2, 6)], 6, 6)?;
-    keeps(
-        &rt,
-        &[FILE, (1, 6, 43), (2, 174, 5), (5, 2, 6), (6, 2, 7)],
-        nameless(4, 92),
-    )?;
-    broken(
-        &rt,
-        &[FILE, (1, 6, 43), (2, 177, 5), (5, 2, 6), (6, 2, 7)],
-        7,
-        6,
-    )?;
-    keeps(
-        &rt,
-        &[
-            FILE,
-            (1, 6, 42),
-            (2, 177, 5),
-            (5, 2, 6),
-            (6, 2, 7),
-            (7, 2, 8),
-        ],
-        nameless(5, 91),
-    )
+    let broken = [
+        ([FILE, (1, 6, 44), (2, 174, 5), (5, 2, 6)].as_slice(), 6, 6),
+        (&[FILE, (1, 6, 43), (2, 177, 5), (5, 2, 6), (6, 2, 7)], 7, 6),
+    ];
+    all_broken(&rt, &broken)?;
+    let kept = [
+        (
+            [FILE, (1, 6, 43), (2, 174, 5), (5, 2, 6), (6, 2, 7)].as_slice(),
+            nameless(4, 92),
+        ),
+        (
+            &[
+                FILE,
+                (1, 6, 42),
+                (2, 177, 5),
+                (5, 2, 6),
+                (6, 2, 7),
+                (7, 2, 8),
+            ],
+            nameless(5, 91),
+        ),
+    ];
+    all_kept(&rt, &kept)
 }
 
 #[test]
@@ -84,23 +95,23 @@ fn sizes_of_files_are_in_their_range(rt: HostRuntime) -> Result<(), Fail> {
 
 #[test]
 fn parts_of_directories_are_those_below_the_size(rt: HostRuntime) -> Result<(), Fail> {
-    broken(&rt, &[(2, 74, 16)], 2, 8)?;
-    broken(&rt, &[(2, 74, 40)], 2, 8)?;
-    keeps(&rt, &[(2, 74, 48)], named(1, 1, 95))?;
-    keeps(&rt, &[(2, 74, 0), (2, 75, 2)], named(1, 1, 95))?;
-    broken(&rt, &[(2, 74, 16), (2, 75, 2)], 2, 8)?;
-    keeps(
-        &rt,
-        &[(1, 6, 45), (2, 74, 16), (2, 75, 2), (2, 80, 5)],
-        named(1, 2, 94),
-    )?;
-    broken(&rt, &[(1, 6, 45), (2, 80, 5)], 2, 8)?;
-    broken(
-        &rt,
-        &[(1, 6, 45), (2, 74, 16), (2, 75, 2), (2, 83, 5)],
-        2,
-        8,
-    )
+    let broken = [
+        ([(2, 74, 16)].as_slice(), 2, 8),
+        (&[(2, 74, 40)], 2, 8),
+        (&[(2, 74, 16), (2, 75, 2)], 2, 8),
+        (&[(1, 6, 45), (2, 80, 5)], 2, 8),
+        (&[(1, 6, 45), (2, 74, 16), (2, 75, 2), (2, 83, 5)], 2, 8),
+    ];
+    all_broken(&rt, &broken)?;
+    let kept = [
+        ([(2, 74, 48)].as_slice(), named(1, 1, 95)),
+        (&[(2, 74, 0), (2, 75, 2)], named(1, 1, 95)),
+        (
+            &[(1, 6, 45), (2, 74, 16), (2, 75, 2), (2, 80, 5)],
+            named(1, 2, 94),
+        ),
+    ];
+    all_kept(&rt, &kept)
 }
 
 #[test]

@@ -1,4 +1,4 @@
-use crate::volumes::{Patch, broken, changed, keeps, named};
+use crate::volumes::{Figures, Patch, all_broken, broken, changed, keeps, named};
 use std::test::Fail;
 
 /// Inode 3 is a directory in block 5 with its two slots, its parent the root.
@@ -26,43 +26,53 @@ fn with(rt: &HostRuntime, name: &[Patch], more: &[Patch]) -> Result<Vec<Patch>, 
     Ok(patches)
 }
 
+// The first rule that it breaks is that one, at block 2.
+fn broken_with(rt: &HostRuntime, name: &[Patch], more: &[Patch], rule: u8) -> Result<(), Fail> {
+    let patches = with(rt, name, more)?;
+    broken(rt, &patches, 2, rule)
+}
+
+// It breaks no rule, and the figures are these.
+fn keeps_with(
+    rt: &HostRuntime,
+    name: &[Patch],
+    more: &[Patch],
+    wanted: Figures,
+) -> Result<(), Fail> {
+    let patches = with(rt, name, more)?;
+    keeps(rt, &patches, wanted)
+}
+
 #[test]
 fn a_directory_has_its_parent(rt: HostRuntime) -> Result<(), Fail> {
-    keeps(&rt, &with(&rt, &NAMED, &[])?, named(2, 2, 94))?;
-    broken(&rt, &with(&rt, &[], &[])?, 2, 13)?;
-    broken(&rt, &with(&rt, &NAMED, &[(5, 16, 3)])?, 2, 13)?;
-    broken(
-        &rt,
-        &with(&rt, &NAMED, &[(2, 74, 64), (4, 48, 3), (4, 50, 98)])?,
-        2,
-        13,
-    )
+    keeps_with(&rt, &NAMED, &[], named(2, 2, 94))?;
+    broken_with(&rt, &[], &[], 13)?;
+    broken_with(&rt, &NAMED, &[(5, 16, 3)], 13)?;
+    broken_with(&rt, &NAMED, &[(2, 74, 64), (4, 48, 3), (4, 50, 98)], 13)
 }
 
 #[test]
 fn a_directory_is_reached_from_the_root(rt: HostRuntime) -> Result<(), Fail> {
     let own = [(2, 138, 48), (5, 16, 3), (5, 32, 3), (5, 34, 97)];
-    broken(&rt, &with(&rt, &[], &own)?, 2, 13)
+    broken_with(&rt, &[], &own, 13)
 }
 
 #[test]
 fn nothing_leads_to_the_root(rt: HostRuntime) -> Result<(), Fail> {
-    broken(
-        &rt,
-        &with(&rt, &NAMED, &[(2, 138, 48), (5, 32, 2), (5, 34, 97)])?,
-        2,
-        13,
-    )
+    broken_with(&rt, &NAMED, &[(2, 138, 48), (5, 32, 2), (5, 34, 97)], 13)
 }
 
 #[test]
 fn link_counts_are_the_slots(rt: HostRuntime) -> Result<(), Fail> {
-    broken(&rt, &[(2, 66, 3)], 2, 14)?;
-    broken(&rt, &[(2, 66, 1)], 2, 14)?;
-    broken(&rt, &[(2, 129, 0x80), (2, 130, 1)], 2, 14)?;
+    let counts = [
+        ([(2, 66, 3)].as_slice(), 2, 14),
+        (&[(2, 66, 1)], 2, 14),
+        (&[(2, 129, 0x80), (2, 130, 1)], 2, 14),
+    ];
+    all_broken(&rt, &counts)?;
     keeps(&rt, &[(2, 1, 0x80), (2, 2, 5)], named(2, 1, 95))?;
-    broken(&rt, &with(&rt, &NAMED, &[(2, 130, 1)])?, 2, 14)?;
-    broken(&rt, &with(&rt, &NAMED, &[(2, 66, 2)])?, 2, 14)
+    broken_with(&rt, &NAMED, &[(2, 130, 1)], 14)?;
+    broken_with(&rt, &NAMED, &[(2, 66, 2)], 14)
 }
 
 #[test]

@@ -64,15 +64,21 @@ fn patch(disk: &mut MemDisk, block: u32, place: usize, byte: u8) -> Result<(), F
     Ok(())
 }
 
-/// The fresh volume of 100 blocks and 16 inodes with these bytes changed.
-pub fn patched(alloc: Global, patches: &[Patch]) -> Result<MemDisk, Fail> {
-    let mut disk = empty(alloc, Fails::new(alloc), Fails::new(alloc))?;
-    if make(&mut disk, 100, 16).is_err() {
+// A fresh volume is made on a disk, and then these bytes are changed.
+fn make_and_patch(disk: &mut MemDisk, patches: &[Patch]) -> Result<(), Fail> {
+    if make(disk, 100, 16).is_err() {
         return Err("no volume was made".into());
     }
     for (block, place, byte) in patches {
-        patch(&mut disk, *block, *place, *byte)?;
+        patch(disk, *block, *place, *byte)?;
     }
+    Ok(())
+}
+
+/// The fresh volume of 100 blocks and 16 inodes with these bytes changed.
+pub fn patched(alloc: Global, patches: &[Patch]) -> Result<MemDisk, Fail> {
+    let mut disk = empty(alloc, Fails::new(alloc), Fails::new(alloc))?;
+    make_and_patch(&mut disk, patches)?;
     Ok(disk)
 }
 
@@ -97,6 +103,28 @@ pub fn broken(rt: &HostRuntime, patches: &[Patch], block: u32, rule: u8) -> Resu
             "{patches:?}: no broken rule, {figures:?}"
         )?.into()),
     }
+}
+
+/// Bytes that are changed, with the first rule that is broken then, behind its block.
+pub type Breach<'a> = (&'a [Patch], u32, u8);
+
+/// Each row's rule is the first that is broken.
+pub fn all_broken(rt: &HostRuntime, table: &[Breach<'_>]) -> Result<(), Fail> {
+    for (patches, block, rule) in table {
+        broken(rt, patches, *block, *rule)?;
+    }
+    Ok(())
+}
+
+/// Bytes that are changed, with the figures then.
+pub type Kept<'a> = (&'a [Patch], Figures);
+
+/// No rule is broken in any row, and the figures are the row's.
+pub fn all_kept(rt: &HostRuntime, table: &[Kept<'_>]) -> Result<(), Fail> {
+    for (patches, wanted) in table {
+        keeps(rt, patches, *wanted)?;
+    }
+    Ok(())
 }
 
 /// No rule is broken, and the figures are these.
