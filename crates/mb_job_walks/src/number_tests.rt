@@ -5,6 +5,7 @@ use mb_gen::generate;
 use mb_jobs::{Job, JobCall, JobFault, job_of};
 use mb_plan::Rule;
 use std::alloc::Global;
+use std::process::Abort;
 
 // The job of the number 1, of 20 calls and 6 faults. It was written from the table of `generate` by a
 // Python program with a PCG32 of its own, after that generator's description (XSH RR 64/32, multiplier
@@ -54,38 +55,59 @@ fn is_same_rule(one: &Rule, other: &Rule) -> bool {
         && wiped_with(one) == wiped_with(other)
 }
 
+fn are_same_calls(rt: &impl Abort, calls: &[JobCall], wanted: &[JobCall]) {
+    assert!(rt; calls.len() == 22);
+    assert!(rt; wanted.len() == 22);
+    for (call, wanted) in calls.iter().zip(wanted.iter()) {
+        assert!(rt; is_same_call(call, wanted));
+    }
+}
+
+fn are_same_rules(rt: &impl Abort, rules: &[Rule], wanted: &[Rule]) {
+    assert!(rt; rules.len() == 6);
+    assert!(rt; wanted.len() == 6);
+    for (rule, wanted) in rules.iter().zip(wanted.iter()) {
+        assert!(rt; is_same_rule(rule, wanted));
+    }
+}
+
+fn has_same_numbers(job: &Job, by_hand: &Job) -> bool {
+    job.start == by_hand.start && job.threshold == by_hand.threshold && job.limit == by_hand.limit
+}
+
+fn is_same_job(rt: &impl Abort, job: &Job, by_hand: &Job) {
+    assert!(rt; job.callers.as_slice() == by_hand.callers.as_slice());
+    are_same_calls(rt, job.calls.as_slice(), by_hand.calls.as_slice());
+    are_same_rules(rt, job.plan.as_slice(), by_hand.plan.as_slice());
+    assert!(rt; job.order.is_none());
+    assert!(rt; has_same_numbers(job, by_hand));
+}
+
 #[test]
 fn makes_the_job_of_a_number(rt: HostRuntime) -> Result<(), JobFault> {
     let job = generated(rt.alloc(), 1, 20, 6)?;
     let by_hand = job_of(rt.alloc(), BY_HAND)?;
-    assert_eq!(rt; job.callers.as_slice(), by_hand.callers.as_slice());
-    let (calls, wanted) = (job.calls.as_slice(), by_hand.calls.as_slice());
-    assert_eq!(rt; calls.len(), 22);
-    assert_eq!(rt; wanted.len(), 22);
-    for (call, wanted) in calls.iter().zip(wanted.iter()) {
-        assert!(rt; is_same_call(call, wanted));
-    }
-    let (rules, wanted) = (job.plan.as_slice(), by_hand.plan.as_slice());
-    assert_eq!(rt; rules.len(), 6);
-    assert_eq!(rt; wanted.len(), 6);
-    for (rule, wanted) in rules.iter().zip(wanted.iter()) {
-        assert!(rt; is_same_rule(rule, wanted));
-    }
-    assert!(rt; job.order.is_none());
-    assert_eq!(rt;
-        (job.start, job.threshold, job.limit),
-        (by_hand.start, by_hand.threshold, by_hand.limit)
-    );
+    is_same_job(&rt, &job, &by_hand);
     Ok(())
+}
+
+/// How many calls and how many rules the job of a number has.
+fn sizes_of(alloc: Global, number: u32, calls: u32, faults: u32) -> Result<(usize, usize), JobFault>
+    requires some { 1 ≤ calls }
+    requires many { calls ≤ 32768 }
+    requires few { faults ≤ 255 }
+{
+    let job = generated(alloc, number, calls, faults)?;
+    Ok((job.calls.len(), job.plan.len()))
 }
 
 #[test]
 fn makes_jobs_of_every_size(rt: HostRuntime) -> Result<(), JobFault> {
     let table = [(0, 1, 0, 2), (4_294_967_295, 32_768, 255, 32_770)];
     for (number, calls, faults, all) in table {
-        let job = generated(rt.alloc(), number, calls, faults)?;
-        assert_eq!(rt; job.calls.len(), all);
-        assert_eq!(rt; job.plan.len(), faults as usize);
+        let sizes = sizes_of(rt.alloc(), number, calls, faults)?;
+        let (made, rules) = sizes;
+        assert!(rt; made == all && rules == faults as usize);
     }
     Ok(())
 }
