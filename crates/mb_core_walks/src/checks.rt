@@ -1,5 +1,5 @@
 //! Checks of what a walk left.
-use crate::walks::Walked;
+use crate::walks::{Walked, job};
 use mb_core_spec::Step;
 use mb_jobs::Job;
 use mb_run::{DriveEnd, SettleEnd};
@@ -17,30 +17,52 @@ fn calls_of(job: &Job, caller: u8) -> u32 {
     count
 }
 
-/// Each call of the job was answered once, and has its one entry, in its caller's order.
-pub fn all_answered_once<R: Abort>(rt: &R, job: &Job, left: &Walked) -> Result<(), Fail> {
-    assert!(rt; left.end != DriveEnd::NoMemory);
-    assert_eq!(rt; left.told.entries.len(), job.calls.len());
+/// Whether so many calls of a caller were answered.
+fn are_answered(left: &Walked, caller: u8, calls: u32) -> bool {
     let answered = left.notes.answered();
-    for caller in 0u8..8 {
-        let calls = calls_of(job, caller);
-        assert_eq!(rt; answered.get(usize::from(caller)).copied(), Some(calls));
-        let mut last = 0u32;
-        for (by, ordinal) in left.told.entries.as_slice() {
-            if *by == caller {
-                last = last.saturating_add(1);
-                assert_eq!(rt; *ordinal, last);
+    answered.get(usize::from(caller)).copied() == Some(calls)
+}
+
+/// Whether a caller has so many entries, in its order.
+fn are_in_order(entries: &[(u8, u32)], caller: u8, calls: u32) -> bool {
+    let mut last = 0u32;
+    for (by, ordinal) in entries {
+        if *by == caller {
+            last = last.saturating_add(1);
+            if *ordinal != last {
+                return false;
             }
         }
-        assert_eq!(rt; last, calls);
     }
+    last == calls
+}
+
+fn each_answered_once<R: Abort>(rt: &R, job: &Job, left: &Walked) {
+    assert!(rt; left.end != DriveEnd::NoMemory);
+    assert!(rt; left.told.entries.len() == job.calls.len());
+    for caller in 0u8..8 {
+        let calls = calls_of(job, caller);
+        assert!(rt; are_answered(left, caller, calls));
+        assert!(rt; are_in_order(left.told.entries.as_slice(), caller, calls));
+    }
+}
+
+/// Each call of a job's text was answered once, and has its one entry, in its caller's order.
+pub fn all_answered_once<R: Abort + AllocGlobal>(
+    rt: &R,
+    text: &str,
+    left: &Walked,
+) -> Result<(), Fail> {
+    let job = job(rt.alloc(), text)?;
+    each_answered_once(rt, &job, left);
     Ok(())
 }
 
 /// The history is the reference model's, but for the calls that a fault or the disk ended, and the image is a volume.
 pub fn is_legal<R: Abort>(rt: &R, left: &Walked) -> Result<(), Fail> {
-    assert_eq!(rt; left.told.apart, None);
-    assert_eq!(rt; left.settled[1], SettleEnd::Clean);
+    let apart = &left.told.apart;
+    assert!(rt; apart.is_none(), "{apart:?}");
+    assert!(rt; left.settled[1] == SettleEnd::Clean);
     assert!(rt; left.sound);
     Ok(())
 }

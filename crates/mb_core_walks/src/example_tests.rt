@@ -3,7 +3,7 @@ use crate::examples::{
     Example, FAILING_REMOUNT, FLOOR_TAKEN, FOLDED_RUN, LIMIT_PASSED, RACED_CREAT, RESUMED_BY_OTHER,
     STRUCK_TWICE, TWO_CALLERS_WIPED,
 };
-use crate::walks::{Failing, NOTHING_FAILS, job, walk};
+use crate::walks::{Failing, NOTHING_FAILS, Walked, walk};
 use std::alloc::Global;
 use std::process::Abort;
 use std::test::Fail;
@@ -14,6 +14,43 @@ const END: &str = "- idle\nseal\nclean\n- idle\nseal\nclean\n";
 /// The same of a volume that was given up.
 const GIVEN_UP: &str = "- idle\nclean\n- idle\nclean\n";
 
+/// The events were answered as the example says, with that end.
+fn is_answered<R: Abort + AllocGlobal>(
+    rt: &R,
+    example: Example,
+    left: &Walked,
+    end: &str,
+) -> Result<(), Fail> {
+    let events = format!(in rt.alloc(); "{}{end}", example.events)?;
+    assert_eq!(rt; left.notes.lines(), Some(events.as_str()));
+    Ok(())
+}
+
+/// The faults and the steps are as many as the example says.
+fn counts_so<R: Abort>(rt: &R, example: Example, left: &Walked) {
+    assert!(rt; left.told.records.len() == example.faults);
+    assert!(rt; stale(&left.told.trail) == example.stale);
+    assert!(rt; unwound(&left.told.trail) == example.unwound);
+    assert!(rt; replayed(&left.told.trail) == example.replayed);
+}
+
+/// What a walk left is what the example says, with that end.
+fn went<R: Abort + AllocGlobal>(
+    rt: &R,
+    example: Example,
+    left: &Walked,
+    end: &str,
+) -> Result<(), Fail> {
+    is_answered(rt, example, left, end)?;
+    assert_eq!(rt;
+        str::from_utf8(left.told.transcript.as_slice())?,
+        example.lines
+    );
+    counts_so(rt, example, left);
+    all_answered_once(rt, example.job, left)?;
+    is_legal(rt, left)
+}
+
 /// The walk goes as the example says, with that end.
 fn goes<R: Abort + AllocGlobal>(
     rt: &R,
@@ -21,33 +58,27 @@ fn goes<R: Abort + AllocGlobal>(
     failing: Failing,
     end: &str,
 ) -> Result<(), Fail> {
-    let alloc = rt.alloc();
-    let Ok(left) = walk(alloc, example.job, failing)? else {
+    let Ok(left) = walk(rt.alloc(), example.job, failing)? else {
         return Err("the volume is not opened".into());
     };
-    let events = format!(in alloc; "{}{end}", example.events)?;
-    assert_eq!(rt; left.notes.lines(), Some(events.as_str()));
-    assert_eq!(rt;
-        str::from_utf8(left.told.transcript.as_slice())?,
-        example.lines
-    );
-    assert_eq!(rt; left.told.records.len(), example.faults);
-    assert_eq!(rt; stale(&left.told.trail), example.stale);
-    assert_eq!(rt; unwound(&left.told.trail), example.unwound);
-    assert_eq!(rt; replayed(&left.told.trail), example.replayed);
-    all_answered_once(rt, &job(alloc, example.job)?, &left)?;
-    is_legal(rt, &left)
+    went(rt, example, &left, end)
+}
+
+/// Whether a volume is opened on a disk that fails at one of its reads.
+fn is_opened(alloc: Global, read: u64) -> Result<bool, Fail> {
+    let reads = [read];
+    let failing = Failing {
+        reads: &reads,
+        ..NOTHING_FAILS
+    };
+    let left = walk(alloc, "calls = []", failing)?;
+    Ok(left.is_ok())
 }
 
 /// The number of the disk's first read after the opening.
 fn first_read(alloc: Global) -> Result<u64, Fail> {
     for read in 1..500 {
-        let reads = [read];
-        let failing = Failing {
-            reads: &reads,
-            ..NOTHING_FAILS
-        };
-        if walk(alloc, "calls = []", failing)?.is_ok() {
+        if is_opened(alloc, read)? {
             return Ok(read);
         }
     }
