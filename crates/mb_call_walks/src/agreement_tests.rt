@@ -6,6 +6,7 @@ use mb_gathering::{SMALL, Size};
 use mb_kinds::{Cred, Creds};
 use mb_tree::FsOp;
 use std::alloc::Global;
+use std::process::Abort;
 use std::test::Fail;
 
 /// A pair on a volume of a size, for two callers, the second of whom is nobody of uid 0.
@@ -67,19 +68,21 @@ fn shows_next(
 }
 
 /// The next 10,000 operations leave the model's tree, in at most 200,000 calls.
-fn operations_agree(
-    heap: Global,
-    draws: &mut Draws,
-    pair: &mut Pair,
-    tally: &mut Tally,
-) -> Result<(), Fail> {
+fn operations_agree(heap: Global, draws: &mut Draws, pair: &mut Pair) -> Result<Tally, Fail> {
+    let mut tally = Tally::new();
     for moment in 1..200_001 {
-        shows_next(heap, draws, pair, tally, moment)?;
+        shows_next(heap, draws, pair, &mut tally, moment)?;
         if tally.total() == 10_000 {
             break;
         }
     }
-    Ok(())
+    Ok(tally)
+}
+
+/// There are 10,000 operations, ten at least of each kind.
+fn are_enough(rt: &impl Abort, tally: Tally) {
+    assert_eq!(rt; tally.total(), 10_000);
+    assert!(rt; tally.least() >= 10);
 }
 
 /// After each operation on a tree that grew by the calls before, the image shows the tree that the model has then, and the
@@ -93,9 +96,6 @@ fn random_operations_leave_the_tree_that_the_model_has(rt: HostRuntime) -> Resul
         inodes: 64,
     };
     let mut pair = pair(heap, size)?;
-    let mut tally = Tally::new();
-    operations_agree(heap, &mut draws, &mut pair, &mut tally)?;
-    assert_eq!(rt; tally.total(), 10_000);
-    assert!(rt; tally.least() >= 10);
+    are_enough(&rt, operations_agree(heap, &mut draws, &mut pair)?);
     Ok(())
 }

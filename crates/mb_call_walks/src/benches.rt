@@ -7,10 +7,10 @@ use mb_calls::{Performed, Performing, Ready, perform, walks_go_on};
 use mb_edge::MemDisk;
 use mb_fsops::V7;
 use mb_gathering::{Gathered, SMALL, Size, disk_of, fresh, gather, nothing};
-use mb_iface::Opens;
+use mb_iface::{Changes, Opens};
 use mb_kinds::{Call, Cred, Creds, Reply};
 use mb_tables::Tables;
-use mb_tree::{FsOp, Seat};
+use mb_tree::{FsOp, Seat, SessionChange};
 use std::alloc::Global;
 use std::test::Fail;
 
@@ -128,19 +128,36 @@ impl Bench {
         ))
     }
 
-    /// Makes a call.
-    pub fn call(&mut self, caller: u8, call: &Call, moment: u32) -> Result<Answered, Fail> {
-        let ready = self.planned(caller, call, moment)?;
+    /// Does what a call comes to: to its caller's session, the counts of open files and the volume.
+    fn follow(
+        &mut self,
+        caller: u8,
+        op: &Option<FsOp>,
+        pick: Option<u16>,
+        session: SessionChange,
+        changes: Changes,
+    ) -> Result<(), Fail>
+        requires { HasDescriptorInRange session }
+    {
         if caller >= self.tables.sessions().callers() || self.tables.stamp() == u64::MAX {
             return Err("a session cannot change".into());
         }
-        self.tables
-            .log(caller, &ready.op, ready.pick, ready.session)?;
-        self.disk.blocks.absorb(ready.changes)?;
-        Ok(Answered {
-            reply: ready.reply,
-            pick: ready.pick,
-            op: ready.op,
-        })
+        self.tables.log(caller, op, pick, session)?;
+        self.disk.blocks.absorb(changes)?;
+        Ok(())
+    }
+
+    /// Makes a call.
+    pub fn call(&mut self, caller: u8, call: &Call, moment: u32) -> Result<Answered, Fail> {
+        let Ready {
+            reply,
+            op,
+            pick,
+            changes,
+            session,
+            shared: _,
+        } = self.planned(caller, call, moment)?;
+        self.follow(caller, &op, pick, session, changes)?;
+        Ok(Answered { reply, pick, op })
     }
 }

@@ -104,10 +104,16 @@ fn call_alike(
 }
 
 /// Makes a job's call; then the image is a volume of the model's tree.
-fn entry_of(heap: Global, pair: &mut Pair, one: &JobCall, moment: u32) -> Result<Entry, Fail> {
-    let call = one.call.copied(heap)?;
+fn call_shown(heap: Global, pair: &mut Pair, one: &JobCall, moment: u32) -> Result<Answered, Fail> {
     let answered = call_alike(heap, pair, one.caller, &one.call, moment)?;
     pair.shows_the_tree()?;
+    Ok(answered)
+}
+
+/// The entry of a job's call.
+fn entry_of(heap: Global, pair: &mut Pair, one: &JobCall, moment: u32) -> Result<Entry, Fail> {
+    let call = one.call.copied(heap)?;
+    let answered = call_shown(heap, pair, one, moment)?;
     Ok(Entry {
         caller: one.caller,
         ordinal: moment,
@@ -133,13 +139,18 @@ fn add_entries(
     Ok(())
 }
 
+/// Makes a job's calls in list order, the first one at moment 1.
+fn entries_of(heap: Global, pair: &mut Pair, job: &Job) -> Result<Vec<Entry>, Fail> {
+    let mut history = Vec::new(heap);
+    add_entries(heap, pair, &mut history, job)?;
+    Ok(history)
+}
+
 /// Makes a job's calls in list order, the first one at moment 1. Each is answered as the model answers it, and over all
 /// blocks at once as over those that it asks for; then the image is a volume of the model's tree.
 fn history_of(heap: Global, job: &Job) -> Result<Vec<Entry>, Fail> {
     let mut pair = pair_of(heap, job)?;
-    let mut history = Vec::new(heap);
-    add_entries(heap, &mut pair, &mut history, job)?;
-    Ok(history)
+    entries_of(heap, &mut pair, job)
 }
 
 /// The transcript of a job.
