@@ -1,3 +1,5 @@
+ghost use Rattle.std.specs.Prelude.{◌<◌};
+
 use mb_edge::{
     Bytes, Calm, Crossing, Crossings, Disk, Failed, Fails, Hook, MemDisk, MemSink, MemSource, Sink,
     Source, SureSource, Word, read_whole, write_whole,
@@ -74,7 +76,9 @@ fn holds(disk: &mut MemDisk, block: u32, byte: u8) -> bool {
 }
 
 /// Whether a block is written with one byte.
-fn fills(disk: &mut MemDisk, block: u32, byte: u8) -> bool {
+fn fills(disk: &mut MemDisk, block: u32, byte: u8) -> bool
+    requires { block < 262144 }
+{
     disk.write(block, &[byte; 512]).is_ok()
 }
 

@@ -1,3 +1,5 @@
+ghost use Rattle.std.specs.Prelude.{◌<◌};
+
 use mb_edge::{Disk, Failed, Sink, Source};
 use mb_host::{FileDisk, InSource, OutSink, Word8};
 use std::process::Abort;
@@ -27,7 +29,9 @@ fn holds<D: Disk>(disk: &mut D, block: u32, byte: u8) -> bool {
 }
 
 // Whether a block is written with one byte.
-fn fills<D: Disk>(disk: &mut D, block: u32, byte: u8) -> bool {
+fn fills<D: Disk>(disk: &mut D, block: u32, byte: u8) -> bool
+    requires { block < 262144 }
+{
     disk.write(block, &[byte; 512]).is_ok()
 }
 
