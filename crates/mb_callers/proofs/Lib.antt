@@ -1,3 +1,4 @@
+pub mod Chains
 pub mod CopyLoops
 pub mod Gatherings
 pub mod Numbers

@@ -1,6 +1,6 @@
 pub mod CallerLaws
+pub mod Chains
 pub mod Gathering
-pub mod Guesses
 pub mod Reads
 pub mod Stale
 pub mod Tables

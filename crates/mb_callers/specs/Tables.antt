@@ -1,6 +1,9 @@
 -- Copies of the sessions and of the table of open files.
-use Rattle.std.specs.Prelude.{ℕ, ◌≡◌, Bool, true, false, Option, None, Some, length}
+use Rattle.std.specs.Prelude.{List, ℕ, ◌≡◌, Bool, true, false, Option, None, Some, length}
+use Rattle.mb_edge.specs.Damage.{OpenCounts}
+use Rattle.mb_tree.specs.declared.seats.Seat.{Seat}
 use Rattle.mb_core_spec.specs.Copies.{LiveTables, TableCopy, TablesAreFresh}
+use Rattle.mb_callers.specs.declared.tables.Made.{Made}
 use Rattle.mb_callers.specs.declared.tables.TablesNow.{TablesNow}
 
 -- the tables, as they are kept
@@ -12,16 +15,22 @@ abbrev pub held_if : Bool → Option TableCopy → Option TableCopy
 held_if true held = held
 held_if false held = None
 
--- a copy can become one of the tables without memory
-pub record Fits (held : TableCopy) (now : TableCopy) : Type 0 where
-  pub opens : held.opens ≡ now.opens
-  pub callers : length held.sessions ≡ length now.sessions
+-- what was made for the sessions of a copy is they, or nothing where the held ones are of as many callers
+abbrev pub AreSessionsFor : Option TableCopy → TableCopy → Option (List Seat) → Type 0
+AreSessionsFor held now (Some fresh) = fresh ≡ now.sessions
+AreSessionsFor None now None = ⊥
+AreSessionsFor (Some kept) now None = length kept.sessions ≡ length now.sessions
 
--- a new copy of the tables, or none where the one that is held can become one
-abbrev pub CanHold : Option TableCopy → TableCopy → Option TableCopy → Type 0
-CanHold held now (Some fresh) = fresh ≡ now
-CanHold None now None = ⊥
-CanHold (Some kept) now None = Fits kept now
+-- what was made for the counts of a copy is they, or nothing where the held ones are the same
+abbrev pub AreOpensFor : Option TableCopy → TableCopy → Option OpenCounts → Type 0
+AreOpensFor held now (Some fresh) = fresh ≡ now.opens
+AreOpensFor None now None = ⊥
+AreOpensFor (Some kept) now None = kept.opens ≡ now.opens
+
+-- with what was made, the place for a copy can hold one of the tables
+pub record IsMadeFor (held : Option TableCopy) (now : TableCopy) (made : Made) : Type 0 where
+  pub sessions : AreSessionsFor held now made.sessions
+  pub opens : AreOpensFor held now made.opens
 
 -- tables that were handed out did not change since, for a call that may depend on other callers' sessions or not
 abbrev pub AreTablesFresh : Bool → ℕ → LiveTables → Option TableCopy → Option TableCopy → Type 0

@@ -1,5 +1,5 @@
-ghost use Rattle.std.specs.Prelude.{◌≡◌, ◌≤◌, ◌<◌, ◌+◌, ◌-◌, ◌%◌, ◌∷◌, ◌++◌, [], ℕ, List, length, OnOk, IsOk, IfSome, IfNone, Some, None, false, option_copied, nat_eq, slice_get};
-ghost use Rattle.std.specs.List.{IsDistinct, list_any};
+ghost use Rattle.std.specs.Prelude.{◌≡◌, ◌≤◌, ◌<◌, ◌+◌, ◌-◌, ◌∷◌, ◌++◌, [], ℕ, List, length, OnOk, IsOk, IfSome, IfNone, Some, None, option_copied, nat_eq};
+ghost use Rattle.std.specs.List.{IsDistinct};
 ghost use Rattle.std.specs.Map.{keys_of};
 ghost use Rattle.indexmap.specs.IndexMap.{insert_entry};
 ghost use Rattle.mb_core_spec.specs.Copies as copy;
@@ -8,86 +8,37 @@ ghost use Rattle.mb_callers.specs.Reads.{renewed, stored};
 ghost use Rattle.mb_callers.specs.Stale.{is_fresh, is_same, least_stale, lesser, stale_step};
 
 use crate::kept_blocks::KeptBlock;
+use crate::places::Places;
 use crate::reads::Reads;
-use indexmap::IndexSet;
 use mb_cache::Cache;
 use mb_edge::{Disk, NoMemory};
 use mb_iface::Changes;
 use std::alloc::Global;
 use std::marker::Model;
 
-/// Where the guess for a block stands.
-fn guess_of(block: u32) -> usize
-    ensures place { result ≡ block % 1024 }
-    ensures within { result < 1024 }
-{
-    (block % 1024) as usize
-}
-
-/// The guess for a place, from 1 on. Places from 65,534 on have one guess, which is of use for the first alone.
-fn guess_at(place: usize) -> u16
-    ensures { 0 < result }
-{
-    (place.min(65_534) + 1) as u16
-}
-
-/// Where a block stands, by a search. It stays out of its caller, whose way by a guess is short.
-#[inline(never)]
-fn searched(blocks: &IndexSet<u32>, block: u32) -> Option<usize>
-    ensures found { IfSome result (λ place. slice_get blocks.now.keys place ≡ Some block) }
-    ensures none { IfNone result (list_any (nat_eq block) blocks.now.keys ≡ false) }
-{
-    let (place, _) = blocks.get_full(&block)?;
-    Some(place)
-}
-
-/// Where a block stands: at the guessed place, else by a search. Where there is no guess it stands nowhere.
-fn place_of(blocks: &IndexSet<u32>, guess: u16, block: u32) -> Option<usize>
-    requires { guess ≡ 0 → list_any (nat_eq block) blocks.now.keys ≡ false }
-    ensures found { IfSome result (λ place. slice_get blocks.now.keys place ≡ Some block) }
-    ensures none { IfNone result (list_any (nat_eq block) blocks.now.keys ≡ false) }
-    ensures once { IsDistinct nat_eq blocks.now.keys }
-{
-    let all = blocks.as_slice();
-    if guess == 0 {
-        return None;
-    }
-    let guessed = usize::from(guess) - 1;
-    if guessed < all.len() && all[guessed] == block {
-        return Some(guessed);
-    }
-    searched(blocks, block)
-}
-
 /// Copies of blocks, each block once. A contract sees the list and the room.
 #[derive(Drop)]
 pub(crate) struct Copies {
-    numbers: IndexSet<u32>,
+    numbers: Places,
     /// The copies of the blocks, in their order, and behind them the room for further ones, so that a copy is made in its
     /// place.
     copies: Vec<KeptBlock>,
-    /// By a block's number modulo 1,024, one more than the place where such a block was last put, so that most
-    /// look-ups need no search; 0 where none has a copy. What is not 0 is a guess, which is looked at before it is
-    /// believed.
-    guesses: [u16; 1024],
 }
 
 impl Model for Copies {
-    ghost use Rattle.std.specs.Prelude.{ℕ, List, ◌-◌, length, min};
+    ghost use Rattle.std.specs.Prelude.{ℕ, List, ◌-◌, ◌≤◌, length, min};
     ghost use Rattle.std.specs.List.{zip};
-    ghost use Rattle.indexmap.specs.IndexSet.{spare};
     ghost use Rattle.mb_room.specs.Room.{Roomy};
     ghost use Rattle.mb_core_spec.specs.Copies as spec;
-    ghost use Rattle.mb_callers.specs.Guesses.{AreGuessed};
 
     ghost Value = { Roomy (ℕ × spec.KeptBlock) };
 
     ghost view = { λ c. record {
-      items = zip c.numbers.keys c.copies.items;
-      spare = min (spare c.numbers) (length c.copies.items - length c.numbers.keys);
+      items = zip c.numbers.items c.copies.items;
+      spare = min c.numbers.spare (length c.copies.items - length c.numbers.items);
     } };
 
-    ghost invariant = { λ c. AreGuessed c.guesses c.numbers.keys c.copies.items };
+    ghost invariant = { λ c. length c.numbers.items ≤ length c.copies.items };
 }
 
 /// Makes room for so many more copies behind the first `used`. The only error is want of memory.
@@ -109,9 +60,8 @@ impl Copies {
         ensures { result.items ≡ [] }
     {
         Copies {
-            numbers: IndexSet::new(alloc),
+            numbers: Places::new(alloc),
             copies: Vec::new(alloc),
-            guesses: [0; 1024],
         }
     }
 
@@ -120,8 +70,7 @@ impl Copies {
         ensures found { IfSome result (λ found. kept_at self.now.items block ≡ Some found.1.now) }
         ensures none { IfNone result (kept_at self.now.items block ≡ None) }
     {
-        let guess = self.guesses[guess_of(block)];
-        match place_of(&self.numbers, guess, block) {
+        match self.numbers.find(block) {
             Some(place) => Some((place, &self.copies[place])),
             None => None,
         }
@@ -159,11 +108,8 @@ impl Copies {
         ensures items { self.new.items ≡ insert_entry nat_eq self.old.items block kept.now }
         ensures spare { self.old.spare ≤ self.new.spare + 1 }
     {
-        let Ok((place, _)) = self.numbers.insert_full(block) else {
-            unreachable!()
-        };
+        let place = self.numbers.insert(block);
         self.copies[place].copy_from(kept);
-        self.guesses[guess_of(block)] = guess_at(place);
     }
 
     /// The copies of a list more; needs no memory.
@@ -189,8 +135,7 @@ impl Copies {
     fn rewrite(&mut self, block: u32, bytes: &[u8; 512])
         ensures { (other : ℕ) → shown self.new.items other ≡ renewed ((block, bytes.now) ∷ []) (shown self.old.items) other }
     {
-        let guess = self.guesses[guess_of(block)];
-        if let Some(place) = place_of(&self.numbers, guess, block) {
+        if let Some(place) = self.numbers.find(block) {
             self.copies[place].rewrite(bytes);
         }
     }
@@ -210,10 +155,7 @@ impl Copies {
         ensures items { self.new.items ≡ [] }
         ensures spare { self.old.spare ≤ self.new.spare }
     {
-        if self.numbers.len() > 0 {
-            self.numbers.truncate(0);
-            self.guesses = [0; 1024];
-        }
+        self.numbers.clear();
     }
 
     fn is_fresh<D: Disk>(&self, block: u32, page: &KeptBlock, cache: &Cache<D>) -> bool
@@ -247,11 +189,9 @@ impl Copies {
         ensures once { IsDistinct nat_eq (keys_of pages.now.items) }
     {
         let mut least = None;
-        for at in 0..pages.numbers.len() {
-            let Some(block) = pages.numbers.get_index(at) else {
-                unreachable!()
-            };
-            least = self.step(least, *block, &pages.copies[at], cache);
+        let blocks = pages.numbers.as_slice();
+        for at in 0..blocks.len() {
+            least = self.step(least, blocks[at], &pages.copies[at], cache);
         }
         least
     }

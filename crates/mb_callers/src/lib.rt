@@ -14,8 +14,10 @@
 //! What a call looks at is much like what the calls before it looked at, so `Pages` remember that, and `foresee` adds such
 //! blocks to what a call asks for. These are guesses: no contract sees them.
 //!
-//! Room is kept from call to call: pages, copies, undo log and pins are emptied and not dropped, and a copy of the tables
-//! that was given back becomes the next one as long as the counts of open files are the same.
+//! `Copies` finds a block's copy by `Places`, which links the blocks of a chain from the last one back (`specs/Chains.antt`).
+//!
+//! Room is kept from call to call: pages, copies, undo log and pins are emptied and not dropped, and of a copy of the tables
+//! that was given back the next one takes the room of the sessions, and the counts of open files as long as they are the same.
 #![tactic(auto)]
 
 mod blocks;
@@ -27,6 +29,7 @@ mod gathering;
 mod kept_blocks;
 mod laws;
 mod pages;
+mod places;
 mod reads;
 mod tables;
 mod undoing;

@@ -1,6 +1,6 @@
 ghost use Rattle.std.specs.Prelude.{◌≡◌, Option, Some, true, false, length, IfOk, Decides, option_copied};
 ghost use Rattle.mb_core_spec.specs.Copies.{LiveTables, TablesAreFresh};
-ghost use Rattle.mb_callers.specs.Tables.{AreTablesFresh, CanHold, Fits, as_copy, held_if};
+ghost use Rattle.mb_callers.specs.Tables.{AreTablesFresh, IsMadeFor, as_copy, held_if};
 
 use mb_edge::NoMemory;
 use mb_iface::Opens;
@@ -39,14 +39,15 @@ impl Model for KeptTables {
 }
 
 impl KeptTables {
-    fn new(alloc: Global, now: &TablesNow<'_>) -> Result<KeptTables, NoMemory>
-        ensures { IfOk result (λ copy. copy ≡ as_copy now.now) }
+    /// A copy of the tables, where both parts of it were made.
+    fn of(now: &TablesNow<'_>, made: Made) -> Option<KeptTables>
+        requires { IsMadeFor None (as_copy now.now) made }
+        ensures { result ≡ Some (as_copy now.now) }
     {
-        let sessions = now.sessions.copy(alloc)?;
-        let opens = now.opens.copy()?;
-        Ok(KeptTables {
-            sessions,
-            opens,
+        let Made { sessions, opens } = made;
+        Some(KeptTables {
+            sessions: sessions?,
+            opens: opens?,
             stamp: now.stamp,
         })
     }
@@ -63,19 +64,19 @@ impl KeptTables {
         &self.opens
     }
 
-    /// Whether the copy can become one of the tables without memory.
-    fn fits(&self, now: &TablesNow<'_>) -> bool
-        ensures { result ≡ true → Fits self.now (as_copy now.now) }
-    {
-        self.sessions.callers() == now.sessions.callers() && self.opens.same(now.opens)
-    }
-
-    /// Becomes a copy of the tables; needs no memory.
-    fn renew(&mut self, now: &TablesNow<'_>)
-        requires { Fits self.old (as_copy now.now) }
+    /// Becomes a copy of the tables, by what was made for it; needs no memory.
+    fn renew(&mut self, now: &TablesNow<'_>, made: Made)
+        requires { IsMadeFor (Some self.old) (as_copy now.now) made }
         ensures { self.new ≡ as_copy now.now }
     {
-        self.sessions.take_over(now.sessions);
+        let Made { sessions, opens } = made;
+        match sessions {
+            Some(sessions) => self.sessions = sessions,
+            None => self.sessions.take_over(now.sessions),
+        }
+        if let Some(opens) = opens {
+            self.opens = opens;
+        }
         self.stamp = now.stamp;
     }
 
@@ -94,6 +95,13 @@ impl KeptTables {
     {
         self.stamp == stamp && given.sessions.same(&self.sessions) && given.opens.same(&self.opens)
     }
+}
+
+/// What memory was taken for, that a copy of the tables can be made: the parts for which it has no room.
+#[derive(Drop)]
+pub(crate) struct Made {
+    sessions: Option<Sessions>,
+    opens: Option<Opens>,
 }
 
 /// A place for a copy of the tables. A copy that was given back stays held for its room.
@@ -121,45 +129,31 @@ impl TablePlace {
         if self.there { self.held.as_ref() } else { None }
     }
 
-    /// What a copy of the tables takes memory for: all of it, or nothing where the one that is held can become one.
-    pub fn prepare(
-        &self,
-        alloc: Global,
-        now: &TablesNow<'_>,
-    ) -> Result<Option<KeptTables>, NoMemory>
-        ensures { IfOk result (CanHold self.now.held (as_copy now.now)) }
+    /// What a copy of the tables takes memory for: its parts that the one that is held has no room for.
+    pub fn prepare(&self, alloc: Global, now: &TablesNow<'_>) -> Result<Made, NoMemory>
+        ensures { IfOk result (IsMadeFor self.now.held (as_copy now.now)) }
     {
-        if let Some(held) = &self.held {
-            if held.fits(now) {
-                return Ok(None);
-            }
-        }
-        let fresh = KeptTables::new(alloc, now)?;
-        Ok(Some(fresh))
+        let sessions = match &self.held {
+            Some(held) if held.sessions.callers() == now.sessions.callers() => None,
+            _ => Some(now.sessions.copy(alloc)?),
+        };
+        let opens = match &self.held {
+            Some(held) if held.opens.same(now.opens) => None,
+            _ => Some(now.opens.copy()?),
+        };
+        Ok(Made { sessions, opens })
     }
 
-    /// Takes a copy of the tables; needs no memory.
-    pub fn put(&mut self, now: &TablesNow<'_>, fresh: Option<KeptTables>)
-        requires { CanHold self.old.held (as_copy now.now) fresh }
+    /// Takes a copy of the tables, by what was made for it; needs no memory.
+    pub fn put(&mut self, now: &TablesNow<'_>, made: Made)
+        requires { IsMadeFor self.old.held (as_copy now.now) made }
         ensures { held_if self.new.there self.new.held ≡ Some (as_copy now.now) }
     {
         self.there = true;
-        match fresh {
-            Some(fresh) => self.held = Some(fresh),
-            None => self.renew(now),
+        match &mut self.held {
+            Some(held) => held.renew(now, made),
+            None => self.held = KeptTables::of(now, made),
         }
-    }
-
-    fn renew(&mut self, now: &TablesNow<'_>)
-        requires { CanHold self.old.held (as_copy now.now) None }
-        ensures there { self.new.there ≡ self.old.there }
-        ensures held { self.new.held ≡ Some (as_copy now.now) }
-    {
-        let Some(mut held) = self.held.take() else {
-            unreachable!()
-        };
-        held.renew(now);
-        self.held = Some(held);
     }
 
     /// Gives the copy back, and keeps its room; needs no memory.

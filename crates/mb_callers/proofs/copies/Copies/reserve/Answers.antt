@@ -5,7 +5,7 @@ use Rattle.mb_callers.proofs.copies.Copies.reserve.Goals as goal
 
 pub returns-clause-same : goal.returns-clause-same
 returns-clause-same c =
-    ap (λ keys. zip keys c.lengthen.new.copies.items) c.in_ok-reserve.ensures.keys
-    ∙ ap (zip c.self.inside.numbers.keys) c.lengthen.ensures.behind.1
-    ∙ zip_more c.self.inside.numbers.keys c.self.inside.copies.items c.lengthen.ensures.behind.0 c.self.invariant.places
+    ap (λ keys. zip keys c.lengthen.new.copies.items) c.in_ok-reserve.ensures.same
+    ∙ ap (zip c.self.inside.numbers.items) c.lengthen.ensures.behind.1
+    ∙ zip_more c.self.inside.numbers.items c.self.inside.copies.items c.lengthen.ensures.behind.0 c.self.invariant
     ∙ ap (λ now. now.items) c.self.view_is
