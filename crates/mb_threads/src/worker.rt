@@ -59,6 +59,7 @@ impl<'a, F: FileSys, D: Disk, H: Hook + Drop> Errand<Volume<F, D>, Worker<'a, F,
                 }
             }
         }
+        shared.wake();
         Worker {
             pass,
             hook,

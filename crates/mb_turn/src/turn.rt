@@ -24,7 +24,7 @@ const LOOKS: u32 = 20;
 
 // For how many milliseconds it sleeps. A value that goes to another processor takes its memory there with it, which costs more
 // than a short hold does, so the caller that runs is let alone for some hundreds of holds.
-const NAP: u64 = 2;
+const NAP: u64 = 20;
 
 /// The passes of a turn.
 pub type Passes<T> = Vec<Pass<T>>;
@@ -107,6 +107,11 @@ impl<T: Booked> Turn<T> {
         publish(shared, &mut pass.seat, &card, count);
         give_up(shared, &mut pass.seat, &card);
         pass.card = card;
+    }
+
+    /// Wakes one of the callers that sleep until they look for the turn again: for a caller that takes it no more.
+    pub fn wake(&self) {
+        self.table.shared.wake_one(0);
     }
 
     /// Takes the turn apart, with all its passes, and gives the value back.

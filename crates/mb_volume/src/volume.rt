@@ -111,6 +111,11 @@ impl<F: FileSys, D: Disk> Volume<F, D> {
         unreachable!()
     }
 
+    /// Wakes a caller that waits for the volume: for one that makes no call any more. Nothing else happens.
+    pub fn wake(&self) {
+        self.turn.wake();
+    }
+
     /// Ends the sharing, with all passes, and gives the core back.
     pub fn close(self, passes: Passes<SharedCore<F, D>>) -> VolumeCore<F, D>
         requires all { length passes.items ≡ self.callers }
