@@ -1,11 +1,5 @@
-pub mod Chains
-pub mod CopyLoops
 pub mod Gatherings
-pub mod Numbers
 pub mod PinSteps
-pub mod Renewals
-pub mod Seen
 pub mod Staleness
 pub mod Sums
 pub mod UndoSteps
-pub mod Zipped

@@ -10,7 +10,8 @@ use Rattle.mb_cache.specs.State.{CacheState, seen}
 use Rattle.mb_core_spec.specs.Copies.{CopyList, PagesState, TableCopy}
 use Rattle.mb_core_spec.specs.Events.{GivesBack}
 use Rattle.mb_core_spec.specs.State.{CallerState}
-use Rattle.mb_callers.specs.Reads.{AreRead, numbers, pin_steps, stored}
+use Rattle.mb_callers.specs.Pins.{pin_steps}
+use Rattle.mb_copies.specs.Reads.{AreRead, numbers, stored}
 
 -- pages with the copies of some blocks more
 abbrev pub with_blocks : PagesState → CopyList → PagesState

@@ -1,6 +1,5 @@
 pub mod CallerLaws
-pub mod Chains
 pub mod Gathering
-pub mod Reads
+pub mod Pins
 pub mod Stale
 pub mod Tables

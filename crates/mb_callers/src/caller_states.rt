@@ -13,10 +13,10 @@ ghost use Rattle.mb_core_spec.specs.Flights.{is_pin};
 
 use crate::gathering::{keep_blocks, keep_tables};
 use crate::pages::Pages;
-use crate::reads::Reads;
 use crate::tables::TablesNow;
 use crate::undoing::{give_back, note_entered, note_floor};
 use mb_cache::{Cache, ReadFault};
+use mb_copies::Reads;
 use mb_edge::{Disk, NoMemory};
 use mb_gate::Ulog;
 use mb_iface::Need;

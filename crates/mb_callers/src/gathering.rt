@@ -1,14 +1,14 @@
 ghost use Rattle.std.specs.Prelude.{◌≡◌, ◌≤◌, ◌+◌, ◌++◌, ◌∷◌, [], Some, length, OnOk, OnErr, IsErrOf};
-ghost use Rattle.mb_callers.specs.Reads.{pin_steps, stored};
+ghost use Rattle.mb_callers.specs.Pins.{pin_steps};
+ghost use Rattle.mb_copies.specs.Reads.{stored};
 ghost use Rattle.mb_callers.specs.Tables.{as_copy, held_if};
 ghost use Rattle.mb_core_spec.specs.Events.{GivesBack};
 ghost use Rattle.mb_gate.specs.declared.ulogs.Undo.TheVariants as undo_step;
 
-use crate::copies::Copies;
-use crate::reads::Reads;
 use crate::tables::{TablePlace, TablesNow};
 use crate::undoing::note_pins;
 use mb_cache::Cache;
+use mb_copies::{Copies, Reads};
 use mb_edge::{Disk, NoMemory};
 use mb_gate::{Ulog, Undo};
 use std::alloc::Global;

@@ -9,32 +9,21 @@
 //! drives the call. `stale_block` names the least block that was handed out and is not what is kept and seen, where block
 //! 0 stands for the tables (`specs/Stale.antt`), and `least_stale_block` says what its answers tell.
 //!
-//! `Blocks` are those that an operation wants which is done again in a recovery: read as they are seen, and kept for no call.
-//!
 //! What a call looks at is much like what the calls before it looked at, so `Pages` remember that, and `foresee` adds such
 //! blocks to what a call asks for. These are guesses: no contract sees them.
-//!
-//! `Copies` finds a block's copy by `Places`, which links the blocks of a chain from the last one back (`specs/Chains.antt`).
 //!
 //! Room is kept from call to call: pages, copies, undo log and pins are emptied and not dropped, and of a copy of the tables
 //! that was given back the next one takes the room of the sessions, and the counts of open files as long as they are the same.
 #![tactic(auto)]
 
-mod blocks;
 mod caller_states;
 mod callers;
-mod copies;
-mod foresight;
 mod gathering;
-mod kept_blocks;
 mod laws;
 mod pages;
-mod places;
-mod reads;
 mod tables;
 mod undoing;
 
-pub use blocks::Blocks;
 pub use caller_states::CallerState;
 pub use callers::Callers;
 pub use laws::{gathered, least_stale_block};

@@ -2,10 +2,9 @@ ghost use Rattle.std.specs.Prelude.{◌≡◌, ◌<◌, [], ℕ, None, option_co
 ghost use Rattle.mb_core_spec.specs.Copies.{KeptBlock, LiveTables, TableCopy, kept_at, no_pages, shown};
 ghost use Rattle.mb_callers.specs.Stale.{AllFresh, IsLeastStale};
 
-use crate::copies::Copies;
-use crate::foresight::Foresight;
 use crate::tables::TablePlace;
 use mb_cache::Cache;
+use mb_copies::{Copies, Foresight};
 use mb_edge::Disk;
 use mb_iface::{Need, Opens, Others, View};
 use mb_kinds::Call;

@@ -1,12 +1,12 @@
 ghost use Rattle.std.specs.Prelude.{◌≡◌, ◌≤◌, ◌+◌, ◌++◌, [], ℕ, length};
 ghost use Rattle.mb_cache.specs.Stamps.{stamp_of};
-ghost use Rattle.mb_callers.specs.Reads.{pin_steps};
+ghost use Rattle.mb_callers.specs.Pins.{pin_steps};
 ghost use Rattle.mb_core_spec.specs.Callers.{total};
 ghost use Rattle.mb_core_spec.specs.Events.{GivesBack, first_undo, floor_undo};
 ghost use Rattle.mb_core_spec.specs.Flights.{is_pin};
 
-use crate::reads::Reads;
 use mb_cache::Cache;
+use mb_copies::Reads;
 use mb_edge::Disk;
 use mb_gate::{Ulog, Undo};
 

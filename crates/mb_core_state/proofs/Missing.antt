@@ -4,8 +4,8 @@ use Rattle.mb_tree.proofs.FiniteMaps.{one_or_not}
 use Rattle.mb_kinds.specs.Image.{Image}
 use Rattle.mb_iface.specs.Needs.{IsNeed}
 use Rattle.mb_iface.specs.declared.replies.Need.{Need}
-use Rattle.mb_callers.proofs.Numbers.{first_of}
-use Rattle.mb_callers.specs.Reads.{GathersSeen}
+use Rattle.mb_copies.proofs.Numbers.{first_of}
+use Rattle.mb_copies.specs.Reads.{GathersSeen}
 use Rattle.mb_core_spec.specs.Copies.{CopyList, shown}
 
 abbrev lack : Bool → ℕ

@@ -4,7 +4,7 @@ ghost use Rattle.mb_core_state.specs.KeptBlocks.{AreSeen};
 ghost use Rattle.mb_core_state.specs.Redoing.{ActsSeen};
 
 use mb_cache::{Cache, ReadFault};
-use mb_callers::Blocks;
+use mb_copies::Blocks;
 use mb_edge::Disk;
 use mb_iface::{Acted, Changes, FileSys, Opens};
 use mb_tree::FsOp;

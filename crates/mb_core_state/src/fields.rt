@@ -6,7 +6,8 @@ ghost use Rattle.mb_core_spec.specs.Events.{without};
 ghost use Rattle.mb_core_state.specs.Rooms.{fresh_cache};
 
 use mb_cache::Cache;
-use mb_callers::{Blocks, Callers};
+use mb_callers::Callers;
+use mb_copies::Blocks;
 use mb_core_spec::{Config, Stage};
 use mb_edge::{Disk, NoMemory};
 use mb_iface::FileSys;

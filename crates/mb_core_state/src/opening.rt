@@ -7,7 +7,7 @@ ghost use Rattle.mb_core_state.specs.Opening.{ActsOnNameless, IsCheckpointedBy, 
 use crate::acting::act_seen;
 use crate::fields::Fields;
 use mb_cache::ReadFault;
-use mb_callers::Blocks;
+use mb_copies::Blocks;
 use mb_edge::{Disk, NoMemory};
 use mb_iface::{Changes, FileSys};
 use mb_tables::counts_of;

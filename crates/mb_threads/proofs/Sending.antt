@@ -11,7 +11,7 @@ use Rattle.mb_volume.specs.contracts.volume.Volume.{the_row as volume_row}
 use Rattle.mb_cache.proofs.caches.Cache.TheSendSync.{the_send as cache_send}
 use Rattle.mb_tables.proofs.tables.Tables.TheSendSync.{the_send as tables_send}
 use Rattle.mb_journal.proofs.journals.Journal.TheSendSync.{the_send as journal_send}
-use Rattle.mb_callers.proofs.blocks.Blocks.TheSendSync.{the_send as blocks_send}
+use Rattle.mb_copies.proofs.blocks.Blocks.TheSendSync.{the_send as blocks_send}
 use Rattle.mb_callers.proofs.callers.Callers.TheSendSync.{the_send as callers_send}
 use Rattle.mb_callers.proofs.pages.Pages.TheSendSync.{the_send as pages_send}
 use Rattle.mb_jobs.proofs.jobs.JobCall.TheSendSync.{the_sync as call_syncs}

@@ -7,9 +7,9 @@ use Rattle.mb_iface.proofs.NeedBlocks.{each_block}
 use Rattle.mb_iface.specs.Needs.{blocks_of}
 use Rattle.mb_iface.specs.declared.replies.Need.{Need}
 use Rattle.mb_callers.specs.Gathering.{with_blocks, with_tables}
-use Rattle.mb_callers.specs.Reads.{numbers, stored}
-use Rattle.mb_callers.proofs.Gatherings.{kept_stored}
-use Rattle.mb_callers.proofs.Numbers.{first_of}
+use Rattle.mb_copies.specs.Reads.{numbers, stored}
+use Rattle.mb_copies.proofs.Stored.{kept_stored}
+use Rattle.mb_copies.proofs.Numbers.{first_of}
 use Rattle.mb_core_spec.specs.Copies.{CopyList, KeptBlock, PagesState, TableCopy, kept_at, shown}
 use Rattle.mb_kinds.specs.declared.calls.Call.{Call}
 use Rattle.mb_run.specs.Pages.{Grows, IsUnderWay, LacksAll, has}

@@ -1,6 +1,6 @@
 use Rattle.std.proofs.Common.{◌+◌, refl, arith}
 use Rattle.mb_cache.specs.Stamps.{stamp_of}
-use Rattle.mb_callers.specs.Reads.{pin_steps}
+use Rattle.mb_callers.specs.Pins.{pin_steps}
 use Rattle.mb_core_spec.specs.Callers.{total}
 use Rattle.mb_core_spec.specs.Flights.{is_pin}
 use Rattle.mb_callers.proofs.PinSteps.{noted_more, only_pins, pinned_more}

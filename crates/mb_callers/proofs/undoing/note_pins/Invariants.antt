@@ -1,6 +1,6 @@
 use Rattle.std.proofs.Common.{◌≡◌, ◌≤◌, ◌++◌, ℕ, ◌+◌, length, drop}
 use Rattle.mb_cache.specs.Stamps.{stamp_of}
-use Rattle.mb_callers.specs.Reads.{pin_steps}
+use Rattle.mb_callers.specs.Pins.{pin_steps}
 use Rattle.mb_core_spec.specs.Callers.{total}
 use Rattle.mb_core_spec.specs.Flights.{is_pin}
 use Rattle.mb_callers.proofs.undoing.note_pins.Given as goal

@@ -1,7 +1,0 @@
-use Rattle.mb_core_spec.specs.Copies.{shown}
-use Rattle.mb_callers.proofs.Renewals.{renewed_part}
-use Rattle.mb_callers.proofs.blocks.Blocks.follow.Goals as goal
-
-pub returns-else-len-gt128-clause-part : goal.returns-else-len-gt128-clause-part
-returns-else-len-gt128-clause-part c = λ blocks part.
-    renewed_part (shown c.self.inside.copies.items) (shown c.renew.new.self.items) c.args.changes.now c.renew.ensures blocks (rw (← c.self.view_is) at part)

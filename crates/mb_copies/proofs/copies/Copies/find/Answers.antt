@@ -1,0 +1,16 @@
+use Rattle.std.proofs.Common.{◌≡◌, ◌∙◌, Some, None, sym, ap, subst, arith}
+use Rattle.std.proofs.lemmas.Option.{slice_get_within, slice_get-get_or}
+use Rattle.mb_core_spec.specs.Copies.{kept_at}
+use Rattle.mb_copies.proofs.Zipped.{kept_in, none_kept}
+use Rattle.mb_copies.proofs.copies.Copies.find.Goals as goal
+
+pub returns-in-Some-clause-found : goal.returns-in-Some-clause-found
+returns-in-Some-clause-found c =
+    let within = slice_get_within c.self.inside.numbers.items c.in-Some.place c.args.block c.in-Some.ensures.found in
+    let copy = slice_get-get_or c.self.inside.copies.items c.in-Some.place c.index.result.now (omega (arith, within, c.self.invariant)) ∙ ap Some (sym c.index.ensures) in
+    subst (λ now. kept_at now.items c.args.block ≡ Some c.index.result.now) c.self.view_is
+    (kept_in c.self.inside.numbers.items c.self.inside.copies.items c.in-Some.place c.args.block c.index.result.now c.self.invariant c.in-Some.ensures.once c.in-Some.ensures.found copy)
+
+pub returns-in-None-clause-none : goal.returns-in-None-clause-none
+returns-in-None-clause-none c = subst (λ now. kept_at now.items c.args.block ≡ None) c.self.view_is
+    (none_kept c.args.block c.self.inside.numbers.items c.self.inside.copies.items c.in-None.ensures.none)
