@@ -14,29 +14,40 @@ use mb_iface::FileSys;
 use mb_kinds::{Entry, Reply, Ticket};
 
 impl<F: FileSys, D: Disk> Fields<F, D> {
-    /// The call in flight of a caller ends without an entry, and what it took is given back; needs no memory.
+    /// The call in flight of a caller ends, and what it took is given back. Gives its reply, where it has its entry. Needs
+    /// no memory.
     #[tactic(auto, using(crate::proofs::Kept::still_seen))]
+    fn end_call(&mut self, caller: u8) -> Option<Reply>
+        requires caller { caller < length self.old.callers }
+        requires pins { HasPins self.old caller }
+        ensures ended { (mine : CallerState) → slice_get self.old.callers caller ≡ Some mine → (mine.answer ≡ result) × (self.new ≡ with_room (ended self.old caller mine self.new.cache.pins) self.new) × GivesBack self.old.cache.pins self.new.cache.pins mine.undo }
+        ensures room { self.new.journal.room ≡ self.old.journal.room }
+    {
+        self.give_floor(caller);
+        let (_, answer) = self.callers.get_mut(caller).end(&mut self.cache);
+        answer
+    }
+
+    /// The call in flight of a caller ends without an entry, and what it took is given back; needs no memory.
     pub fn quit(&mut self, caller: u8)
         requires caller { caller < length self.old.callers }
         requires pins { HasPins self.old caller }
         ensures quit { (mine : CallerState) → slice_get self.old.callers caller ≡ Some mine → (self.new ≡ with_room (ended self.old caller mine self.new.cache.pins) self.new) × GivesBack self.old.cache.pins self.new.cache.pins mine.undo }
         ensures room { self.new.journal.room ≡ self.old.journal.room }
     {
-        let (_, _) = self.callers.get_mut(caller).end(&mut self.cache);
-        self.give_floor(caller);
+        let _ = self.end_call(caller);
     }
 
     /// The call in flight of a caller that has its entry ends, and its reply is handed out; needs no memory.
-    #[tactic(auto, using(crate::proofs::Kept::still_seen))]
     pub fn hand_out(&mut self, caller: u8) -> Reply
         requires answer { (mine : CallerState) × (slice_get self.old.callers caller ≡ Some mine) × IsSome mine.answer }
         requires pins { HasPins self.old caller }
         ensures ended { (mine : CallerState) → slice_get self.old.callers caller ≡ Some mine → (mine.answer ≡ Some result) × (self.new ≡ with_room (ended self.old caller mine self.new.cache.pins) self.new) × GivesBack self.old.cache.pins self.new.cache.pins mine.undo }
         ensures room { self.new.journal.room ≡ self.old.journal.room }
     {
-        let (_, answer) = self.callers.get_mut(caller).end(&mut self.cache);
-        self.give_floor(caller);
-        let Some(reply) = answer else { unreachable!() };
+        let Some(reply) = self.end_call(caller) else {
+            unreachable!()
+        };
         reply
     }
 
@@ -54,22 +65,9 @@ impl<F: FileSys, D: Disk> Fields<F, D> {
                 now: self.incarnation,
             };
         }
-        Left::Left(self.depart(ticket))
-    }
-
-    #[tactic(auto, using(crate::proofs::Kept::still_seen))]
-    fn depart(&mut self, ticket: &Ticket) -> Reply
-        requires answer { (mine : CallerState) × (slice_get self.old.callers ticket.now.caller ≡ Some mine) × IsSome mine.answer }
-        requires pins { HasPins self.old ticket.now.caller }
-        requires room { 0 < self.old.journal.room.trail }
-        ensures left { (mine : CallerState) → slice_get self.old.callers ticket.now.caller ≡ Some mine → (mine.answer ≡ Some result) × (self.new ≡ with_room (leaving self.old ticket.now.caller mine ticket.now self.new.cache.pins) self.new) × GivesBack self.old.cache.pins self.new.cache.pins mine.undo }
-        ensures room { Leaves self.old.journal.room self.new.journal.room 1 0 }
-    {
-        let (_, answer) = self.callers.get_mut(ticket.caller).end(&mut self.cache);
-        self.give_floor(ticket.caller);
+        let reply = self.hand_out(ticket.caller);
         self.journal.mark(Step::Left(*ticket));
-        let Some(reply) = answer else { unreachable!() };
-        reply
+        Left::Left(reply)
     }
 
     /// A call inside is unwound to where it entered, and stays a call in flight; needs no memory.
