@@ -1,23 +1,24 @@
-ghost use Rattle.std.specs.Prelude.{◌≡◌, ◌<◌, ◌≤◌, ◌^◌, ◌-◌, ◌+◌, ℕ, true, Some, length, slice_get, OnOk, OnErr, IfSome, IfNone, IsSome};
+ghost use Rattle.std.specs.Prelude.{◌≡◌, ◌<◌, ◌≤◌, ◌^◌, ◌-◌, ◌+◌, ℕ, true, Some, length, slice_get, OnOk, OnErr, IfOk, IfErr, IfSome, IfNone, IsSome};
 ghost use Rattle.mb_kinds.specs.declared.entries.Flight.{Flight};
 ghost use Rattle.mb_tree.specs.Sessions.{HasDescriptorInRange};
 ghost use Rattle.mb_callers.specs.Stale.{AllFresh, IsLeastStale};
-ghost use Rattle.mb_core_spec.specs.Events.{GivesBack, Leaves, floor_after, staling, with_room};
+ghost use Rattle.mb_core_spec.specs.Events.{GivesBack, Leaves, entry_for, floor_after, staling, with_room};
 ghost use Rattle.mb_core_spec.specs.Flights.{IsMine};
 ghost use Rattle.mb_core_spec.specs.State.{CallerState};
 ghost use Rattle.mb_journal.specs.Room.{HasEntryRoom, KeepsRoom};
 ghost use Rattle.mb_iface.specs.Changed.{AreChanges};
 ghost use Rattle.mb_core_state.specs.Answers.{IsPresent};
-ghost use Rattle.mb_core_state.specs.Finishing.{Finishes, HasTicketOf, HolderFlies, IsBusy, IsLogged};
+ghost use Rattle.mb_core_state.specs.Finishing.{Finishes, HolderFlies, IsBusy, IsLogged, putting};
 ghost use Rattle.mb_core_state.specs.Rooms.{FinishLeaves, HasPins, LeavesEntry};
 
 use crate::answers::Finished;
 use crate::fields::Fields;
+use crate::logging::op_and_reply;
 use mb_callers::Pages;
 use mb_core_spec::{Ready, Step};
 use mb_edge::{Disk, NoMemory};
 use mb_iface::FileSys;
-use mb_kinds::{Call, Entry, Reply, Ticket};
+use mb_kinds::{Entry, Ticket};
 use std::alloc::Global;
 
 impl<F: FileSys, D: Disk> Fields<F, D> {
@@ -34,84 +35,27 @@ impl<F: FileSys, D: Disk> Fields<F, D> {
         if holder == caller {
             return None;
         }
-        Some(self.ticket_of(holder))
+        Some(self.ticket(holder))
     }
 
-    pub(crate) fn ticket_of(&self, caller: u8) -> Ticket
-        requires { (ticket : Ticket) × HasTicketOf self.now.callers caller ticket }
-        ensures { HasTicketOf self.now.callers caller result }
-    {
-        let Some(flight) = self.callers.get(caller).flight() else {
-            unreachable!()
-        };
-        let Some(ticket) = flight.ticket else {
-            unreachable!()
-        };
-        ticket
-    }
-
-    /// A call without its entry is logged. The only error is want of memory, and nothing has changed then.
-    pub(crate) fn log(
-        &mut self,
-        alloc: Global,
-        ticket: &Ticket,
-        ready: Ready,
-    ) -> Result<(), NoMemory>
-        requires flight { (mine : CallerState) × (slice_get self.old.callers ticket.now.caller ≡ Some mine) × IsSome mine.flight }
-        requires pins { HasPins self.old ticket.now.caller }
-        requires seats { ticket.now.caller < length self.old.tables.sessions }
-        requires session { HasDescriptorInRange ready.session }
+    /// What a call without its entry comes to is installed, with room for its entry, which is given. The only error is want
+    /// of memory, and nothing has changed then.
+    fn put_ready(&mut self, alloc: Global, caller: u8, ready: &Ready) -> Result<Entry, NoMemory>
+        requires flight { (mine : CallerState) × (slice_get self.old.callers caller ≡ Some mine) × IsSome mine.flight }
+        requires seats { caller < length self.old.tables.sessions }
+        requires session { HasDescriptorInRange ready.now.session }
         requires few { self.old.tables.stamp < 2 ^ 64 - 1 }
-        ensures ok { OnOk result ((mine : CallerState) (flight : Flight) → slice_get self.old.callers ticket.now.caller ≡ Some mine → mine.flight ≡ Some flight → IsLogged self.old self.new ticket.now.caller mine flight ticket.now ready) }
+        ensures ok { OnOk result (self.new ≡ with_room (putting self.old caller ready.now.op ready.now.pick ready.now.changes ready.now.session) self.new) }
+        ensures entry { IfOk result (λ entry. (mine : CallerState) (flight : Flight) → slice_get self.old.callers caller ≡ Some mine → mine.flight ≡ Some flight → entry ≡ entry_for caller flight ready.now.pick ready.now.reply) }
         ensures err { OnErr result (self.new ≡ with_room self.old self.new) }
-        ensures marks { OnOk result (LeavesEntry self.old.journal.room self.new.journal.room) }
-        ensures changes { OnOk result (AreChanges ready.changes) }
-        ensures kept { OnErr result (KeepsRoom self.old.journal.room self.new.journal.room) }
+        ensures lists { OnOk result (HasEntryRoom self.new.journal.room) }
+        ensures changes { OnOk result (AreChanges ready.now.changes) }
+        ensures kept { KeepsRoom self.old.journal.room self.new.journal.room }
     {
-        let reply = ready.reply.copied(alloc)?;
-        let call = self.copy_call(alloc, ticket.caller)?;
         self.reserve_log(ready.changes.len())?;
-        self.commit(ticket, ready, call, reply)
-    }
-
-    fn commit(
-        &mut self,
-        ticket: &Ticket,
-        ready: Ready,
-        call: Call,
-        reply: Reply,
-    ) -> Result<(), NoMemory>
-        requires flight { (mine : CallerState) × (slice_get self.old.callers ticket.now.caller ≡ Some mine) × IsSome mine.flight }
-        requires pins { HasPins self.old ticket.now.caller }
-        requires seats { ticket.now.caller < length self.old.tables.sessions }
-        requires session { HasDescriptorInRange ready.session }
-        requires few { self.old.tables.stamp < 2 ^ 64 - 1 }
-        requires pages { length ready.changes ≤ self.old.cache.room.pages }
-        requires lists { HasEntryRoom self.old.journal.room }
-        ensures ok { OnOk result ((mine : CallerState) (flight : Flight) → slice_get self.old.callers ticket.now.caller ≡ Some mine → mine.flight ≡ Some flight → call ≡ flight.call → reply ≡ ready.reply → IsLogged self.old self.new ticket.now.caller mine flight ticket.now ready) }
-        ensures err { OnErr result (self.new ≡ self.old) }
-        ensures marks { OnOk result (Leaves self.old.journal.room self.new.journal.room 1 1) }
-    {
-        let Ready {
-            reply: answer,
-            op,
-            pick,
-            changes,
-            session,
-            shared: _,
-        } = ready;
-        self.put(ticket.caller, &op, pick, &changes, session)?;
-        let (ordinal, moment) = self.numbers(ticket.caller);
-        let entry = Entry {
-            caller: ticket.caller,
-            ordinal,
-            call,
-            pick,
-            moment,
-            reply: answer,
-        };
-        self.book(*ticket, entry, op, reply);
-        Ok(())
+        let entry = self.entry_of(alloc, caller, ready.pick, &ready.reply)?;
+        self.put(caller, &ready.op, ready.pick, &ready.changes, ready.session)?;
+        Ok(entry)
     }
 }
 
@@ -137,23 +81,61 @@ impl<F: FileSys, D: Disk> Fields<F, D> {
         ensures room { FinishLeaves self.old.journal.room self.new.journal.room result }
         ensures changes { result ≡ Finished.Logged → AreChanges ready.changes }
     {
+        match self.prepare(alloc, ticket, pages, &ready) {
+            Ok(entry) => {
+                let (op, reply) = op_and_reply(ready);
+                self.book(*ticket, entry, op, reply);
+                Finished::Logged
+            }
+            Err(answer) => answer,
+        }
+    }
+
+    /// A call without its entry is prepared to be logged over its pages: what it comes to is installed, with room for its
+    /// entry, which is given; or else the call's answer.
+    fn prepare(
+        &mut self,
+        alloc: Global,
+        ticket: &Ticket,
+        pages: &Pages,
+        ready: &Ready,
+    ) -> Result<Entry, Finished>
+        requires flight { (mine : CallerState) × (slice_get self.old.callers ticket.now.caller ≡ Some mine) × IsSome mine.flight }
+        requires inside { IsPresent self.old ticket.now → (mine : CallerState) × (slice_get self.old.callers ticket.now.caller ≡ Some mine) × (mine.inside ≡ true) }
+        requires pins { HasPins self.old ticket.now.caller }
+        requires holder { HolderFlies self.old.floor self.old.callers }
+        requires seats { ticket.now.caller < length self.old.tables.sessions }
+        requires session { HasDescriptorInRange ready.now.session }
+        requires stamps { self.old.tables.stamp < 2 ^ 64 - 1 }
+        ensures err { (mine : CallerState) (flight : Flight) → slice_get self.old.callers ticket.now.caller ≡ Some mine → IfErr result (Finishes self.old self.new ticket.now mine flight pages.now ready.now) }
+        ensures unlogged { IfErr result (λ answer. answer ≡ Finished.Logged → ⊥) }
+        ensures left { IfErr result (FinishLeaves self.old.journal.room self.new.journal.room) }
+        ensures present { OnOk result (IsPresent self.old ticket.now) }
+        ensures mine { OnOk result (IsMine ticket.now.caller self.old.floor) }
+        ensures fresh { (mine : CallerState) → slice_get self.old.callers ticket.now.caller ≡ Some mine → OnOk result (AllFresh ready.now.shared ticket.now.caller self.old.cache.stamps self.old.tables mine.pages pages.now) }
+        ensures put { OnOk result (self.new ≡ with_room (putting self.old ticket.now.caller ready.now.op ready.now.pick ready.now.changes ready.now.session) self.new) }
+        ensures entry { IfOk result (λ entry. (mine : CallerState) (flight : Flight) → slice_get self.old.callers ticket.now.caller ≡ Some mine → mine.flight ≡ Some flight → entry ≡ entry_for ticket.now.caller flight ready.now.pick ready.now.reply) }
+        ensures lists { OnOk result (HasEntryRoom self.new.journal.room) }
+        ensures changes { OnOk result (AreChanges ready.now.changes) }
+        ensures kept { OnOk result (KeepsRoom self.old.journal.room self.new.journal.room) }
+    {
         if ticket.incarnation != self.incarnation {
-            return Finished::Skip {
+            return Err(Finished::Skip {
                 mine: ticket.incarnation,
                 now: self.incarnation,
-            };
+            });
         }
         if let Some(holder) = self.busy(ticket.caller) {
-            return Finished::Busy { holder };
+            return Err(Finished::Busy { holder });
         }
         match self.stale(ticket.caller, ready.shared, pages) {
             Some(block) => match self.gather_anew(ticket, block) {
-                Ok(()) => Finished::Stale { block },
-                Err(NoMemory) => Finished::NoMemory,
+                Ok(()) => Err(Finished::Stale { block }),
+                Err(NoMemory) => Err(Finished::NoMemory),
             },
-            None => match self.log(alloc, ticket, ready) {
-                Ok(()) => Finished::Logged,
-                Err(NoMemory) => Finished::NoMemory,
+            None => match self.put_ready(alloc, ticket.caller, ready) {
+                Ok(entry) => Ok(entry),
+                Err(NoMemory) => Err(Finished::NoMemory),
             },
         }
     }

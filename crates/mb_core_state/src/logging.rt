@@ -1,7 +1,7 @@
 ghost use Rattle.std.specs.Prelude.{◌≡◌, ◌<◌, ◌≤◌, ◌^◌, ◌-◌, ◌+◌, ℕ, Some, Ok, length, slice_get, OnOk, OnErr, IfOk, IsSome};
 ghost use Rattle.mb_kinds.specs.declared.entries.Flight.{Flight};
 ghost use Rattle.mb_tree.specs.Sessions.{HasDescriptorInRange};
-ghost use Rattle.mb_core_spec.specs.Events.{GivesBack, Leaves, with_room};
+ghost use Rattle.mb_core_spec.specs.Events.{GivesBack, Leaves, entry_for, with_room};
 ghost use Rattle.mb_core_spec.specs.State.{CallerState};
 ghost use Rattle.mb_journal.specs.Room.{HasEntryRoom, KeepsRoom};
 ghost use Rattle.mb_core_state.specs.Finishing.{IsLogged, booking, putting};
@@ -11,7 +11,7 @@ use crate::fields::Fields;
 use mb_core_spec::Ready;
 use mb_edge::{Disk, NoMemory};
 use mb_iface::{Changes, FileSys};
-use mb_kinds::{Call, Entry, Reply, Ticket};
+use mb_kinds::{Entry, Reply, Ticket};
 use mb_tree::{FsOp, SessionChange};
 use std::alloc::Global;
 
@@ -53,16 +53,30 @@ impl<F: FileSys, D: Disk> Fields<F, D> {
         Ok(())
     }
 
-    /// A copy of a caller's call in flight.
-    pub(crate) fn copy_call(&self, alloc: Global, caller: u8) -> Result<Call, NoMemory>
+    /// The entry of a caller's call in flight, with copies of the call and of its reply.
+    pub(crate) fn entry_of(
+        &self,
+        alloc: Global,
+        caller: u8,
+        pick: Option<u16>,
+        reply: &Reply,
+    ) -> Result<Entry, NoMemory>
         requires { (mine : CallerState) × (slice_get self.now.callers caller ≡ Some mine) × IsSome mine.flight }
-        ensures { IfOk result (λ call. (mine : CallerState) (flight : Flight) → slice_get self.now.callers caller ≡ Some mine → mine.flight ≡ Some flight → call ≡ flight.call) }
+        ensures { IfOk result (λ entry. (mine : CallerState) (flight : Flight) → slice_get self.now.callers caller ≡ Some mine → mine.flight ≡ Some flight → entry ≡ entry_for caller flight pick reply.now) }
     {
         let Some(flight) = self.callers.get(caller).flight() else {
             unreachable!()
         };
+        let reply = reply.copied(alloc)?;
         let call = flight.call.copied(alloc)?;
-        Ok(call)
+        Ok(Entry {
+            caller,
+            ordinal: flight.ordinal,
+            call,
+            pick,
+            moment: flight.moment,
+            reply,
+        })
     }
 
     /// The ordinal and the moment of a caller's call in flight.
@@ -94,4 +108,19 @@ impl<F: FileSys, D: Disk> Fields<F, D> {
         let pick = entry.pick;
         self.journal.log(entry, op, pick, ticket);
     }
+}
+
+/// The operation and the reply of what a call comes to.
+pub(crate) fn op_and_reply(ready: Ready) -> (Option<FsOp>, Reply)
+    ensures { result ≡ (ready.op, ready.reply) }
+{
+    let Ready {
+        reply,
+        op,
+        pick: _,
+        changes: _,
+        session: _,
+        shared: _,
+    } = ready;
+    (op, reply)
 }

@@ -114,7 +114,13 @@ impl<F: FileSys, D: Disk> Fields<F, D> {
         requires { (ticket : Ticket) × HasTicketOf self.now.callers caller ticket }
         ensures { HasTicketOf self.now.callers caller result }
     {
-        self.ticket_of(caller)
+        let Some(flight) = self.callers.get(caller).flight() else {
+            unreachable!()
+        };
+        let Some(ticket) = flight.ticket else {
+            unreachable!()
+        };
+        ticket
     }
 
     /// The ordinal of a caller's call in flight.
