@@ -71,12 +71,12 @@ impl<F: FileSys, D: Disk> Fields<F, D> {
         ensures unread { IfOk result (λ core. core.cache.room.clean ≡ []) }
         ensures back { IfErr result (λ same. same ≡ disk) }
     {
-        let (tables, callers) = match begun_parts(alloc, &config.callers) {
-            Ok(parts) => parts,
-            Err(NoMemory) => return Err(disk),
-        };
         let first = Snapshot::of(&disk);
         let cache = Cache::new(alloc, disk)?;
+        let (tables, callers) = match begun_parts(alloc, &config.callers) {
+            Ok(parts) => parts,
+            Err(NoMemory) => return Err(cache.into_disk()),
+        };
         Ok(Fields {
             first,
             fs,
