@@ -15,13 +15,25 @@ use std::marker::Model;
 
 /// The history, the fault records, the event trace and the log of operations of a core, and at how many entries its last
 /// checkpoint was taken. A contract sees a `JournalState`.
-#[derive(Drop)]
 pub struct Journal {
     history: Roomy<Entry>,
     records: Roomy<FaultRecord>,
     trail: Roomy<Step>,
     oplog: Oplog,
     sealed_at: u32,
+}
+
+// written out, so that a crate above which lets a journal go checks one call
+impl Drop for Journal {
+    fn drop(self) {
+        let Journal {
+            history: _,
+            records: _,
+            trail: _,
+            oplog: _,
+            sealed_at: _,
+        } = self;
+    }
 }
 
 impl Model for Journal {
