@@ -16,12 +16,23 @@ use std::marker::Model;
 
 /// The sessions as they are and as they were at the last checkpoint, of the same callers, the table of open files, and how
 /// often the tables changed in a way that another call could see. A contract sees `LiveTables`.
-#[derive(Drop)]
 pub struct Tables {
     sessions: Sessions,
     saved: Sessions,
     opens: Opens,
     stamp: u64,
+}
+
+// written out, so that a crate above which lets tables go checks one call
+impl Drop for Tables {
+    fn drop(self) {
+        let Tables {
+            sessions: _,
+            saved: _,
+            opens: _,
+            stamp: _,
+        } = self;
+    }
 }
 
 impl Model for Tables {
