@@ -15,11 +15,21 @@ use std::marker::Model;
 /// The blocks that a call gathered, each with the stamp that it had, and, once block 0 was gathered, copies of the
 /// sessions and of the counts of open files. A contract sees a `PagesState`. Emptied, it keeps its room for the next
 /// call.
-#[derive(Drop)]
 pub struct Pages {
     pub(crate) blocks: Copies,
     pub(crate) tables: TablePlace,
     foresight: Foresight,
+}
+
+// written out, so that a crate above which lets it go checks one call
+impl Drop for Pages {
+    fn drop(self) {
+        let Pages {
+            blocks: _,
+            tables: _,
+            foresight: _,
+        } = self;
+    }
 }
 
 impl Model for Pages {

@@ -1,7 +1,7 @@
 use mb_kinds::{Reply, Ticket};
 
 /// The answer to a call that enters.
-#[derive(Debug, Drop)]
+#[derive(Drop)]
 pub enum Enter {
     /// The call's reply: it had its entry already, or has one now; its flight ended.
     Done(Reply),
@@ -14,7 +14,7 @@ pub enum Enter {
 }
 
 /// The answer to a call that gathers.
-#[derive(Clone, Copy, Debug, PartialEq, Eq, Drop)]
+#[derive(Clone, Copy, Drop)]
 pub enum Gathered {
     /// The ticket is of another incarnation than the present one: `mine` is the ticket's, `now` the present one. Nothing
     /// changed.
@@ -28,7 +28,7 @@ pub enum Gathered {
 }
 
 /// The answer to a call that finishes.
-#[derive(Clone, Copy, Debug, PartialEq, Eq, Drop)]
+#[derive(Clone, Copy, Drop)]
 pub enum Finished {
     /// The ticket is of another incarnation than the present one; nothing changed.
     Skip { mine: u32, now: u32 },
@@ -44,7 +44,7 @@ pub enum Finished {
 }
 
 /// The answer to a call that leaves.
-#[derive(Debug, Drop)]
+#[derive(Drop)]
 pub enum Left {
     /// The ticket is of another incarnation than the present one; nothing changed.
     Skip { mine: u32, now: u32 },
@@ -53,7 +53,7 @@ pub enum Left {
 }
 
 /// What a fault came to.
-#[derive(Clone, Copy, Debug, PartialEq, Eq, Drop)]
+#[derive(Clone, Copy, Drop)]
 pub enum Fault {
     /// The ticket is of another incarnation than the present one; nothing changed.
     Skip { mine: u32, now: u32 },
@@ -62,7 +62,7 @@ pub enum Fault {
 }
 
 /// The next step of a recovery.
-#[derive(Clone, Copy, Debug, PartialEq, Eq, Drop)]
+#[derive(Clone, Copy, Drop)]
 pub enum Phase {
     /// None is in progress.
     Idle,
