@@ -1,5 +1,4 @@
-use crate::benches::Answered;
-use crate::pairs::Pair;
+use mb_call_pairs::{Answered, Pair};
 use mb_gathering::SMALL;
 use mb_jobs::{Job, JobCall, Text, job_of};
 use mb_kinds::{Call, Cred, Creds, Entry, Reply};

@@ -3,7 +3,7 @@ use Rattle.std.proofs.lemmas.Option.{same_Some, slice_get_read}
 use Rattle.std.specs.List.{slice_get}
 use Rattle.mb_iface.specs.Changed.{changed}
 use Rattle.mb_calls.specs.Following.{IsGoing}
-use Rattle.mb_call_walks.proofs.benches.ready.Goals as goal
+use Rattle.mb_call_pairs.proofs.benches.ready.Goals as goal
 
 -- the session with which the call begins is the caller's
 pub loop-init : goal.loop-init

@@ -143,7 +143,7 @@ fn nodes_of(heap: Global, volume: &Gathered, marks: &mut Marks, end: u16) -> Res
 
 /// The tree that the bytes of a volume show, read by V7 filsys(5) alone: neither the file system nor the checker has a part
 /// in it. A free block, a part and an index block are each held once.
-pub fn shown_tree(heap: Global, volume: &Gathered) -> Result<Tree, Fail> {
+pub(crate) fn shown_tree(heap: Global, volume: &Gathered) -> Result<Tree, Fail> {
     let first = block_of(volume, 1)?;
     let end = word(&first, 0);
     let mut marks = Marks::new(heap, u32::from(end), long(&first, 2))?;

@@ -5,7 +5,7 @@ use std::alloc::Global;
 use std::test::Fail;
 
 /// The block of that number.
-pub fn block_of(volume: &Gathered, number: u32) -> Result<[u8; 512], Fail> {
+pub(crate) fn block_of(volume: &Gathered, number: u32) -> Result<[u8; 512], Fail> {
     match volume.get(number) {
         Some(block) => Ok(*block),
         None => Err("a block is not there".into()),
@@ -15,7 +15,7 @@ pub fn block_of(volume: &Gathered, number: u32) -> Result<[u8; 512], Fail> {
 /// The blocks of a volume's files, which are those from the i-list's end to the volume's, and which of them something was
 /// found to hold.
 #[derive(Drop)]
-pub struct Marks {
+pub(crate) struct Marks {
     first: u32,
     held: Vec<bool>,
     count: u32,
@@ -23,7 +23,7 @@ pub struct Marks {
 
 impl Marks {
     /// No block is held.
-    pub fn new(heap: Global, first: u32, end: u32) -> Result<Marks, Fail> {
+    pub(crate) fn new(heap: Global, first: u32, end: u32) -> Result<Marks, Fail> {
         let blocks = end.saturating_sub(first);
         Ok(Marks {
             first,
@@ -33,7 +33,7 @@ impl Marks {
     }
 
     /// Marks a block, which has to be one of the files that nothing else holds.
-    pub fn hold(&mut self, block: u32) -> Result<(), Fail> {
+    pub(crate) fn hold(&mut self, block: u32) -> Result<(), Fail> {
         let Some(place) = block.checked_sub(self.first) else {
             return Err("a block of the i-list is held".into());
         };
@@ -63,7 +63,7 @@ impl Marks {
     }
 
     /// Marks the blocks of the free chain, list after list.
-    pub fn hold_free(&mut self, volume: &Gathered) -> Result<(), Fail> {
+    pub(crate) fn hold_free(&mut self, volume: &Gathered) -> Result<(), Fail> {
         let first = block_of(volume, 1)?;
         let mut next = self.hold_list(&first, 6)?;
         for _ in 0..self.held.len() {
@@ -78,7 +78,7 @@ impl Marks {
     }
 
     /// How many blocks are held.
-    pub fn count(&self) -> u32 {
+    pub(crate) fn count(&self) -> u32 {
         self.count
     }
 }

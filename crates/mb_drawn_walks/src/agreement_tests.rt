@@ -1,7 +1,6 @@
-use crate::benches::Answered;
 use crate::draws::Draws;
-use crate::pairs::Pair;
 use crate::tallies::Tally;
+use mb_call_pairs::{Answered, Pair};
 use mb_gathering::{SMALL, Size};
 use mb_kinds::{Cred, Creds};
 use mb_tree::FsOp;

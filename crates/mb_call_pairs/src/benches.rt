@@ -16,7 +16,7 @@ use std::test::Fail;
 
 /// A volume in memory with its callers' sessions and the counts of their open files.
 #[derive(Drop)]
-pub struct Bench {
+pub(crate) struct Bench {
     heap: Global,
     size: Size,
     disk: Gathered,
@@ -69,7 +69,7 @@ fn ready(
 
 impl Bench {
     /// The fresh volume of a size, with callers that begin.
-    pub fn new(heap: Global, callers: &Creds, size: Size) -> Result<Bench, Fail> {
+    pub(crate) fn new(heap: Global, callers: &Creds, size: Size) -> Result<Bench, Fail> {
         Ok(Bench {
             heap,
             size,
@@ -79,18 +79,18 @@ impl Bench {
     }
 
     /// The small volume with one caller, of uid 0 and gid 0.
-    pub fn of_root(heap: Global) -> Result<Bench, Fail> {
+    pub(crate) fn of_root(heap: Global) -> Result<Bench, Fail> {
         let creds = Creds::from_vec([Cred { uid: 0, gid: 0 }].to_vec(heap)?);
         Bench::new(heap, &creds, SMALL)
     }
 
     /// The blocks of the volume.
-    pub fn volume(&self) -> &Gathered {
+    pub(crate) fn volume(&self) -> &Gathered {
         &self.disk
     }
 
     /// A disk of the volume.
-    pub fn disk(&self) -> Result<MemDisk, Fail> {
+    pub(crate) fn disk(&self) -> Result<MemDisk, Fail> {
         disk_of(self.heap, &self.disk, self.size)
     }
 
@@ -117,7 +117,12 @@ impl Bench {
     }
 
     /// What a call comes to where all blocks are there from the beginning.
-    pub fn performed(&self, caller: u8, call: &Call, moment: u32) -> Result<Performed, Fail> {
+    pub(crate) fn performed(
+        &self,
+        caller: u8,
+        call: &Call,
+        moment: u32,
+    ) -> Result<Performed, Fail> {
         let seats = self.seats()?;
         if usize::from(caller) >= seats.len() {
             return Err("there is no such caller".into());
@@ -148,7 +153,7 @@ impl Bench {
     }
 
     /// Makes a call.
-    pub fn call(&mut self, caller: u8, call: &Call, moment: u32) -> Result<Answered, Fail> {
+    pub(crate) fn call(&mut self, caller: u8, call: &Call, moment: u32) -> Result<Answered, Fail> {
         let Ready {
             reply,
             op,

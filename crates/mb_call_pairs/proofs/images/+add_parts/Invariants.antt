@@ -1,4 +1,4 @@
-use Rattle.mb_call_walks.proofs.images.+add_parts.Given as goal
+use Rattle.mb_call_pairs.proofs.images.+add_parts.Given as goal
 
 abbrev pub decreases-add_parts : goal.decreases-add_parts
 decreases-add_parts l = l.levels
