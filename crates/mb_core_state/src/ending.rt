@@ -1,6 +1,6 @@
 ghost use Rattle.std.specs.Prelude.{◌≡◌, ◌<◌, ◌≤◌, Some, length, slice_get, IsSome};
 ghost use Rattle.mb_kinds.specs.declared.entries.Flight.{Flight};
-ghost use Rattle.mb_core_spec.specs.Events.{GivesBack, Leaves, answered_by, ended, leaving, with_room};
+ghost use Rattle.mb_core_spec.specs.Events.{GivesBack, Leaves, answered_by, ended, with_room};
 ghost use Rattle.mb_core_spec.specs.Recovery.{unwinding};
 ghost use Rattle.mb_core_spec.specs.State.{CallerState};
 ghost use Rattle.mb_core_state.specs.Answers.{IsPresent, Leaving};

@@ -8,8 +8,8 @@ ghost use Rattle.mb_core_spec.specs.State.{CallerState};
 ghost use Rattle.mb_journal.specs.Room.{HasEntryRoom, KeepsRoom};
 ghost use Rattle.mb_iface.specs.Changed.{AreChanges};
 ghost use Rattle.mb_core_state.specs.Answers.{IsPresent};
-ghost use Rattle.mb_core_state.specs.Finishing.{Finishes, HolderFlies, IsBusy, IsLogged, putting};
-ghost use Rattle.mb_core_state.specs.Rooms.{FinishLeaves, HasPins, LeavesEntry};
+ghost use Rattle.mb_core_state.specs.Finishing.{Finishes, HolderFlies, IsBusy, putting};
+ghost use Rattle.mb_core_state.specs.Rooms.{FinishLeaves, HasPins};
 
 use crate::answers::Finished;
 use crate::fields::Fields;

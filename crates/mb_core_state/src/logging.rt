@@ -4,7 +4,7 @@ ghost use Rattle.mb_tree.specs.Sessions.{HasDescriptorInRange};
 ghost use Rattle.mb_core_spec.specs.Events.{GivesBack, Leaves, entry_for, with_room};
 ghost use Rattle.mb_core_spec.specs.State.{CallerState};
 ghost use Rattle.mb_journal.specs.Room.{HasEntryRoom, KeepsRoom};
-ghost use Rattle.mb_core_state.specs.Finishing.{IsLogged, booking, putting};
+ghost use Rattle.mb_core_state.specs.Finishing.{booking, putting};
 ghost use Rattle.mb_core_state.specs.Rooms.{HasPins};
 
 use crate::fields::Fields;
