@@ -1,8 +1,6 @@
 -- What gathering comes to, from the copies that it stores.
-use Rattle.std.proofs.Common.{List, [], ◌∷◌, ◌++◌, ℕ, ◌+◌, ◌≡◌, ◌≤◌, ◌⊎◌, inl, inr, Bool, true, false, cond, nat_eq, if◌then◌else◌, Option, Some, IfSome, IsSome, option_map, refl, ap, sym, ◌∙◌, subst, arith}
-use Rattle.std.proofs.lemmas.Bool.Decides.{nat_tests}
+use Rattle.std.proofs.Common.{List, [], ◌∷◌, ◌++◌, ℕ, ◌+◌, ◌≡◌, ◌≤◌, inl, inr, Option, Some, IfSome, IsSome, option_map, refl, ap, sym, ◌∙◌, subst, arith}
 use Rattle.std.specs.List.{AllByRecursion}
-use Rattle.indexmap.specs.IndexMap.{insert_entry}
 use Rattle.mb_kinds.specs.Image.{Image}
 use Rattle.mb_iface.specs.Needs.{blocks_of}
 use Rattle.mb_iface.specs.declared.replies.Need.{Need}
@@ -12,14 +10,14 @@ use Rattle.mb_cache.specs.Pages.{under}
 use Rattle.mb_cache.specs.Stamps.{Stamps, stamp_of}
 use Rattle.mb_cache.specs.State.{CacheState, seen}
 use Rattle.mb_core_spec.specs.Callers.{total}
-use Rattle.mb_core_spec.specs.Copies.{CopyList, KeptBlock, LiveTables, PagesState, TableCopy, kept_at, shown}
+use Rattle.mb_core_spec.specs.Copies.{CopyList, LiveTables, PagesState, TableCopy, shown}
 use Rattle.mb_core_spec.specs.Events.{GivesBack}
 use Rattle.mb_core_spec.specs.Flights.{is_pin}
 use Rattle.mb_core_spec.specs.State.{CallerState}
 use Rattle.mb_callers.specs.CallerLaws.{Gathered, HasMore, IsGathering}
 use Rattle.mb_callers.specs.Gathering.{GathersBlocks, GathersTables, with_blocks, with_tables}
 use Rattle.mb_callers.specs.Pins.{pin_steps}
-use Rattle.mb_copies.specs.Reads.{AreRead, IsRead, numbers, stored}
+use Rattle.mb_copies.specs.Reads.{AreRead, numbers, stored}
 use Rattle.mb_copies.proofs.Numbers.{first_of}
 use Rattle.mb_copies.proofs.Stored.{stored_kept, stored_stays, stored_there}
 use Rattle.mb_callers.proofs.Sums.{total_append}

@@ -1,5 +1,5 @@
 -- Which block that was handed out is stale.
-use Rattle.std.specs.Prelude.{ℕ, ◌≡◌, ◌<◌, Bool, Option, Some}
+use Rattle.std.specs.Prelude.{ℕ, ◌≡◌, ◌<◌, Bool, Some}
 use Rattle.mb_cache.specs.Stamps.{Stamps}
 use Rattle.mb_core_spec.specs.Copies.{IsFresh, KeptBlock, LiveTables, PagesState, kept_at}
 use Rattle.mb_callers.specs.Tables.{AreTablesFresh}
