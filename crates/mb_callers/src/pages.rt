@@ -106,7 +106,8 @@ impl Pages {
     }
 
     /// What a call asks for, and, as far as a need has places for them, blocks that calls like this one looked at before and
-    /// that are not there. Which ones they are is a guess. The pages are as before; needs no memory.
+    /// that are not there. Which ones they are is a guess; without memory for a place of its kind there are none. The pages
+    /// are as before.
     pub fn foresee(&mut self, call: &Call, need: Need) -> Need
         ensures same { self.new ≡ self.old }
         ensures first { result.first ≡ need.first }

@@ -153,11 +153,27 @@ impl Foresight {
         }
     }
 
-    /// A call begins to gather blocks.
+    /// A call begins to gather blocks. Where there is no memory for a place of its kind, nothing is foreseen for it.
     pub fn begin(&mut self, call: &Call) {
-        self.kind = Some(kind_of(call));
+        let kind = kind_of(call);
+        self.kind = if self.make_place(kind) {
+            Some(kind)
+        } else {
+            None
+        };
         self.passed = 0;
         self.seen.set(0);
+    }
+
+    /// Makes a place for a kind, where it has none; `false` without memory.
+    fn make_place(&mut self, kind: u32) -> bool {
+        let place = kind as usize % KINDS;
+        'kinds: while self.calls.len() <= place {
+            if self.calls.push(Looked::none(0)).is_err() {
+                return false;
+            }
+        }
+        true
     }
 
     /// The call looked at the block that it gathered as the `place`-th one, from 0.
@@ -179,18 +195,15 @@ impl Foresight {
         Some(before.blocks[place])
     }
 
-    /// The call, which gathered these blocks, gathers no more.
+    /// The call, which gathered these blocks, gathers no more; needs no memory.
     pub fn end(&mut self, blocks: &[u32]) {
         let Some(kind) = self.kind.take() else {
             return;
         };
         let place = kind as usize % KINDS;
-        'kinds: while self.calls.len() <= place {
-            let Ok(()) = self.calls.push(Looked::none(0)) else {
-                return;
-            };
-        }
-        let before = self.calls[place];
+        let Some(before) = self.calls.get(place).copied() else {
+            return;
+        };
         let seen = self.seen.get();
         let mut looked = Looked::none(kind);
         for at in 0..blocks.len().min(32) {

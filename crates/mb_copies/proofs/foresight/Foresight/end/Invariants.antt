@@ -1,8 +1,5 @@
-use Rattle.std.proofs.Common.{◌<◌, ◌-◌, ◌+◌, length}
+use Rattle.std.proofs.Common.{◌<◌, length}
 use Rattle.mb_copies.proofs.foresight.Foresight.end.Given as goal
-
-abbrev pub decreases-kinds : goal.decreases-kinds
-decreases-kinds l = l.place + 1 - length l.self-inside.calls.items
 
 abbrev pub invariant-loop-at : goal.invariant-loop-at
 invariant-loop-at l = l.place < length l.self-inside.calls.items
