@@ -13,4 +13,4 @@ mod replies;
 mod transcripts;
 
 pub use causes::text_of_cause;
-pub use transcripts::{failed_line, last_line, soak_line, transcript};
+pub use transcripts::{failed_line, last_line, soak_line, transcript, transcript_with};

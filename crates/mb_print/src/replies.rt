@@ -1,12 +1,28 @@
 ghost use Rattle.std.specs.Prelude.{◌≡◌, ◌++◌, IfOk, OnOk};
+ghost use Rattle.hex.specs.Hex.{encode_lower};
 ghost use Rattle.mb_print.specs.Replies.{got_text, info_text, reply_text};
 
 use crate::numerals::{field, octal_digits, push_field, push_number};
 use mb_kinds::{Octets, Reply, Stat};
 use std::alloc::{AllocError, Global};
 
+/// Appends two digits for each byte.
+fn push_digits(out: &mut Vec<u8>, bytes: &[u8]) -> Result<(), AllocError>
+    ensures { OnOk result (out.new.items ≡ out.old.items ++ encode_lower bytes.now) }
+{
+    let first = out.len();
+    let Some(end) = first.checked_add(2 * bytes.len()) else {
+        return Err(AllocError);
+    };
+    out.resize(end, 0)?;
+    let Ok(()) = hex::encode_to_slice(bytes, &mut out[first..]) else {
+        unreachable!()
+    };
+    Ok(())
+}
+
 /// Appends the text of the bytes of a read.
-fn push_got(alloc: Global, out: &mut Vec<u8>, bytes: &Octets) -> Result<(), AllocError>
+fn push_got(out: &mut Vec<u8>, bytes: &Octets) -> Result<(), AllocError>
     ensures { OnOk result (out.new.items ≡ out.old.items ++ got_text bytes.now) }
 {
     let bytes = bytes.as_slice();
@@ -14,10 +30,8 @@ fn push_got(alloc: Global, out: &mut Vec<u8>, bytes: &Octets) -> Result<(), Allo
         return push_text(out, b"0");
     }
     push_number(out, bytes.len() as u64)?;
-    let digits = hex::encode(alloc, bytes)?;
     out.extend_from_slice(b" ")?;
-    out.extend_from_slice(digits.as_bytes())?;
-    Ok(())
+    push_digits(out, bytes)
 }
 
 /// The text of the fields of an inode.
@@ -60,7 +74,7 @@ pub(crate) fn push_reply(alloc: Global, out: &mut Vec<u8>, reply: &Reply) -> Res
 {
     match reply {
         Reply::Num(number) => push_number(out, u64::from(*number)),
-        Reply::Got(bytes) => push_got(alloc, out, bytes),
+        Reply::Got(bytes) => push_got(out, bytes),
         Reply::Info(stat) => push_text(out, &fields_of(alloc, stat)?),
         Reply::Refused(error) => push_text(out, error.name().as_bytes()),
         Reply::Restart { first, second } => push_restart(out, *first, *second),

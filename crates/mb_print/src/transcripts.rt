@@ -48,15 +48,9 @@ fn push_line(
     Ok(())
 }
 
-/// The printed text of a history: one line for each entry, `N CALLER TEXT = REPLY`, in order. N counts
-/// from 1, CALLER is the letter of the entry's caller, and the k-th entry of a caller carries the text
-/// of its k-th call. An entry past its caller's last call has an empty TEXT, and one of a caller that
-/// the job does not have an empty CALLER.
-///
-/// It takes time in proportion to the length of the history and of the job, for each of its callers.
-/// The only error is want of memory.
-pub fn transcript(alloc: Global, job: &Job, history: &[Entry]) -> Result<Text, AllocError>
-    ensures { IfOk result (λ text. text ≡ transcript_text job.now history.now) }
+/// The lines of a history.
+fn lines_of(alloc: Global, job: &Job, history: &[Entry]) -> Result<Vec<u8>, AllocError>
+    ensures { IfOk result (λ lines. lines.items ≡ transcript_text job.now history.now) }
 {
     let callers = job.callers.as_slice();
     let calls = job.calls.as_slice();
@@ -74,7 +68,34 @@ pub fn transcript(alloc: Global, job: &Job, history: &[Entry]) -> Result<Text, A
             &entry.reply,
         )?;
     }
-    Ok(Text::from_vec(out))
+    Ok(out)
+}
+
+/// The printed text of a history: one line for each entry, `N CALLER TEXT = REPLY`, in order. N counts
+/// from 1, CALLER is the letter of the entry's caller, and the k-th entry of a caller carries the text
+/// of its k-th call. An entry past its caller's last call has an empty TEXT, and one of a caller that
+/// the job does not have an empty CALLER.
+///
+/// It takes time in proportion to the length of the history and of the job, for each of its callers.
+/// The only error is want of memory.
+pub fn transcript(alloc: Global, job: &Job, history: &[Entry]) -> Result<Text, AllocError>
+    ensures { IfOk result (λ text. text ≡ transcript_text job.now history.now) }
+{
+    Ok(Text::from_vec(lines_of(alloc, job, history)?))
+}
+
+/// The same, and one more line behind it. The only error is want of memory.
+pub fn transcript_with(
+    alloc: Global,
+    job: &Job,
+    history: &[Entry],
+    line: &[u8],
+) -> Result<Text, AllocError>
+    ensures { IfOk result (λ text. text ≡ transcript_text job.now history.now ++ line.now) }
+{
+    let mut text = lines_of(alloc, job, history)?;
+    text.extend_from_slice(line)?;
+    Ok(Text::from_vec(text))
 }
 
 /// The numbers that stand at the end of a run: the entries, the fault records, and the entries at the

@@ -26,7 +26,7 @@ use mb_headline::{
     paths_fail,
 };
 use mb_jobs::{Job, Text};
-use mb_print::{failed_line, last_line, soak_line, transcript};
+use mb_print::{failed_line, last_line, soak_line, transcript_with};
 use mb_run::{DriveEnd, Driven, SettleEnd, Settled, drive, settle};
 use mb_threads::drive_threads;
 use mb_volume_core::VolumeCore;
@@ -251,8 +251,5 @@ fn with_line<D: Disk>(
 ) -> Result<Text, AllocError>
     ensures { IfOk result (λ text. text ≡ transcript_text job.now core.now.journal.history ++ line.now) }
 {
-    let lines = transcript(alloc, job, core.history())?;
-    let mut text = Vec::from_slice(alloc, lines.as_slice())?;
-    text.extend_from_slice(line)?;
-    Ok(Text::from_vec(text))
+    transcript_with(alloc, job, core.history(), line)
 }
