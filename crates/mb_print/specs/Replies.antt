@@ -17,11 +17,20 @@ abbrev pub got_text : List ℕ → List ℕ
 got_text [] = codes "0"
 got_text (byte ∷ more) = decimal (length (byte ∷ more)) ++ codes " " ++ encode_lower (byte ∷ more)
 
+-- the fields of an inode: its number and mode, who holds it, its size and times
+abbrev pub mode_text : Stat → List ℕ
+mode_text stat = codes "ino " ++ decimal stat.ino ++ codes " mode " ++ octal stat.mode
+
+abbrev pub owner_text : Stat → List ℕ
+owner_text stat = codes " nlink " ++ decimal stat.nlink ++ codes " uid " ++ decimal stat.uid ++ codes " gid " ++ decimal stat.gid
+
+abbrev pub size_text : Stat → List ℕ
+size_text stat =
+    codes " size " ++ decimal stat.size ++ codes " atime " ++ decimal stat.atime
+    ++ codes " mtime " ++ decimal stat.mtime ++ codes " ctime " ++ decimal stat.ctime
+
 abbrev pub info_text : Stat → List ℕ
-info_text stat =
-    codes "ino " ++ decimal stat.ino ++ codes " mode " ++ octal stat.mode ++ codes " nlink " ++ decimal stat.nlink
-    ++ codes " uid " ++ decimal stat.uid ++ codes " gid " ++ decimal stat.gid ++ codes " size " ++ decimal stat.size
-    ++ codes " atime " ++ decimal stat.atime ++ codes " mtime " ++ decimal stat.mtime ++ codes " ctime " ++ decimal stat.ctime
+info_text stat = mode_text stat ++ owner_text stat ++ size_text stat
 
 abbrev pub reply_text : Reply → List ℕ
 reply_text (Num number) = decimal number

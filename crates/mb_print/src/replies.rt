@@ -1,10 +1,10 @@
 ghost use Rattle.std.specs.Prelude.{◌≡◌, ◌++◌, IfOk, OnOk};
 ghost use Rattle.hex.specs.Hex.{encode_lower};
-ghost use Rattle.mb_print.specs.Replies.{got_text, info_text, reply_text};
+ghost use Rattle.mb_print.specs.Replies.{got_text, info_text, mode_text, owner_text, reply_text, size_text};
 
-use crate::numerals::{field, octal_digits, push_field, push_number};
+use crate::numerals::{octal_digits, push_field, push_number};
 use mb_kinds::{Octets, Reply, Stat};
-use std::alloc::{AllocError, Global};
+use std::alloc::AllocError;
 
 /// Appends two digits for each byte.
 fn push_digits(out: &mut Vec<u8>, bytes: &[u8]) -> Result<(), AllocError>
@@ -34,21 +34,42 @@ fn push_got(out: &mut Vec<u8>, bytes: &Octets) -> Result<(), AllocError>
     push_digits(out, bytes)
 }
 
-/// The text of the fields of an inode.
-fn fields_of(alloc: Global, stat: &Stat) -> Result<Vec<u8>, AllocError>
-    ensures { IfOk result (λ text. text.items ≡ info_text stat.now) }
+/// Appends the number and the mode of an inode.
+fn push_mode(out: &mut Vec<u8>, stat: &Stat) -> Result<(), AllocError>
+    ensures { OnOk result (out.new.items ≡ out.old.items ++ mode_text stat.now) }
 {
-    let mut out = field(alloc, b"ino ", u64::from(stat.ino))?;
+    push_field(out, b"ino ", u64::from(stat.ino))?;
     out.extend_from_slice(b" mode ")?;
     out.extend_from_slice(&octal_digits(stat.mode))?;
-    push_field(&mut out, b" nlink ", u64::from(stat.nlink))?;
-    push_field(&mut out, b" uid ", u64::from(stat.uid))?;
-    push_field(&mut out, b" gid ", u64::from(stat.gid))?;
-    push_field(&mut out, b" size ", u64::from(stat.size))?;
-    push_field(&mut out, b" atime ", u64::from(stat.atime))?;
-    push_field(&mut out, b" mtime ", u64::from(stat.mtime))?;
-    push_field(&mut out, b" ctime ", u64::from(stat.ctime))?;
-    Ok(out)
+    Ok(())
+}
+
+/// Appends how many names an inode has, and whose it is.
+fn push_owner(out: &mut Vec<u8>, stat: &Stat) -> Result<(), AllocError>
+    ensures { OnOk result (out.new.items ≡ out.old.items ++ owner_text stat.now) }
+{
+    push_field(out, b" nlink ", u64::from(stat.nlink))?;
+    push_field(out, b" uid ", u64::from(stat.uid))?;
+    push_field(out, b" gid ", u64::from(stat.gid))
+}
+
+/// Appends the size and the times of an inode.
+fn push_size(out: &mut Vec<u8>, stat: &Stat) -> Result<(), AllocError>
+    ensures { OnOk result (out.new.items ≡ out.old.items ++ size_text stat.now) }
+{
+    push_field(out, b" size ", u64::from(stat.size))?;
+    push_field(out, b" atime ", u64::from(stat.atime))?;
+    push_field(out, b" mtime ", u64::from(stat.mtime))?;
+    push_field(out, b" ctime ", u64::from(stat.ctime))
+}
+
+/// Appends the text of the fields of an inode.
+fn push_info(out: &mut Vec<u8>, stat: &Stat) -> Result<(), AllocError>
+    ensures { OnOk result (out.new.items ≡ out.old.items ++ info_text stat.now) }
+{
+    push_mode(out, stat)?;
+    push_owner(out, stat)?;
+    push_size(out, stat)
 }
 
 /// Appends the text of the numbers of two fault records.
@@ -69,13 +90,13 @@ fn push_text(out: &mut Vec<u8>, text: &[u8]) -> Result<(), AllocError>
 }
 
 /// Appends the printed text of a reply.
-pub(crate) fn push_reply(alloc: Global, out: &mut Vec<u8>, reply: &Reply) -> Result<(), AllocError>
+pub(crate) fn push_reply(out: &mut Vec<u8>, reply: &Reply) -> Result<(), AllocError>
     ensures { OnOk result (out.new.items ≡ out.old.items ++ reply_text reply.now) }
 {
     match reply {
         Reply::Num(number) => push_number(out, u64::from(*number)),
         Reply::Got(bytes) => push_got(out, bytes),
-        Reply::Info(stat) => push_text(out, &fields_of(alloc, stat)?),
+        Reply::Info(stat) => push_info(out, stat),
         Reply::Refused(error) => push_text(out, error.name().as_bytes()),
         Reply::Restart { first, second } => push_restart(out, *first, *second),
         Reply::Device => push_text(out, b"EIO device"),

@@ -29,7 +29,6 @@ fn push_head(
 
 /// Appends one line of a transcript.
 fn push_line(
-    alloc: Global,
     out: &mut Vec<u8>,
     number: u64,
     callers: &[Caller],
@@ -43,7 +42,7 @@ fn push_line(
     out.extend_from_slice(b" ")?;
     out.extend_from_slice(text)?;
     out.extend_from_slice(b" = ")?;
-    push_reply(alloc, out, reply)?;
+    push_reply(out, reply)?;
     out.push(b'\n')?;
     Ok(())
 }
@@ -59,7 +58,6 @@ fn lines_of(alloc: Global, job: &Job, history: &[Entry]) -> Result<Vec<u8>, Allo
     'entries: for (index, entry) in history.iter().enumerate() {
         let text = next_text(calls, &mut places, entry.caller);
         push_line(
-            alloc,
             &mut out,
             index as u64 + 1,
             callers,
