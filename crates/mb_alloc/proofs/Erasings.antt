@@ -7,7 +7,7 @@ use Rattle.mb_word.specs.Numbers.{word_at, put_at, word_bytes, SameFrom}
 use Rattle.mb_word.proofs.Writes.{put_at_same, put_at_in, length-put_at}
 use Rattle.mb_word.proofs.Values.{word_back, word_at-same, length-word_bytes}
 use Rattle.mb_layout.proofs.InodeOrder.{inodes_apart}
-use Rattle.mb_iface.specs.Changed.{put_block}
+use Rattle.mb_kinds.specs.Changed.{put_block}
 use Rattle.mb_iface.proofs.ChangedBlocks.{put_block_same, put_block_other}
 use Rattle.mb_blocks.specs.Rules.{KeepsRules}
 use Rattle.mb_alloc.specs.Numbers.{cached_below, cached_in, IsCacheSet}

@@ -10,7 +10,7 @@ use Rattle.mb_word.proofs.Values.{word_back, long_back, word_at-same, long_at-sa
 use Rattle.mb_layout.proofs.Steps.{word_alike, long_alike}
 use Rattle.mb_tree.specs.Blocks.{first_list}
 use Rattle.mb_tree.specs.Chain.{Listed}
-use Rattle.mb_iface.specs.Changed.{put_block}
+use Rattle.mb_kinds.specs.Changed.{put_block}
 use Rattle.mb_iface.proofs.ChangedBlocks.{put_block_same, put_block_other}
 use Rattle.mb_blocks.specs.FreeLists.{IsSameList, IsFreed, pushed, ended, emptied, after_freeing}
 use Rattle.mb_blocks.specs.Rules.{KeepsRules}

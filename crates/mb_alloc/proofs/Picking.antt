@@ -5,7 +5,7 @@ use Rattle.mb_word.specs.Numbers.{word_at, put_at, word_bytes, SameFrom}
 use Rattle.mb_word.proofs.Writes.{put_at_same, length-put_at}
 use Rattle.mb_word.proofs.Values.{word_back, word_at-same}
 use Rattle.mb_tree.specs.Views.{over, IsPart}
-use Rattle.mb_iface.specs.Changed.{ChangeList, changed, put_block}
+use Rattle.mb_kinds.specs.Changed.{ChangeList, changed, put_block}
 use Rattle.mb_iface.proofs.ChangedBlocks.{put_block_same, put_block_other}
 use Rattle.mb_blocks.specs.Rules.{KeepsRules}
 use Rattle.mb_alloc.specs.Numbers.{is_free_number, cached_below, cached_in, pick_from, IsCacheSet}

@@ -12,7 +12,7 @@ use Rattle.mb_word.proofs.Values.{word_back, word_at-same, length-word_bytes}
 use Rattle.mb_layout.proofs.Steps.{word_alike}
 use Rattle.mb_tree.specs.Views.{over, IsPart}
 use Rattle.mb_tree.specs.Volume.{last_inode}
-use Rattle.mb_iface.specs.Changed.{ChangeList, changed, put_block}
+use Rattle.mb_kinds.specs.Changed.{ChangeList, changed, put_block}
 use Rattle.mb_iface.proofs.ChangedBlocks.{put_block_same, put_block_other}
 use Rattle.mb_blocks.specs.Rules.{KeepsRules}
 use Rattle.mb_alloc.specs.Numbers.{is_free_number, cached_below, cached_in, free_below, free_numbers, pick_from, pick_of, IsCacheSet, Picks, PicksCached}

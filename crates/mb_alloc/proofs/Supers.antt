@@ -1,6 +1,6 @@
 -- The super-block, found among the changes or in the view.
 use Rattle.std.proofs.Common.{ℕ, ◌≡◌, List, Option, Some, None, IfSome, slice_get, unwrap_or, sym, ap, subst, ◌∙◌}
-use Rattle.mb_iface.specs.Changed.{ChangeList, changed}
+use Rattle.mb_kinds.specs.Changed.{ChangeList, changed}
 use Rattle.mb_iface.specs.Places.{StandsAt}
 use Rattle.mb_iface.proofs.Editing.{over_changed, over_unchanged}
 use Rattle.mb_alloc.specs.Taking.{IsSuper}

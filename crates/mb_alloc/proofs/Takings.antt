@@ -10,7 +10,7 @@ use Rattle.mb_word.proofs.Values.{word_back, long_at-same, length-word_bytes}
 use Rattle.mb_layout.proofs.Steps.{word_alike, long_alike}
 use Rattle.mb_tree.specs.Blocks.{first_list}
 use Rattle.mb_tree.specs.Chain.{IsNext, after_taking}
-use Rattle.mb_iface.specs.Changed.{put_block}
+use Rattle.mb_kinds.specs.Changed.{put_block}
 use Rattle.mb_iface.proofs.ChangedBlocks.{put_block_same, put_block_other}
 use Rattle.mb_blocks.specs.FreeLists.{IsTaken}
 use Rattle.mb_kinds.specs.Image.{zeros}

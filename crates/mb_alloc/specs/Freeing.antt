@@ -3,7 +3,7 @@ use Rattle.std.specs.Prelude.{List, ℕ, ◌≡◌, ◌<◌, ◌≢◌, Option, 
 use Rattle.mb_word.specs.Fields.{nfree_of}
 use Rattle.mb_tree.specs.Blocks.{first_list}
 use Rattle.mb_tree.specs.Views.{over, IsPart}
-use Rattle.mb_iface.specs.Changed.{ChangeList, changed, shown_over, IsWithinView}
+use Rattle.mb_kinds.specs.Changed.{ChangeList, changed, shown_over, IsWithinView}
 use Rattle.mb_iface.specs.Needs.{IsNeed}
 use Rattle.mb_blocks.specs.FreeLists.{IsFreed}
 use Rattle.mb_blocks.specs.Rules.{KeepsRules}

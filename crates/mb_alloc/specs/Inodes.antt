@@ -2,7 +2,7 @@
 use Rattle.std.specs.Prelude.{List, ◌∷◌, ℕ, ◌+◌, ◌*◌, ◌<◌, ◌≤◌, ◌≡◌, ◌≢◌, ◌⊎◌, Option, slice_index}
 use Rattle.mb_word.specs.Fields.{ninode_of, inode_block, inode_place}
 use Rattle.mb_tree.specs.Views.{over, IsPart}
-use Rattle.mb_iface.specs.Changed.{ChangeList, changed, IsWithinView}
+use Rattle.mb_kinds.specs.Changed.{ChangeList, changed, IsWithinView}
 use Rattle.mb_iface.specs.Needs.{IsNeed}
 use Rattle.mb_blocks.specs.Inodes.{IsRewritten}
 use Rattle.mb_blocks.specs.Rules.{KeepsRules}

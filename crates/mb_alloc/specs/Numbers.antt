@@ -5,7 +5,7 @@ use Rattle.mb_tree.specs.Volume.{last_inode}
 use Rattle.mb_word.specs.Fields.{isize_of, ninode_of, cached_of, inode_block, inode_place, mode_of}
 use Rattle.mb_word.specs.Numbers.{SameFrom}
 use Rattle.mb_tree.specs.Views.{over, IsPart}
-use Rattle.mb_iface.specs.Changed.{ChangeList, changed, IsWithinView}
+use Rattle.mb_kinds.specs.Changed.{ChangeList, changed, IsWithinView}
 use Rattle.mb_iface.specs.Needs.{IsNeed}
 use Rattle.mb_blocks.specs.Rules.{KeepsRules}
 use Rattle.mb_alloc.specs.declared.numbers.Freedom.{Freedom}

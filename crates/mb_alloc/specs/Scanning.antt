@@ -3,7 +3,7 @@ use Rattle.std.specs.Prelude.{List, [], ◌∷◌, ℕ, zero, suc, ◌+◌, ◌-
 use Rattle.mb_word.specs.Fields.{isize_of}
 use Rattle.mb_word.specs.Numbers.{word_at}
 use Rattle.mb_tree.specs.Views.{over, IsPart}
-use Rattle.mb_iface.specs.Changed.{ChangeList, changed, IsWithinView}
+use Rattle.mb_kinds.specs.Changed.{ChangeList, changed, IsWithinView}
 use Rattle.mb_iface.specs.Needs.{IsNeed}
 use Rattle.mb_blocks.specs.Rules.{KeepsRules}
 use Rattle.mb_alloc.specs.Numbers.{free_numbers, is_free_number, IsCacheSet}

@@ -1,5 +1,5 @@
 ghost use Rattle.std.specs.Prelude.{◌≡◌, ◌<◌, ◌≤◌, length, replicate, take, None, MatchOption};
-ghost use Rattle.mb_iface.specs.Changed.{shown_over};
+ghost use Rattle.mb_kinds.specs.Changed.{shown_over};
 ghost use Rattle.mb_iface.specs.Pairs.{PutsAndEdits};
 ghost use Rattle.mb_alloc.specs.Taking.{Takes, TakesZeroed, TellsNext, IsSuper, IsSuperPlace};
 

@@ -8,7 +8,7 @@ use Rattle.mb_word.specs.Numbers.{put_at, long_bytes, addr_bytes}
 use Rattle.mb_tree.specs.Blocks.{entry_in}
 use Rattle.mb_tree.specs.Places.{at}
 use Rattle.mb_tree.specs.Views.{over}
-use Rattle.mb_iface.specs.Changed.{ChangeList, changed, put_block}
+use Rattle.mb_kinds.specs.Changed.{ChangeList, changed, put_block}
 use Rattle.mb_iface.specs.Pairs.{HasPutAndEdited}
 use Rattle.mb_iface.proofs.ChangedBlocks.{put_block_same, put_block_other}
 use Rattle.mb_blocks.specs.Growing.{IsZeroed, IsEntrySet, SetsPlace}

@@ -5,7 +5,7 @@ use Rattle.mb_word.specs.Fields.{inode_block, inode_place, address_of, index_ent
 use Rattle.mb_tree.specs.Blocks.{pointers, part_address}
 use Rattle.mb_tree.specs.Places.{at}
 use Rattle.mb_tree.specs.Views.{over, IsPart}
-use Rattle.mb_iface.specs.Changed.{ChangeList, changed}
+use Rattle.mb_kinds.specs.Changed.{ChangeList, changed}
 use Rattle.mb_blocks.proofs.PartBytes.{entry_is}
 use Rattle.mb_bmap.specs.declared.routes.Route.{Route}
 use Rattle.mb_bmap.specs.Ways.{route_of, way}

@@ -5,7 +5,7 @@ use Rattle.std.proofs.lemmas.List.{drop_all, append-nil}
 use Rattle.mb_word.specs.Fields.{inode_block, inode_place}
 use Rattle.mb_word.specs.Numbers.{put_at, long_bytes, addr_bytes}
 use Rattle.mb_word.proofs.Values.{length-long_bytes, length-addr_bytes}
-use Rattle.mb_iface.specs.Changed.{put_block}
+use Rattle.mb_kinds.specs.Changed.{put_block}
 use Rattle.mb_iface.proofs.ChangedBlocks.{put_block_same, put_block_other}
 use Rattle.mb_blocks.specs.Growing.{IsEntrySet, IsTopSet}
 use Rattle.mb_blocks.proofs.SetBytes.{entry_set, top_set}

@@ -12,7 +12,7 @@ use Rattle.mb_tree.specs.Chain.{Listed, IsNext, IsChain}
 use Rattle.mb_tree.specs.Places.{Place, Pointers, at, level, IsPlace, place_of}
 use Rattle.mb_tree.specs.Places.Place.{Top, Under}
 use Rattle.mb_tree.specs.Views.{over, IsPart}
-use Rattle.mb_iface.specs.Changed.{ChangeList, changed, IsWithinView}
+use Rattle.mb_kinds.specs.Changed.{ChangeList, changed, IsWithinView}
 use Rattle.mb_blocks.specs.Laid.IsHad.{by_place, by_none}
 use Rattle.mb_blocks.specs.Growing.{IsEntrySet, IsTopSet, Reaches, Grows, hole, missing}
 use Rattle.mb_blocks.proofs.Frames.{not_on_own_way}

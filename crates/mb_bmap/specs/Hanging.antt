@@ -3,7 +3,7 @@ use Rattle.std.specs.Prelude.{List, ℕ, ◌<◌, ◌≡◌, ◌⊎◌, Bool, co
 use Rattle.mb_kinds.specs.Image.{zeros}
 use Rattle.mb_word.specs.Numbers.{put_at}
 use Rattle.mb_tree.specs.Views.{over, IsPart}
-use Rattle.mb_iface.specs.Changed.{ChangeList, changed, put_block, IsWithinView}
+use Rattle.mb_kinds.specs.Changed.{ChangeList, changed, put_block, IsWithinView}
 use Rattle.mb_iface.specs.Needs.{IsNeed}
 use Rattle.mb_blocks.specs.Growing.{IsZeroed, SetsPlace}
 use Rattle.mb_bmap.specs.Ways.{way}

@@ -5,7 +5,7 @@ use Rattle.mb_tree.specs.Blocks.{pointers, first_list}
 use Rattle.mb_tree.specs.Chain.{IsNext}
 use Rattle.mb_tree.specs.Places.{at, place_of}
 use Rattle.mb_tree.specs.Views.{over, IsPart}
-use Rattle.mb_iface.specs.Changed.{ChangeList, changed, IsWithinView}
+use Rattle.mb_kinds.specs.Changed.{ChangeList, changed, IsWithinView}
 use Rattle.mb_iface.specs.Needs.{IsNeed}
 use Rattle.mb_blocks.specs.Laid.{IsLaid, IsHad}
 use Rattle.mb_blocks.specs.Growing.{IsEntrySet, IsTopSet, Reaches, missing}

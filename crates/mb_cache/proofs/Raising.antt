@@ -7,7 +7,7 @@ use Rattle.std.specs.Map.{lookup, keys_of}
 use Rattle.std.proofs.lemmas.Map.Keys.{IsDistinct-head, IsDistinct-tail}
 use Rattle.indexmap.specs.IndexMap.{insert_entry}
 use Rattle.mb_kinds.specs.Image.{Image}
-use Rattle.mb_iface.specs.Changed.{ChangeList, AreChanges, changed}
+use Rattle.mb_kinds.specs.Changed.{ChangeList, AreChanges, changed}
 use Rattle.mb_cache.specs.Pages.{PageList, under, installed}
 use Rattle.mb_cache.specs.Stamps.{Stamps, stamp_of, raised, raised_by}
 use Rattle.mb_cache.specs.CacheLaws.{Moves, MovesAt}

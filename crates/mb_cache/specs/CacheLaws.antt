@@ -3,7 +3,7 @@ use Rattle.std.specs.Prelude.{List, ℕ, ◌+◌, ◌-◌, ◌^◌, ◌<◌, ◌
 use Rattle.mb_kinds.specs.Image.{Image}
 use Rattle.mb_edge.specs.Damage.{OpenCounts, damaged}
 use Rattle.mb_edge.specs.declared.strokes.Stroke.{Stroke}
-use Rattle.mb_iface.specs.Changed.{ChangeList, AreChanges, changed}
+use Rattle.mb_kinds.specs.Changed.{ChangeList, AreChanges, changed}
 use Rattle.mb_cache.specs.Pages.{PageList, page_at, under, installed, pages_damaged}
 use Rattle.mb_cache.specs.Stamps.{Stamps, stamp_of, raised_by}
 

@@ -5,7 +5,8 @@
 //! is its current page, else its checkpointed page, else the disk's block: `seen`, and the law `seen_in_layers`. The
 //! current pages are an exact list. Of the checkpointed pages contracts say what is read under them and which page a
 //! write-back takes. What a fault leaves of pages is `pages_damaged` (`specs/Pages.antt`), what a stamp is `stamp_of`
-//! (`specs/Stamps.antt`), and the laws by which a caller reasons stand in `specs/CacheLaws.antt`.
+//! (`specs/Stamps.antt`), what is kept of a block with its stamp a `KeptBlock` (`specs/Kept.antt`), and the laws by which a
+//! caller reasons stand in `specs/CacheLaws.antt`.
 //!
 //! The pages stand in two rings (`mb_layers`), so that neither a checkpoint nor a drop of the current pages grows with the
 //! number of pages: the links that they write are counted.

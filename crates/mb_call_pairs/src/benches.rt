@@ -1,6 +1,6 @@
 ghost use Rattle.std.specs.Prelude.{◌<◌, IfOk, length};
 ghost use Rattle.mb_calls.specs.Following.{ViewGrows};
-ghost use Rattle.mb_iface.specs.Changed.{changed};
+ghost use Rattle.mb_kinds.specs.Changed.{changed};
 ghost use Rattle.mb_tree.specs.Sessions.{HasDescriptorInRange};
 
 use mb_calls::{Performed, Performing, Ready, perform, walks_go_on};

@@ -10,7 +10,8 @@ use Rattle.mb_cache.specs.Pages.{under}
 use Rattle.mb_cache.specs.Stamps.{Stamps, stamp_of}
 use Rattle.mb_cache.specs.State.{CacheState, seen}
 use Rattle.mb_core_spec.specs.Callers.{total}
-use Rattle.mb_core_spec.specs.Copies.{CopyList, LiveTables, PagesState, TableCopy, shown}
+use Rattle.mb_cache.specs.Kept.{CopyList, shown}
+use Rattle.mb_core_spec.specs.Copies.{LiveTables, PagesState, TableCopy}
 use Rattle.mb_core_spec.specs.Events.{GivesBack}
 use Rattle.mb_core_spec.specs.Flights.{is_pin}
 use Rattle.mb_core_spec.specs.State.{CallerState}

@@ -3,7 +3,7 @@ use Rattle.std.proofs.Common.{List, [], ◌∷◌, ◌++◌, ℕ, ◌+◌, ◌�
 use Rattle.std.proofs.lemmas.Bool.Decides.{nat_tests}
 use Rattle.mb_cache.proofs.PageLoops.{next_first}
 use Rattle.mb_cache.specs.State.{CacheState}
-use Rattle.mb_core_spec.specs.Copies.{CopyList, KeptBlock}
+use Rattle.mb_cache.specs.Kept.{CopyList, KeptBlock}
 use Rattle.mb_callers.specs.Pins.{pin_steps}
 use Rattle.mb_core_spec.specs.Callers.{one_if, total}
 use Rattle.mb_core_spec.specs.Flights.{is_pin}

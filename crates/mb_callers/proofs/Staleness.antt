@@ -6,7 +6,8 @@ use Rattle.std.proofs.lemmas.Slice.Eq.{bytes_eq-Decides}
 use Rattle.std.specs.List.{AllByRecursion, IsDistinct}
 use Rattle.std.specs.Map.{keys_of}
 use Rattle.mb_cache.specs.Stamps.{Stamps, stamp_of}
-use Rattle.mb_core_spec.specs.Copies.{CopyList, IsFresh, KeptBlock, LiveTables, PagesState, kept_at}
+use Rattle.mb_cache.specs.Kept.{CopyList, KeptBlock, kept_at}
+use Rattle.mb_core_spec.specs.Copies.{IsFresh, LiveTables, PagesState}
 use Rattle.mb_callers.specs.Stale.{AllFresh, IsLeastStale}
 use Rattle.mb_copies.specs.Stale.{is_fresh, is_same, least_stale, lesser, stale_step}
 use Rattle.mb_callers.specs.Tables.{AreTablesFresh}

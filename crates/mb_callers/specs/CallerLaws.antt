@@ -6,7 +6,8 @@ use Rattle.mb_cache.specs.Pages.{under}
 use Rattle.mb_cache.specs.Stamps.{Stamps, stamp_of}
 use Rattle.mb_cache.specs.State.{CacheState}
 use Rattle.mb_core_spec.specs.Callers.{total}
-use Rattle.mb_core_spec.specs.Copies.{AreFresh, HoldsFloor, KeptBlock, LiveTables, PagesState, TableCopy, TablesAreFresh, kept_at, shown}
+use Rattle.mb_cache.specs.Kept.{KeptBlock, kept_at, shown}
+use Rattle.mb_core_spec.specs.Copies.{AreFresh, HoldsFloor, LiveTables, PagesState, TableCopy, TablesAreFresh}
 use Rattle.mb_core_spec.specs.Events.{Gathers}
 use Rattle.mb_core_spec.specs.Flights.{is_pin}
 use Rattle.mb_core_spec.specs.State.{CallerState}

@@ -7,7 +7,8 @@ use Rattle.mb_room.specs.Room.{Roomy}
 use Rattle.mb_gate.specs.declared.ulogs.Undo.{Undo}
 use Rattle.mb_gate.specs.declared.ulogs.Undo.TheVariants as undo
 use Rattle.mb_cache.specs.State.{CacheState, seen}
-use Rattle.mb_core_spec.specs.Copies.{CopyList, PagesState, TableCopy}
+use Rattle.mb_cache.specs.Kept.{CopyList}
+use Rattle.mb_core_spec.specs.Copies.{PagesState, TableCopy}
 use Rattle.mb_core_spec.specs.Events.{GivesBack}
 use Rattle.mb_core_spec.specs.State.{CallerState}
 use Rattle.mb_callers.specs.Pins.{pin_steps}

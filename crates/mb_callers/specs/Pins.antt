@@ -1,6 +1,6 @@
 -- The steps of an undo log that say what a call pinned.
 use Rattle.std.specs.Prelude.{List, ℕ, map}
-use Rattle.mb_core_spec.specs.Copies.{CopyList, KeptBlock}
+use Rattle.mb_cache.specs.Kept.{CopyList, KeptBlock}
 use Rattle.mb_gate.specs.declared.ulogs.Undo.{Undo}
 use Rattle.mb_gate.specs.declared.ulogs.Undo.TheVariants as undo
 

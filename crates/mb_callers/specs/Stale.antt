@@ -1,7 +1,8 @@
 -- Which block that was handed out is stale.
 use Rattle.std.specs.Prelude.{ℕ, ◌≡◌, ◌<◌, Bool, Some}
 use Rattle.mb_cache.specs.Stamps.{Stamps}
-use Rattle.mb_core_spec.specs.Copies.{IsFresh, KeptBlock, LiveTables, PagesState, kept_at}
+use Rattle.mb_cache.specs.Kept.{KeptBlock, kept_at}
+use Rattle.mb_core_spec.specs.Copies.{IsFresh, LiveTables, PagesState}
 use Rattle.mb_callers.specs.Tables.{AreTablesFresh}
 
 -- what was handed out of a block is what is kept, and it did not change since; block 0 stands for the tables

@@ -1,5 +1,6 @@
 ghost use Rattle.std.specs.Prelude.{◌≡◌, ◌<◌, [], ℕ, None, option_copied, option_map, IfNone, IfSome};
-ghost use Rattle.mb_core_spec.specs.Copies.{KeptBlock, LiveTables, TableCopy, kept_at, no_pages, shown};
+ghost use Rattle.mb_cache.specs.Kept.{KeptBlock, kept_at, shown};
+ghost use Rattle.mb_core_spec.specs.Copies.{LiveTables, TableCopy, no_pages};
 ghost use Rattle.mb_callers.specs.Stale.{AllFresh, IsLeastStale};
 
 use crate::tables::TablePlace;
@@ -172,7 +173,7 @@ impl Pages {
 }
 
 impl View for Pages {
-    ghost use Rattle.mb_core_spec.specs.Copies.{shown};
+    ghost use Rattle.mb_cache.specs.Kept.{shown};
 
     ghost shown = { λ p. shown p.blocks };
 

@@ -3,7 +3,7 @@ use Rattle.std.proofs.Common.{◌≡◌, ℕ, Bool, List, [], Option, Some, None
 use Rattle.std.specs.Prelude.{IsSome}
 use Rattle.mb_kinds.specs.Image.{Image}
 use Rattle.mb_iface.specs.Acting.{Acts}
-use Rattle.mb_iface.specs.Changed.{IsWithinView, changed}
+use Rattle.mb_kinds.specs.Changed.{IsWithinView, changed}
 use Rattle.mb_iface.specs.Near.{IsNear, IsTouched}
 use Rattle.mb_iface.specs.OpenCounts.{count_of}
 use Rattle.mb_iface.specs.declared.replies.Acted.TheVariants as acted

@@ -26,7 +26,7 @@ use Rattle.mb_tree.specs.declared.trees.Tree.{Tree}
 use Rattle.mb_tree.proofs.Always.{bind_ok, same_ok}
 use Rattle.mb_tree.proofs.Rows.{plain_row}
 use Rattle.mb_tree.specs.Plans.{IsServedReply}
-use Rattle.mb_iface.specs.Changed.{IsWithinView}
+use Rattle.mb_kinds.specs.Changed.{IsWithinView}
 use Rattle.mb_iface.specs.Near.{IsNear, IsTouched}
 use Rattle.mb_iface.specs.declared.replies.Need.{Need}
 use Rattle.mb_calls.specs.Endings.{ActsNear, EndsNear, IsEndOf, Ends, HasActed, ready_refused}

@@ -7,7 +7,7 @@ use Rattle.mb_kinds.specs.declared.errors.Errno.{Errno}
 use Rattle.mb_kinds.specs.declared.replies.Reply.{Reply}
 use Rattle.mb_kinds.specs.declared.replies.Reply.TheVariants.{Refused}
 use Rattle.mb_iface.specs.Acting.{with_changes}
-use Rattle.mb_iface.specs.Changed.{IsWithinView}
+use Rattle.mb_kinds.specs.Changed.{IsWithinView}
 use Rattle.mb_iface.specs.Near.{IsNear}
 use Rattle.mb_iface.specs.Needs.{IsNeed}
 use Rattle.mb_iface.specs.OpenCounts.{count_of}

@@ -5,7 +5,7 @@ use Rattle.mb_kinds.specs.Image.{Image}
 use Rattle.mb_iface.proofs.NeedBlocks.{all_append}
 use Rattle.mb_cache.proofs.PageLoops.{next_first}
 use Rattle.mb_cache.specs.Stamps.{Stamps}
-use Rattle.mb_core_spec.specs.Copies.{CopyList, KeptBlock}
+use Rattle.mb_cache.specs.Kept.{CopyList, KeptBlock}
 use Rattle.mb_copies.specs.Reads.{AreRead, IsRead, stored}
 
 -- one copy more is stored

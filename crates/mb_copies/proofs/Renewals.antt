@@ -10,9 +10,9 @@ use Rattle.indexmap.specs.IndexMap.{set_value_at}
 use Rattle.indexmap.specs.Layout.{hash_map}
 use Rattle.indexmap.proofs.CallerLemmas.{updates-with_value_at}
 use Rattle.mb_cache.proofs.PageLoops.{next_first}
-use Rattle.mb_iface.specs.Changed.{ChangeList, changed}
+use Rattle.mb_kinds.specs.Changed.{ChangeList, changed}
 use Rattle.mb_tree.specs.Views.{IsPart, over}
-use Rattle.mb_core_spec.specs.Copies.{CopyList, KeptBlock, kept_at, shown}
+use Rattle.mb_cache.specs.Kept.{CopyList, KeptBlock, kept_at, shown}
 use Rattle.mb_copies.specs.Reads.{renewed}
 
 -- ---- one copy

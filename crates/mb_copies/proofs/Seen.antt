@@ -6,7 +6,7 @@ use Rattle.mb_iface.specs.declared.replies.Need.{Need}
 use Rattle.mb_kinds.specs.Image.{Image}
 use Rattle.mb_tree.specs.Views.{IsPart}
 use Rattle.mb_cache.specs.Stamps.{Stamps}
-use Rattle.mb_core_spec.specs.Copies.{CopyList, KeptBlock, kept_at, shown}
+use Rattle.mb_cache.specs.Kept.{CopyList, KeptBlock, kept_at, shown}
 use Rattle.mb_copies.specs.Reads.{AreRead, GathersSeen, numbers, stored}
 use Rattle.mb_copies.proofs.Stored.{stored_kept, stored_stays, stored_there}
 

@@ -5,7 +5,7 @@ use Rattle.std.specs.List.{AllByRecursion}
 use Rattle.indexmap.specs.IndexMap.{insert_entry}
 use Rattle.mb_kinds.specs.Image.{Image}
 use Rattle.mb_cache.specs.Stamps.{Stamps}
-use Rattle.mb_core_spec.specs.Copies.{CopyList, KeptBlock, kept_at, shown}
+use Rattle.mb_cache.specs.Kept.{CopyList, KeptBlock, kept_at, shown}
 use Rattle.mb_copies.specs.Reads.{AreRead, IsRead, numbers, stored}
 
 -- ---- one copy stored

@@ -8,7 +8,7 @@ use Rattle.std.specs.List.{IsDistinct, list_any, position_or_len, zip}
 use Rattle.std.specs.Map.{keys_of}
 use Rattle.indexmap.specs.IndexMap.{insert_entry, set_value_at}
 use Rattle.indexmap.specs.IndexSet.{insert_key}
-use Rattle.mb_core_spec.specs.Copies.{KeptBlock, kept_at}
+use Rattle.mb_cache.specs.Kept.{KeptBlock, kept_at}
 
 pub length_zip : (ks : List ℕ) (vs : List KeptBlock) → length ks ≤ length vs → length (zip ks vs) ≡ length ks
 length_zip [] vs few = refl

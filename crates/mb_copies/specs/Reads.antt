@@ -2,13 +2,13 @@
 use Rattle.std.specs.Prelude.{List, ℕ, ◌≡◌, Option, Some, IfSome, IsSome, map, nat_eq, option_map, unwrap_or}
 use Rattle.std.specs.List.{AllByRecursion}
 use Rattle.indexmap.specs.IndexMap.{insert_all}
-use Rattle.mb_iface.specs.Changed.{ChangeList, changed}
+use Rattle.mb_kinds.specs.Changed.{ChangeList, changed}
 use Rattle.mb_iface.specs.Needs.{blocks_of}
 use Rattle.mb_iface.specs.declared.replies.Need.{Need}
 use Rattle.mb_kinds.specs.Image.{Image}
 use Rattle.mb_cache.specs.Stamps.{Stamps, stamp_of}
 use Rattle.mb_tree.specs.Views.{IsPart}
-use Rattle.mb_core_spec.specs.Copies.{CopyList, KeptBlock, shown}
+use Rattle.mb_cache.specs.Kept.{CopyList, KeptBlock, shown}
 
 -- a block with its bytes as they are seen, and its present stamp
 pub record IsRead (view : Option Image) (stamps : Stamps) (read : ℕ × KeptBlock) : Type 0 where

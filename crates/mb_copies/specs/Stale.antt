@@ -1,7 +1,7 @@
 -- Which copy that was handed out is stale.
 use Rattle.std.specs.Prelude.{ℕ, Bool, false, ◌&&◌, if◌then◌else◌, Option, None, Some, min, fold, nat_eq, bytes_eq}
 use Rattle.mb_cache.specs.Stamps.{Stamps, stamp_of}
-use Rattle.mb_core_spec.specs.Copies.{CopyList, KeptBlock, kept_at}
+use Rattle.mb_cache.specs.Kept.{CopyList, KeptBlock, kept_at}
 
 -- a copy has these bytes and this stamp
 abbrev pub is_same : Option KeptBlock → ℕ → KeptBlock → Bool

@@ -1,7 +1,7 @@
 ghost use Rattle.std.specs.Prelude.{◌≡◌, ◌≤◌, ◌<◌, ◌+◌, [], ℕ, List, Some, length, OnOk, OnErr, option_copied};
 ghost use Rattle.mb_cache.specs.State.{ReadHasCause, seen};
-ghost use Rattle.mb_core_spec.specs.Copies.{shown};
-ghost use Rattle.mb_iface.specs.Changed.{changed};
+ghost use Rattle.mb_cache.specs.Kept.{shown};
+ghost use Rattle.mb_kinds.specs.Changed.{changed};
 ghost use Rattle.mb_tree.specs.Views.{IsPart, over};
 ghost use Rattle.mb_copies.specs.Reads.{GathersSeen};
 
@@ -31,7 +31,7 @@ impl Drop for Blocks {
 }
 
 impl Model for Blocks {
-    ghost use Rattle.mb_core_spec.specs.Copies.{CopyList};
+    ghost use Rattle.mb_cache.specs.Kept.{CopyList};
 
     ghost Value = { CopyList };
 
@@ -87,7 +87,7 @@ impl Blocks {
 }
 
 impl View for Blocks {
-    ghost use Rattle.mb_core_spec.specs.Copies.{shown};
+    ghost use Rattle.mb_cache.specs.Kept.{shown};
 
     ghost shown = { λ b. shown b };
 

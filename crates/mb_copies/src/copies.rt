@@ -2,8 +2,8 @@ ghost use Rattle.std.specs.Prelude.{◌≡◌, ◌≤◌, ◌<◌, ◌+◌, ◌-
 ghost use Rattle.std.specs.List.{IsDistinct};
 ghost use Rattle.std.specs.Map.{keys_of};
 ghost use Rattle.indexmap.specs.IndexMap.{insert_entry};
-ghost use Rattle.mb_core_spec.specs.Copies as copy;
-ghost use Rattle.mb_core_spec.specs.Copies.{kept_at, shown};
+ghost use Rattle.mb_cache.specs.Kept as copy;
+ghost use Rattle.mb_cache.specs.Kept.{kept_at, shown};
 ghost use Rattle.mb_copies.specs.Reads.{renewed, stored};
 ghost use Rattle.mb_copies.specs.Stale.{is_fresh, is_same, least_stale, lesser, stale_step};
 
@@ -29,7 +29,7 @@ impl Model for Copies {
     ghost use Rattle.std.specs.Prelude.{ℕ, List, ◌-◌, ◌≤◌, length, min};
     ghost use Rattle.std.specs.List.{zip};
     ghost use Rattle.mb_room.specs.Room.{Roomy};
-    ghost use Rattle.mb_core_spec.specs.Copies as spec;
+    ghost use Rattle.mb_cache.specs.Kept as spec;
 
     ghost Value = { Roomy (ℕ × spec.KeptBlock) };
 

@@ -15,7 +15,7 @@ pub struct KeptBlock {
 }
 
 impl Model for KeptBlock {
-    ghost use Rattle.mb_core_spec.specs.Copies as spec;
+    ghost use Rattle.mb_cache.specs.Kept as spec;
 
     ghost Value = { spec.KeptBlock };
 

@@ -22,7 +22,7 @@ pub struct Reads {
 
 impl Model for Reads {
     ghost use Rattle.std.specs.Prelude.{◌≤◌, length, take};
-    ghost use Rattle.mb_core_spec.specs.Copies.{CopyList};
+    ghost use Rattle.mb_cache.specs.Kept.{CopyList};
 
     ghost Value = { CopyList };
 

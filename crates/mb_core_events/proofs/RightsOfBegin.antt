@@ -30,7 +30,7 @@ use Rattle.mb_tree.proofs.KeptVolumes.{kept_same}
 use Rattle.mb_tree.proofs.OneTrees.{one_tree}
 use Rattle.mb_tree.proofs.Sweeping.{nothing_to_sweep, sweep_is_release}
 use Rattle.mb_iface.specs.Acting.{with_changes}
-use Rattle.mb_iface.specs.Changed.{ChangeList}
+use Rattle.mb_kinds.specs.Changed.{ChangeList}
 use Rattle.mb_session.specs.OpenFiles.{TellsCounts}
 use Rattle.mb_rules.specs.TreeOf.{tree_of}
 use Rattle.mb_check.specs.Whole.{IsSoundAs, nameless_in}

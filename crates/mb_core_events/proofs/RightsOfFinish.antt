@@ -3,7 +3,7 @@ use Rattle.std.proofs.Common.{ℕ, ◌+◌, ◌-◌, ◌^◌, ◌<◌, ◌≤◌
 use Rattle.mb_kinds.specs.Image.{Image}
 use Rattle.mb_kinds.specs.declared.entries.Flight.{Flight}
 use Rattle.mb_kinds.specs.declared.faults.Ticket.{Ticket}
-use Rattle.mb_iface.specs.Changed.{AreChanges, ChangeList, changed}
+use Rattle.mb_kinds.specs.Changed.{AreChanges, ChangeList, changed}
 use Rattle.mb_cache.specs.CacheLaws.{Moves}
 use Rattle.mb_cache.specs.Pages.{PageList, installed, under}
 use Rattle.mb_cache.specs.Stamps.{Stamps, raised_by, stamp_of}

@@ -7,7 +7,8 @@ use Rattle.mb_tree.specs.Sessions.{HasDescriptorInRange}
 use Rattle.mb_iface.specs.declared.replies.Need.{Need}
 use Rattle.mb_core_spec.specs.Callers.{EachCaller, insiders}
 use Rattle.mb_core_spec.specs.Conditions.{IsInside}
-use Rattle.mb_core_spec.specs.Copies.{PagesState, TableCopy, shown}
+use Rattle.mb_cache.specs.Kept.{shown}
+use Rattle.mb_core_spec.specs.Copies.{PagesState, TableCopy}
 use Rattle.mb_core_spec.specs.Events.{GivesBack, with_room}
 use Rattle.mb_core_spec.specs.Owed.{IsPlain}
 use Rattle.mb_core_spec.specs.Performed.{IsReadyFor}

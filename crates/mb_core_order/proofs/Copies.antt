@@ -11,7 +11,8 @@ use Rattle.mb_tree.specs.declared.seats.Seat.{Seat}
 use Rattle.mb_cache.specs.Stamps.{Stamps}
 use Rattle.mb_cache.specs.CacheLaws.{Moves}
 use Rattle.mb_core_spec.specs.declared.ready.Ready.{Ready}
-use Rattle.mb_core_spec.specs.Copies.{AreFresh, AreOld, AreTrue, CopyList, KeepsTables, KeptBlock, LiveTables, TableCopy, TablesAreFresh, cwds, kept_at, shown}
+use Rattle.mb_cache.specs.Kept.{CopyList, KeptBlock, kept_at, shown}
+use Rattle.mb_core_spec.specs.Copies.{AreFresh, AreOld, AreTrue, KeepsTables, LiveTables, TableCopy, TablesAreFresh, cwds}
 use Rattle.mb_session.specs.OpenFiles.{TellsCounts}
 use Rattle.mb_tree.specs.Views.{IsPart}
 use Rattle.mb_core_spec.specs.Performed.{Agrees, IsPerformed, IsReadyFor}

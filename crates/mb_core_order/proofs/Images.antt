@@ -11,7 +11,7 @@ use Rattle.mb_kinds.specs.declared.replies.Reply.{Reply}
 use Rattle.mb_edge.specs.Damage.{OpenCounts}
 use Rattle.mb_edge.specs.declared.strokes.Stroke.{Stroke}
 use Rattle.mb_iface.specs.Acting.{Acts}
-use Rattle.mb_iface.specs.Changed.{ChangeList}
+use Rattle.mb_kinds.specs.Changed.{ChangeList}
 use Rattle.mb_iface.specs.declared.replies.Acted.TheVariants as acted
 use Rattle.mb_folds.specs.Folded.{folded}
 use Rattle.mb_tree.proofs.KeptVolumes.{kept_composes}

@@ -25,7 +25,8 @@ use Rattle.mb_core_order.proofs.Copies.{old_moves}
 use Rattle.mb_core_order.proofs.Overlays.{same_some, total_set}
 use Rattle.mb_core_spec.specs.Bounds.{HasMarks, StampsAreFew}
 use Rattle.mb_core_spec.specs.Callers.{EachCaller, insiders, one_if, total}
-use Rattle.mb_core_spec.specs.Copies.{AreOld, AreTrue, CopyList, HoldsFloor, KeepsCopies, KeepsTables, LiveTables, PagesState, TableCopy, TablesAgree, cwds, no_pages}
+use Rattle.mb_cache.specs.Kept.{CopyList}
+use Rattle.mb_core_spec.specs.Copies.{AreOld, AreTrue, HoldsFloor, KeepsCopies, KeepsTables, LiveTables, PagesState, TableCopy, TablesAgree, cwds, no_pages}
 use Rattle.mb_core_spec.specs.Events.{Gathers, GivesBack, first_undo, floor_after, floor_undo, taken_back, without}
 use Rattle.mb_core_spec.specs.Flights.{ArePins, HasTicket, IsAnswered, IsFloor, IsFlying, IsTicket, IsUndoable, MayBeInside, is_pin}
 use Rattle.mb_core_spec.specs.Flights.{IsMine}

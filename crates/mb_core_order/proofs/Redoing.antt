@@ -5,7 +5,7 @@ use Rattle.mb_kinds.specs.Image.{Image}
 use Rattle.mb_edge.specs.Damage.{OpenCounts}
 use Rattle.mb_iface.specs.Acting.{Acts, Picks, PicksIf, with_changes}
 use Rattle.mb_tree.specs.PickLaws.{makes_inode}
-use Rattle.mb_iface.specs.Changed.{ChangeList}
+use Rattle.mb_kinds.specs.Changed.{ChangeList}
 use Rattle.mb_iface.specs.OpenCounts.{count_of}
 use Rattle.mb_iface.specs.declared.replies.Acted.TheVariants as acted
 use Rattle.mb_kinds.specs.declared.errors.Errno.{Errno}

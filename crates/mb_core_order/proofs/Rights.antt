@@ -37,7 +37,8 @@ use Rattle.mb_core_order.proofs.Numbers.{follows_all}
 use Rattle.mb_core_order.proofs.Orderlies.{inside_at, orderly_drops, orderly_flushes, orderly_remounts, orderly_resumes, orderly_seals, orderly_strikes}
 use Rattle.mb_tree.specs.CarriedOut.{tree_and_opens}
 use Rattle.mb_core_spec.specs.Callers.{EachCaller, insiders}
-use Rattle.mb_core_spec.specs.Copies.{AreFresh, AreTrue, CopyList, KeepsTables, TableCopy, TablesAgree, TablesAreFresh, shown}
+use Rattle.mb_cache.specs.Kept.{CopyList, shown}
+use Rattle.mb_core_spec.specs.Copies.{AreFresh, AreTrue, KeepsTables, TableCopy, TablesAgree, TablesAreFresh}
 use Rattle.mb_session.specs.OpenFiles.{TellsCounts}
 use Rattle.mb_core_spec.specs.Events.{GivesBack, entry_for, logging, roomy}
 use Rattle.mb_core_spec.specs.Faults.{FewDevices, is_device}

@@ -18,7 +18,7 @@ use Rattle.mb_tree.specs.Effect.{TreeAndOpens}
 use Rattle.mb_tree.specs.History.{IsFailed}
 use Rattle.mb_tree.specs.Views.{IsPart}
 use Rattle.mb_iface.specs.Acting.{Acts}
-use Rattle.mb_iface.specs.Changed.{ChangeList}
+use Rattle.mb_kinds.specs.Changed.{ChangeList}
 use Rattle.mb_iface.specs.declared.replies.Acted.TheVariants as acted
 use Rattle.mb_tree.specs.declared.trees.Tree.{Tree}
 use Rattle.mb_cache.specs.Stamps.{Stamps, stamp_of}
@@ -36,7 +36,8 @@ use Rattle.mb_core_order.proofs.Numbers.{follows_all}
 use Rattle.mb_core_order.proofs.Orderlies.{orderly_drops_again, orderly_fails, orderly_fails_again, orderly_reopens, orderly_replays, orderly_strikes_dropped, orderly_strikes_restored}
 use Rattle.mb_core_order.proofs.Rights.{few_later, holds_roomy, right_drops}
 use Rattle.mb_core_spec.specs.Callers.{EachCaller, insiders, total}
-use Rattle.mb_core_spec.specs.Copies.{AreTrue, KeptBlock, PagesState, kept_at}
+use Rattle.mb_cache.specs.Kept.{KeptBlock, kept_at}
+use Rattle.mb_core_spec.specs.Copies.{AreTrue, PagesState}
 use Rattle.mb_session.specs.OpenFiles.{TellsCounts}
 use Rattle.mb_core_spec.specs.Events.{beginning, begins, Gathers, GivesBack, Leaves, answered_by, ended, entering, entry_for, gathering, leaving, roomy, staling}
 use Rattle.mb_core_spec.specs.Faults.{FewDevices, Says}

@@ -13,7 +13,8 @@ use Rattle.mb_tree.specs.declared.seats.SessionChange.{SessionChange}
 use Rattle.mb_tree.specs.declared.seats.SessionChange.TheVariants as change
 use Rattle.mb_cache.specs.Stamps.{Stamps}
 use Rattle.mb_core_spec.specs.Callers.{begun, insiders, one_if}
-use Rattle.mb_core_spec.specs.Copies.{AreFresh, AreTrue, CopyList, HoldsFloor, LiveTables, PagesState, shown}
+use Rattle.mb_cache.specs.Kept.{CopyList, shown}
+use Rattle.mb_core_spec.specs.Copies.{AreFresh, AreTrue, HoldsFloor, LiveTables, PagesState}
 use Rattle.mb_core_spec.specs.Events.{beginning, begins, entering}
 use Rattle.mb_core_spec.specs.Flights.{IsFlying, IsTicket}
 use Rattle.mb_core_spec.specs.Numbers.{AreInPlace, CanFollow}

@@ -18,7 +18,7 @@ use Rattle.mb_tree.specs.Views.{IsPart, Kept}
 use Rattle.mb_tree.specs.Volume.{IsVolume}
 use Rattle.mb_tree.specs.declared.trees.Tree.{Tree}
 use Rattle.mb_iface.specs.Acting.{Acts}
-use Rattle.mb_iface.specs.Changed.{ChangeList}
+use Rattle.mb_kinds.specs.Changed.{ChangeList}
 use Rattle.mb_iface.specs.declared.replies.Acted.TheVariants as acted
 use Rattle.mb_gate.specs.declared.ulogs.Undo.{Undo}
 use Rattle.mb_oplog.specs.declared.oplogs.Logged.{Logged}
@@ -28,7 +28,8 @@ use Rattle.mb_cache.specs.Stamps.{Stamps, stamp_of}
 use Rattle.mb_cache.specs.State.{CacheState, ReadsAlike}
 use Rattle.mb_core_spec.specs.Bounds.{IsConfig}
 use Rattle.mb_core_spec.specs.Callers.{EachCaller, insiders, total}
-use Rattle.mb_core_spec.specs.Copies.{AreFresh, CopyList, KeptBlock, PagesState, TableCopy, TablesAreFresh, kept_at, shown}
+use Rattle.mb_cache.specs.Kept.{CopyList, KeptBlock, kept_at, shown}
+use Rattle.mb_core_spec.specs.Copies.{AreFresh, PagesState, TableCopy, TablesAreFresh}
 use Rattle.mb_session.specs.OpenFiles.{TellsCounts}
 use Rattle.mb_core_spec.specs.Events.{Gathers, GivesBack, Leaves, entry_for}
 use Rattle.mb_core_spec.specs.Faults.{FewDevices, Says}

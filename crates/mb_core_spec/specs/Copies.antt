@@ -1,26 +1,9 @@
 -- The copies that a call in flight keeps of what it gathered, and when they are still what is seen.
-use Rattle.std.specs.Prelude.{List, [], ℕ, ◌≡◌, ◌≤◌, Bool, true, false, Option, None, Some, option_map, map, nat_eq, slice_get}
-use Rattle.std.specs.Map.{lookup}
+use Rattle.std.specs.Prelude.{List, [], ℕ, ◌≡◌, ◌≤◌, Bool, true, false, Option, None, Some, map, slice_get}
 use Rattle.mb_edge.specs.Damage.{OpenCounts}
 use Rattle.mb_tree.specs.declared.seats.Seat.{Seat}
+use Rattle.mb_cache.specs.Kept.{CopyList, KeptBlock, kept_at}
 use Rattle.mb_cache.specs.Stamps.{Stamps, stamp_of}
-
--- the bytes of a block with the stamp that it had
-pub record KeptBlock : Type 0 where
-  pub bytes : List ℕ
-  pub stamp : ℕ
-
--- blocks with their copies, each block once
-abbrev pub CopyList : Type 0
-CopyList = List (ℕ × KeptBlock)
-
--- the copy of a block, where there is one
-abbrev pub kept_at : CopyList → ℕ → Option KeptBlock
-kept_at copies block = lookup (nat_eq block) copies
-
--- the view that copies are
-abbrev pub shown : CopyList → ℕ → Option (List ℕ)
-shown copies block = option_map (λ (kept : KeptBlock). kept.bytes) (kept_at copies block)
 
 -- a copy of all sessions and of the table of open files, with the stamp that they had
 pub record TableCopy : Type 0 where

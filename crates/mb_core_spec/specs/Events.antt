@@ -13,7 +13,8 @@ use Rattle.mb_oplog.specs.declared.oplogs.Logged.{Logged}
 use Rattle.mb_cache.specs.Stamps.{Stamps, stamp_of}
 use Rattle.mb_cache.specs.State.{CacheRoom}
 use Rattle.mb_core_spec.specs.Callers.{begun, total}
-use Rattle.mb_core_spec.specs.Copies.{KeptBlock, LiveTables, PagesState, kept_at, no_pages}
+use Rattle.mb_cache.specs.Kept.{KeptBlock, kept_at}
+use Rattle.mb_core_spec.specs.Copies.{LiveTables, PagesState, no_pages}
 use Rattle.mb_core_spec.specs.Flights.{is_pin}
 use Rattle.mb_core_spec.specs.State.{CallerState, CoreState, JournalRoom, JournalState}
 use Rattle.mb_core_spec.specs.declared.ready.Ready.{Ready}

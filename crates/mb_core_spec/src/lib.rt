@@ -11,7 +11,8 @@
 //! (`specs/Histories.antt`), what is seen by where the volume stands (`specs/Seen.antt`), numbers and moments
 //! (`specs/Numbers.antt`), the fault records (`specs/Faults.antt`), the event trace (`specs/Trail.antt` says which is
 //! disciplined, `specs/Traced.antt` how it fits the core), the calls in flight and the right to commit alone
-//! (`specs/Flights.antt`), their copies (`specs/Copies.antt`), and room and bounds (`specs/Bounds.antt`).
+//! (`specs/Flights.antt`), their copies (`specs/Copies.antt`, over `specs/Kept.antt` of `mb_cache`), and room and bounds
+//! (`specs/Bounds.antt`).
 //! docs/CORE.md leads from each sentence to its definition.
 #![tactic(auto)]
 

@@ -1,12 +1,12 @@
 -- The blocks that are kept from one operation that is done again to the next are a part of what is seen.
 use Rattle.std.proofs.Common.{◌≡◌, ◌∙◌, ℕ, List, [], Option, None, Some, IfSome, option_map, refl, ap, sym, subst}
 use Rattle.mb_kinds.specs.Image.{Image}
-use Rattle.mb_iface.specs.Changed.{AreChanges, ChangeList, changed}
+use Rattle.mb_kinds.specs.Changed.{AreChanges, ChangeList, changed}
 use Rattle.mb_tree.specs.Views.{IsPart, over}
 use Rattle.mb_cache.specs.CacheLaws.{InstalledReads, SeenInLayers}
 use Rattle.mb_cache.specs.Pages.{PageList, installed, under}
 use Rattle.mb_cache.specs.State.{CacheState}
-use Rattle.mb_core_spec.specs.Copies.{CopyList, shown}
+use Rattle.mb_cache.specs.Kept.{CopyList, shown}
 use Rattle.mb_core_state.specs.KeptBlocks.{AreSeen}
 
 -- no block is a part of anything

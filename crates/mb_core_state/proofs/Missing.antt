@@ -6,7 +6,7 @@ use Rattle.mb_iface.specs.Needs.{IsNeed}
 use Rattle.mb_iface.specs.declared.replies.Need.{Need}
 use Rattle.mb_copies.proofs.Numbers.{first_of}
 use Rattle.mb_copies.specs.Reads.{GathersSeen}
-use Rattle.mb_core_spec.specs.Copies.{CopyList, shown}
+use Rattle.mb_cache.specs.Kept.{CopyList, shown}
 
 abbrev lack : Bool → ℕ
 lack b = cond b 0 1

@@ -5,7 +5,7 @@ use Rattle.mb_edge.specs.Damage.{OpenCounts}
 use Rattle.mb_tree.specs.Sweep.{opens_of_list}
 use Rattle.mb_tree.specs.declared.operations.FsOp.TheVariants.{Release}
 use Rattle.mb_session.specs.OpenFiles.{TellsCounts}
-use Rattle.mb_iface.specs.Changed.{AreChanges, ChangeList}
+use Rattle.mb_kinds.specs.Changed.{AreChanges, ChangeList}
 use Rattle.mb_oplog.specs.declared.oplogs.Logged.{Logged}
 use Rattle.mb_kinds.specs.declared.entries.Flight.{Flight}
 use Rattle.mb_kinds.specs.declared.replies.Reply.TheVariants as reply

@@ -4,7 +4,7 @@ use Rattle.mb_kinds.specs.declared.entries.Entry.{Entry}
 use Rattle.mb_kinds.specs.declared.entries.Flight.{Flight}
 use Rattle.mb_kinds.specs.declared.faults.Ticket.{Ticket}
 use Rattle.mb_kinds.specs.declared.replies.Reply.{Reply}
-use Rattle.mb_iface.specs.Changed.{ChangeList}
+use Rattle.mb_kinds.specs.Changed.{ChangeList}
 use Rattle.mb_tree.specs.declared.operations.FsOp.{FsOp}
 use Rattle.mb_tree.specs.declared.seats.SessionChange.{SessionChange}
 use Rattle.mb_cache.specs.Pages.{installed}

@@ -2,7 +2,7 @@
 use Rattle.std.specs.Prelude.{◌≡◌, Option, Some}
 use Rattle.mb_kinds.specs.Image.{Image}
 use Rattle.mb_cache.specs.State.{CacheState, seen}
-use Rattle.mb_core_spec.specs.Copies.{CopyList, shown}
+use Rattle.mb_cache.specs.Kept.{CopyList, shown}
 use Rattle.mb_tree.specs.Views.{IsPart}
 
 -- copies of blocks are a part of what is seen

@@ -4,7 +4,7 @@ use Rattle.mb_kinds.specs.Image.{Image}
 use Rattle.mb_edge.specs.Damage.{OpenCounts}
 use Rattle.mb_tree.specs.Sweep.{opens_of_list}
 use Rattle.mb_tree.specs.declared.operations.FsOp.TheVariants.{Release}
-use Rattle.mb_iface.specs.Changed.{AreChanges, ChangeList}
+use Rattle.mb_kinds.specs.Changed.{AreChanges, ChangeList}
 use Rattle.mb_session.specs.OpenFiles.{TellsCounts}
 use Rattle.mb_cache.specs.Pages.{PageList, installed, under}
 use Rattle.mb_cache.specs.Stamps.{Stamps, raised_by}

@@ -6,7 +6,7 @@ ghost use Rattle.mb_core_spec.specs.Events.{GivesBack, Leaves, entry_for, floor_
 ghost use Rattle.mb_core_spec.specs.Flights.{IsMine};
 ghost use Rattle.mb_core_spec.specs.State.{CallerState};
 ghost use Rattle.mb_journal.specs.Room.{HasEntryRoom, KeepsRoom};
-ghost use Rattle.mb_iface.specs.Changed.{AreChanges};
+ghost use Rattle.mb_kinds.specs.Changed.{AreChanges};
 ghost use Rattle.mb_core_state.specs.Answers.{IsPresent};
 ghost use Rattle.mb_core_state.specs.Finishing.{Finishes, HolderFlies, IsBusy, putting};
 ghost use Rattle.mb_core_state.specs.Rooms.{FinishLeaves, HasPins};

@@ -1,5 +1,5 @@
 ghost use Rattle.std.specs.Prelude.{◌≡◌, ◌<◌, ◌≤◌, ◌+◌, ℕ, true, false, None, Some, length, slice_get, OnOk, OnErr, IfOk, IfErr, IfSome, IsSome};
-ghost use Rattle.mb_iface.specs.Changed.{AreChanges};
+ghost use Rattle.mb_kinds.specs.Changed.{AreChanges};
 ghost use Rattle.mb_oplog.specs.declared.oplogs.Logged.{Logged};
 ghost use Rattle.mb_cache.specs.State.{ReadHasCause};
 ghost use Rattle.mb_journal.specs.Room.{KeepsRoom};

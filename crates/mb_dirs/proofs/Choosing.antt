@@ -13,7 +13,7 @@ use Rattle.mb_tree.specs.declared.trees.Tree.{Tree}
 use Rattle.mb_alloc.specs.Numbers.{Picks, cached_below, cached_in, free_numbers, free_below, is_free_number, pick_from, pick_of}
 use Rattle.mb_alloc.specs.declared.picks.Picked.TheVariants as picked
 use Rattle.mb_iface.specs.Acting.{with_changes}
-use Rattle.mb_iface.specs.Changed.{ChangeList, changed}
+use Rattle.mb_kinds.specs.Changed.{ChangeList, changed}
 use Rattle.mb_iface.specs.declared.replies.Need.{Need}
 use Rattle.mb_nodes.specs.Bodies.{IsCacheWritten}
 use Rattle.mb_nodes.specs.Stored.{IsStored}

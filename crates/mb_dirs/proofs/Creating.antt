@@ -11,7 +11,7 @@ use Rattle.mb_tree.specs.declared.nodes.PlainSlot.{PlainSlot}
 use Rattle.mb_tree.specs.declared.trees.Tree.{Tree}
 use Rattle.mb_tree.proofs.FiniteMaps.{get_there}
 use Rattle.mb_iface.specs.Acting.{PicksNumber, with_changes}
-use Rattle.mb_iface.specs.Changed.{ChangeList, IsWithinView}
+use Rattle.mb_kinds.specs.Changed.{ChangeList, IsWithinView}
 use Rattle.mb_iface.specs.Needs.{IsNeed}
 use Rattle.mb_iface.specs.declared.replies.Need.{Need}
 use Rattle.mb_nodes.specs.Stored.{IsStored, with_node}

@@ -17,7 +17,7 @@ use Rattle.mb_tree.specs.declared.trees.Tree.{Tree}
 use Rattle.mb_blocks.specs.Inodes.{HasValues, IsDinodeWritten, IsRewritten}
 use Rattle.mb_blocks.proofs.InodeWrites.{addresses_now, dinode_written, fields_now, value_now}
 use Rattle.mb_iface.specs.Acting.{with_changes}
-use Rattle.mb_iface.specs.Changed.{ChangeList, changed, IsWithinView}
+use Rattle.mb_kinds.specs.Changed.{ChangeList, changed, IsWithinView}
 use Rattle.mb_nodes.specs.Bodies.{KeepsBody}
 use Rattle.mb_nodes.specs.Stored.{IsStored, with_node}
 use Rattle.mb_nodes.proofs.NodeParts.{node_stored}

@@ -5,7 +5,7 @@ use Rattle.mb_layout.specs.Inode.{dinode_at}
 use Rattle.mb_layout.specs.declared.dinodes.Dinode.{Dinode}
 use Rattle.mb_tree.specs.Views.{over, IsPart}
 use Rattle.mb_blocks.specs.Inodes.{IsDinodeWritten}
-use Rattle.mb_iface.specs.Changed.{ChangeList, changed, IsWithinView}
+use Rattle.mb_kinds.specs.Changed.{ChangeList, changed, IsWithinView}
 use Rattle.mb_dirs.specs.Rewriting.{WritesWith}
 use Rattle.mb_dirs.specs.declared.steps.Advanced.TheVariants as advanced
 

@@ -13,7 +13,7 @@ use Rattle.mb_tree.specs.declared.nodes.PlainSlot.{PlainSlot}
 use Rattle.mb_tree.specs.declared.trees.Tree.{Tree}
 use Rattle.mb_tree.proofs.FiniteMaps.{get_here}
 use Rattle.mb_iface.specs.Acting.{with_changes}
-use Rattle.mb_iface.specs.Changed.{ChangeList}
+use Rattle.mb_kinds.specs.Changed.{ChangeList}
 use Rattle.mb_iface.specs.declared.replies.Need.{Need}
 use Rattle.mb_nodes.specs.Stored.{IsStored, with_node}
 use Rattle.mb_nodes.proofs.NodeParts.{node_stored}

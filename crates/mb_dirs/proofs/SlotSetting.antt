@@ -10,7 +10,7 @@ use Rattle.mb_tree.specs.declared.trees.Tree.{Tree}
 use Rattle.mb_bmap.specs.Locating.{Locates}
 use Rattle.mb_bmap.specs.declared.addresses.Located.TheVariants as located
 use Rattle.mb_iface.specs.Acting.{with_changes}
-use Rattle.mb_iface.specs.Changed.{ChangeList, changed}
+use Rattle.mb_kinds.specs.Changed.{ChangeList, changed}
 use Rattle.mb_iface.specs.Needs.{IsNeed}
 use Rattle.mb_iface.specs.declared.edits.Edited.TheVariants as edited
 use Rattle.mb_iface.specs.declared.replies.Need.{Need}

@@ -6,7 +6,7 @@ use Rattle.mb_layout.specs.SlotEntry.{slot_bytes}
 use Rattle.mb_layout.specs.declared.slots.Slot.{Slot}
 use Rattle.mb_layout.proofs.SlotBytes.{length-slot_bytes, slot_put}
 use Rattle.mb_tree.specs.Views.{over}
-use Rattle.mb_iface.specs.Changed.{ChangeList, changed, put_block}
+use Rattle.mb_kinds.specs.Changed.{ChangeList, changed, put_block}
 use Rattle.mb_iface.specs.Edits.{Edits}
 use Rattle.mb_iface.specs.declared.edits.Edited.{Edited}
 use Rattle.mb_iface.specs.declared.edits.Edited.TheVariants.{Done, Lacking, NoMemory}

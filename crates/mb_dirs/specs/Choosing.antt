@@ -3,7 +3,7 @@ use Rattle.std.specs.Prelude.{List, ℕ, ◌≡◌, Bool, Option, Some, None}
 use Rattle.mb_tree.specs.Step.{IsFreeNumber}
 use Rattle.mb_tree.specs.Views.{over}
 use Rattle.mb_alloc.specs.Numbers.{pick_of}
-use Rattle.mb_iface.specs.Changed.{ChangeList, changed, IsWithinView}
+use Rattle.mb_kinds.specs.Changed.{ChangeList, changed, IsWithinView}
 use Rattle.mb_iface.specs.Needs.{IsNeed}
 use Rattle.mb_moves.specs.Advancing.{OnStored, AdvancesTo}
 use Rattle.mb_dirs.specs.Steps.{IsNearFirst}

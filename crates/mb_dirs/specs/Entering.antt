@@ -7,7 +7,7 @@ use Rattle.mb_tree.specs.Lookup.{is_used, is_named}
 use Rattle.mb_tree.specs.declared.nodes.Body.TheVariants.{Directory}
 use Rattle.mb_tree.specs.declared.nodes.Node.{Node}
 use Rattle.mb_tree.specs.declared.nodes.PlainSlot.{PlainSlot}
-use Rattle.mb_iface.specs.Changed.{ChangeList, IsWithinView}
+use Rattle.mb_kinds.specs.Changed.{ChangeList, IsWithinView}
 use Rattle.mb_iface.specs.Needs.{IsNeed}
 use Rattle.mb_nodes.specs.Stored.{with_node}
 use Rattle.mb_moves.specs.Advancing.{AdvancesTo}

@@ -4,7 +4,7 @@ use Rattle.mb_layout.specs.declared.dinodes.Dinode.{Dinode}
 use Rattle.mb_tree.specs.Effect.{touched, with_mode, with_owner, with_times}
 use Rattle.mb_tree.specs.Inodes.{kind_of}
 use Rattle.mb_tree.specs.declared.nodes.Node.{Node}
-use Rattle.mb_iface.specs.Changed.{ChangeList, IsWithinView}
+use Rattle.mb_kinds.specs.Changed.{ChangeList, IsWithinView}
 use Rattle.mb_iface.specs.Needs.{IsNeed}
 use Rattle.mb_nodes.specs.Stored.{with_node}
 use Rattle.mb_moves.specs.Advancing.{AdvancesTo}

@@ -1,7 +1,7 @@
 -- A slot added behind those of a directory.
 use Rattle.std.specs.Prelude.{List, ℕ, ◌+◌, Option}
 use Rattle.mb_layout.specs.declared.dinodes.Dinode.{Dinode}
-use Rattle.mb_iface.specs.Changed.{ChangeList}
+use Rattle.mb_kinds.specs.Changed.{ChangeList}
 use Rattle.mb_dirs.specs.Entering.{Enters}
 use Rattle.mb_dirs.specs.declared.enters.Entered.{Entered}
 use Rattle.mb_dirs.specs.declared.enters.Gap.TheVariants as gap

@@ -2,7 +2,7 @@
 use Rattle.std.specs.Prelude.{List, ℕ, ◌≤◌, ◌<◌, ◌≡◌, ◌⊎◌, Option, IfSome}
 use Rattle.mb_word.specs.Fields.{isize_of}
 use Rattle.mb_tree.specs.Views.{over, IsPart}
-use Rattle.mb_iface.specs.Changed.{ChangeList, changed}
+use Rattle.mb_kinds.specs.Changed.{ChangeList, changed}
 use Rattle.mb_iface.specs.Needs.{IsNeed}
 use Rattle.mb_iface.specs.declared.replies.Need.{Need}
 

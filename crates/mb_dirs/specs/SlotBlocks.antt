@@ -1,7 +1,7 @@
 -- One slot written in a directory's block.
 use Rattle.std.specs.Prelude.{List, ℕ, ◌≡◌, Option, None, length}
 use Rattle.mb_tree.specs.Views.{over, IsPart}
-use Rattle.mb_iface.specs.Changed.{ChangeList, changed, IsWithinView}
+use Rattle.mb_kinds.specs.Changed.{ChangeList, changed, IsWithinView}
 use Rattle.mb_iface.specs.declared.edits.Edited.{Edited}
 use Rattle.mb_iface.specs.declared.edits.Edited.TheVariants as edited
 use Rattle.mb_nodes.specs.Bodies.{IsSlotSet}

@@ -8,7 +8,7 @@ use Rattle.mb_tree.specs.declared.nodes.Node.{Node}
 use Rattle.mb_tree.specs.declared.nodes.PlainSlot.{PlainSlot}
 use Rattle.mb_tree.specs.declared.trees.Tree.{Tree}
 use Rattle.mb_iface.specs.Acting.{with_changes}
-use Rattle.mb_iface.specs.Changed.{ChangeList}
+use Rattle.mb_kinds.specs.Changed.{ChangeList}
 use Rattle.mb_moves.specs.Advancing.{OnStored, IsNearTo}
 
 -- of a tree that has a node with the number

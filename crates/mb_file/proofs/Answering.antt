@@ -24,7 +24,7 @@ use Rattle.mb_tree.specs.declared.nodes.Node.{Node}
 use Rattle.mb_tree.specs.declared.nodes.PlainSlot.{PlainSlot}
 use Rattle.mb_tree.specs.declared.trees.Tree.{Tree}
 use Rattle.mb_tree.specs.Views.{over, IsPart}
-use Rattle.mb_iface.specs.Changed.{ChangeList, changed}
+use Rattle.mb_kinds.specs.Changed.{ChangeList, changed}
 use Rattle.mb_iface.specs.Asking.{Finds}
 use Rattle.mb_iface.specs.Near.{IsNear, IsPassed}
 use Rattle.mb_iface.specs.Near.IsNear.{inode_list, held}

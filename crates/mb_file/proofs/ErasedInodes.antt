@@ -12,7 +12,7 @@ use Rattle.mb_tree.specs.Volume.{body_has_addresses, has_addresses, node_has_add
 use Rattle.mb_tree.specs.declared.nodes.Body.{Body}
 use Rattle.mb_tree.specs.declared.nodes.Node.{Node}
 use Rattle.mb_tree.specs.declared.trees.Tree.{Tree}
-use Rattle.mb_iface.specs.Changed.{put_block}
+use Rattle.mb_kinds.specs.Changed.{put_block}
 use Rattle.mb_iface.proofs.ChangedBlocks.{put_block_same, put_block_other}
 use Rattle.mb_blocks.specs.FreeLists.{AreFreed, onto}
 use Rattle.mb_blocks.specs.Inodes.{IsRewritten}

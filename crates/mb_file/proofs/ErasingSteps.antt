@@ -9,7 +9,7 @@ use Rattle.mb_layout.specs.declared.dinodes.Dinode.{Dinode}
 use Rattle.mb_tree.specs.Blocks.{pointers}
 use Rattle.mb_tree.specs.Views.{over, IsPart}
 use Rattle.mb_iface.specs.Acting.{with_changes}
-use Rattle.mb_iface.specs.Changed.{ChangeList, changed, shown_over, IsWithinView}
+use Rattle.mb_kinds.specs.Changed.{ChangeList, changed, shown_over, IsWithinView}
 use Rattle.mb_iface.specs.Near.IsNear.{super_block}
 use Rattle.mb_iface.specs.Needs.{IsNeed}
 use Rattle.mb_iface.specs.declared.replies.Need.{Need}

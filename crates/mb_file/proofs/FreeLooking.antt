@@ -6,7 +6,7 @@ use Rattle.mb_word.specs.Numbers.{word_at, long_at}
 use Rattle.mb_tree.specs.Blocks.{first_list, list_in, IsFreeChain}
 use Rattle.mb_tree.specs.Chain.{Listed, IsChain, after_taking}
 use Rattle.mb_tree.specs.Views.{over, IsPart}
-use Rattle.mb_iface.specs.Changed.{ChangeList, changed}
+use Rattle.mb_kinds.specs.Changed.{ChangeList, changed}
 use Rattle.mb_iface.specs.Needs.{IsNeed}
 use Rattle.mb_iface.specs.declared.replies.Need.{Need}
 use Rattle.mb_file.specs.Finding.{LacksFree}

@@ -9,7 +9,7 @@ use Rattle.mb_word.proofs.Writes.{put_at_in, put_at_is, put_at_kept, put_at_same
 use Rattle.mb_word.proofs.Values.{word_back, long_back, long_at-same, word_at-same, length-word_bytes, length-long_bytes}
 use Rattle.mb_layout.proofs.Steps.{Alike, alike_part, word_alike, long_alike}
 use Rattle.mb_tree.specs.Chain.{Listed}
-use Rattle.mb_iface.specs.Changed.{put_block}
+use Rattle.mb_kinds.specs.Changed.{put_block}
 use Rattle.mb_iface.proofs.ChangedBlocks.{put_block_same, put_block_other}
 use Rattle.mb_blocks.specs.FreeLists.{IsSameList, pushed, ended, emptied, after_freeing}
 use Rattle.mb_file.specs.Freeing.{Hangs, HangsEach, MovesList}

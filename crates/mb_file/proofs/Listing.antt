@@ -16,7 +16,7 @@ use Rattle.mb_tree.specs.Places.{Pointers}
 use Rattle.mb_tree.specs.Views.{over, IsPart}
 use Rattle.mb_blocks.specs.Walk.{under_block, under_each}
 use Rattle.mb_blocks.proofs.PartBytes.{entry_is}
-use Rattle.mb_iface.specs.Changed.{ChangeList, changed}
+use Rattle.mb_kinds.specs.Changed.{ChangeList, changed}
 use Rattle.mb_file.specs.Walking.{IsListable, PushesParts, PushesUnder, parts_in, under_address, under_dinode}
 use Rattle.mb_file.specs.declared.walks.Walked.TheVariants as walked
 

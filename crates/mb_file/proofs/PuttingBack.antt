@@ -16,7 +16,7 @@ use Rattle.mb_blocks.specs.Rules.{KeepsRules}
 use Rattle.mb_blocks.proofs.Freeing.{laid_freed}
 use Rattle.mb_blocks.proofs.Keeping.{sizes_same}
 use Rattle.mb_blocks.proofs.LaidRules.{laid_rules}
-use Rattle.mb_iface.specs.Changed.{ChangeList, changed, put_block, shown_over, IsWithinView}
+use Rattle.mb_kinds.specs.Changed.{ChangeList, changed, put_block, shown_over, IsWithinView}
 use Rattle.mb_iface.proofs.ChangedBlocks.{over_put, put_block_same, put_block_other}
 use Rattle.mb_iface.proofs.WithinViews.{found_within, within_put}
 use Rattle.mb_alloc.specs.declared.frees.Hung.TheVariants as hung

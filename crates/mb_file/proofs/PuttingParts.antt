@@ -19,7 +19,7 @@ use Rattle.mb_tree.specs.declared.nodes.Node.{Node}
 use Rattle.mb_tree.specs.declared.trees.Tree.{Tree}
 use Rattle.mb_tree.proofs.FiniteMaps.{get_here, get_there, one_or_not, same}
 use Rattle.mb_iface.specs.Acting.{with_changes}
-use Rattle.mb_iface.specs.Changed.{ChangeList, changed, put_block}
+use Rattle.mb_kinds.specs.Changed.{ChangeList, changed, put_block}
 use Rattle.mb_iface.specs.Edits.{HasEdited}
 use Rattle.mb_iface.specs.Needs.{IsNeed}
 use Rattle.mb_iface.specs.declared.replies.Need.{Need}

@@ -6,7 +6,7 @@ use Rattle.mb_word.specs.Numbers.{AreBytes}
 use Rattle.mb_tree.specs.Blocks.{part_address, part_bytes}
 use Rattle.mb_tree.specs.Cost.{most_parts}
 use Rattle.mb_tree.specs.Views.{over, IsPart}
-use Rattle.mb_iface.specs.Changed.{ChangeList, changed}
+use Rattle.mb_kinds.specs.Changed.{ChangeList, changed}
 use Rattle.mb_blocks.proofs.PartBytes.{part_found, part_missing}
 use Rattle.mb_blocks.proofs.Taking.{length-zeros}
 use Rattle.mb_alloc.proofs.Within.{length-take_drop}

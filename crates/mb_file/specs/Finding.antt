@@ -6,7 +6,7 @@ use Rattle.mb_tree.specs.Blocks.{pointers, entry_in, part_address, part_in, IsFr
 use Rattle.mb_tree.specs.Cost.{most_parts}
 use Rattle.mb_tree.specs.Places.{Place, at, IsPlace}
 use Rattle.mb_tree.specs.Views.{over, IsPart}
-use Rattle.mb_iface.specs.Changed.{ChangeList, changed}
+use Rattle.mb_kinds.specs.Changed.{ChangeList, changed}
 use Rattle.mb_iface.specs.Needs.{IsNeed}
 use Rattle.mb_iface.specs.declared.replies.Need.{Need}
 use Rattle.mb_file.specs.declared.parts.PartAt.{PartAt}

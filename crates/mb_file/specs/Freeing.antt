@@ -11,7 +11,7 @@ use Rattle.mb_tree.specs.Views.{over, IsPart}
 use Rattle.mb_blocks.specs.FreeLists.{AreFreed, IsFreed}
 use Rattle.mb_blocks.specs.Laid.{IsLaid}
 use Rattle.mb_blocks.specs.Rules.{KeepsRules}
-use Rattle.mb_iface.specs.Changed.{ChangeList, changed, put_block, IsWithinView}
+use Rattle.mb_kinds.specs.Changed.{ChangeList, changed, put_block, IsWithinView}
 use Rattle.mb_iface.specs.Needs.{IsNeed}
 use Rattle.mb_iface.specs.declared.replies.Need.{Need}
 use Rattle.mb_alloc.specs.declared.frees.Hung.{Hung}

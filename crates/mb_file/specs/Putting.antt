@@ -12,7 +12,7 @@ use Rattle.mb_tree.specs.declared.nodes.Body.TheVariants.{Regular}
 use Rattle.mb_tree.specs.declared.nodes.Node.{Node}
 use Rattle.mb_tree.specs.declared.trees.Tree.{Tree}
 use Rattle.mb_iface.specs.Acting.{with_changes}
-use Rattle.mb_iface.specs.Changed.{ChangeList, IsWithinView}
+use Rattle.mb_kinds.specs.Changed.{ChangeList, IsWithinView}
 use Rattle.mb_iface.specs.Needs.{IsNeed}
 use Rattle.mb_iface.specs.declared.replies.Need.{Need}
 use Rattle.mb_nodes.specs.Stored.{with_node}

@@ -2,7 +2,7 @@
 use Rattle.std.specs.Prelude.{List, [], ◌∷◌, ◌++◌, ℕ, zero, suc, ◌+◌, ◌-◌, ◌/◌, ◌%◌, ◌<◌, ◌≤◌, ◌≡◌, Option, length, take, drop, slice_index}
 use Rattle.mb_word.specs.Numbers.{AreBytes}
 use Rattle.mb_tree.specs.Blocks.{part_bytes}
-use Rattle.mb_iface.specs.Changed.{ChangeList}
+use Rattle.mb_kinds.specs.Changed.{ChangeList}
 use Rattle.mb_file.specs.Finding.{AsksForOwn, OnInode}
 use Rattle.mb_file.specs.declared.reads.Copied.{Copied}
 use Rattle.mb_file.specs.declared.reads.Copied.TheVariants as copied

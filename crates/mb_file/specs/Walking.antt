@@ -8,7 +8,7 @@ use Rattle.mb_tree.specs.Blocks.{pointers}
 use Rattle.mb_tree.specs.Places.{Pointers}
 use Rattle.mb_tree.specs.Views.{over, IsPart}
 use Rattle.mb_blocks.specs.Walk.{under_block, under_each}
-use Rattle.mb_iface.specs.Changed.{ChangeList, changed}
+use Rattle.mb_kinds.specs.Changed.{ChangeList, changed}
 use Rattle.mb_iface.specs.Needs.{IsNeed}
 use Rattle.mb_iface.specs.declared.replies.Need.{Need}
 use Rattle.mb_file.specs.declared.walks.Collected.{Collected}

@@ -13,7 +13,7 @@ use Rattle.mb_tree.specs.declared.operations.FsOp.TheVariants.{Create}
 use Rattle.mb_tree.specs.declared.trees.Tree.{Tree}
 use Rattle.mb_blocks.proofs.Rearranged.{own}
 use Rattle.mb_iface.specs.Acting.{with_changes}
-use Rattle.mb_iface.specs.Changed.{ChangeList, changed}
+use Rattle.mb_kinds.specs.Changed.{ChangeList, changed}
 use Rattle.mb_iface.specs.Near.{IsTouched}
 use Rattle.mb_iface.specs.Needs.{IsNeed}
 use Rattle.mb_iface.specs.OpenCounts.{count_of}

@@ -14,7 +14,7 @@ use Rattle.mb_tree.specs.Volume.{IsVolume}
 use Rattle.mb_tree.specs.declared.nodes.Node.{Node}
 use Rattle.mb_tree.specs.declared.nodes.PlainSlot.{PlainSlot}
 use Rattle.mb_tree.specs.declared.trees.Tree.{Tree}
-use Rattle.mb_iface.specs.Changed.{ChangeList, changed}
+use Rattle.mb_kinds.specs.Changed.{ChangeList, changed}
 use Rattle.mb_iface.specs.Near.{IsNear}
 use Rattle.mb_iface.specs.Near.IsNear.{super_block, inode_list, free, held}
 use Rattle.mb_iface.specs.declared.replies.Need.{Need}

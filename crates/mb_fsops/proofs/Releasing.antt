@@ -18,7 +18,7 @@ use Rattle.mb_tree.specs.declared.operations.FsOp.TheVariants.{Release}
 use Rattle.mb_tree.specs.declared.trees.Tree.{Tree}
 use Rattle.mb_tree.proofs.FiniteMaps.{gone_here, gone_there, one_or_not}
 use Rattle.mb_iface.specs.Acting.{with_changes}
-use Rattle.mb_iface.specs.Changed.{changed, ChangeList, IsWithinView}
+use Rattle.mb_kinds.specs.Changed.{changed, ChangeList, IsWithinView}
 use Rattle.mb_iface.specs.OpenCounts.{count_of}
 use Rattle.mb_iface.specs.declared.replies.Acted.TheVariants as acted
 use Rattle.mb_iface.specs.declared.replies.Need.{Need}

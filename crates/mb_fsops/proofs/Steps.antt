@@ -22,7 +22,7 @@ use Rattle.mb_tree.specs.declared.operations.FsOp.{FsOp}
 use Rattle.mb_tree.specs.declared.trees.Tree.{Tree}
 use Rattle.mb_tree.proofs.FiniteMaps.{none_there}
 use Rattle.mb_iface.specs.Acting.{Acts, HasDone, HasRefused, Picks, PicksIf, with_changes}
-use Rattle.mb_iface.specs.Changed.{ChangeList, IsWithinView, changed}
+use Rattle.mb_kinds.specs.Changed.{ChangeList, IsWithinView, changed}
 use Rattle.mb_iface.specs.Near.{IsNear, IsTouched}
 use Rattle.mb_iface.specs.Near.IsNear.{super_block, inode_list, free}
 use Rattle.mb_iface.specs.OpenCounts.{count_of}

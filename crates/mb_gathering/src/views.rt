@@ -1,6 +1,6 @@
 ghost use Rattle.std.specs.Prelude.{◌≡◌, ◌<◌, [], None, IfOk};
 ghost use Rattle.mb_gathering.specs.Growing.{Grows, IsFrom};
-ghost use Rattle.mb_iface.specs.Changed.{changed};
+ghost use Rattle.mb_kinds.specs.Changed.{changed};
 
 use mb_iface::{Changes, Need, View};
 use std::alloc::Global;
@@ -13,7 +13,7 @@ pub struct Gathered {
 }
 
 impl View for Gathered {
-    ghost use Rattle.mb_iface.specs.Changed.{changed};
+    ghost use Rattle.mb_kinds.specs.Changed.{changed};
 
     ghost shown = { λ g. changed g.blocks };
 

@@ -4,7 +4,7 @@ use Rattle.std.specs.List.{All}
 use Rattle.std.proofs.lemmas.List.Elements.{All-nil, All-cons, All-head, All-tail}
 use Rattle.std.specs.Map.{set_value}
 use Rattle.indexmap.specs.IndexMap.{insert_entry, insert_all}
-use Rattle.mb_iface.specs.Changed.{ChangeList, IsChange}
+use Rattle.mb_kinds.specs.Changed.{ChangeList, IsChange}
 
 pub each_inserted : (changes : ChangeList) (block : ℕ) (bytes : List ℕ) → All IsChange changes → IsChange (block, bytes) → All IsChange (insert_entry nat_eq changes block bytes)
 each_inserted [] block bytes each new = All-cons IsChange (block, bytes) [] new (All-nil IsChange)

@@ -9,7 +9,7 @@ use Rattle.indexmap.specs.IndexMap.{set_value_at}
 use Rattle.indexmap.specs.Layout.{hash_map}
 use Rattle.indexmap.proofs.CallerLemmas.{updates-with_value_at}
 use Rattle.mb_word.specs.Numbers.{put_at}
-use Rattle.mb_iface.specs.Changed.{ChangeList, IsChange, AreChanges, changed}
+use Rattle.mb_kinds.specs.Changed.{ChangeList, IsChange, AreChanges, changed}
 
 keys_set : (changes : ChangeList) (place : ℕ) (bytes : List ℕ) → keys_of (set_value_at changes place bytes) ≡ keys_of changes
 keys_set [] place bytes = refl

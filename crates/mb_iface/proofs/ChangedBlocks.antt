@@ -4,7 +4,7 @@ use Rattle.std.specs.Option.{option_or}
 use Rattle.std.proofs.lemmas.Bool.Decides.{nat_tests}
 use mathlib.Core.Path.{fun_ext}
 use Rattle.mb_tree.specs.Views.{over, IsPart}
-use Rattle.mb_iface.specs.Changed.{ChangeList, changed, put_block, shown_over}
+use Rattle.mb_kinds.specs.Changed.{ChangeList, changed, put_block, shown_over}
 
 pub put_block_same : (blocks : ℕ → List ℕ) (block : ℕ) (bytes : List ℕ) → put_block blocks block bytes block ≡ bytes
 unfolding put_block

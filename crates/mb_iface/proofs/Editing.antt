@@ -6,7 +6,7 @@ use Rattle.std.proofs.lemmas.Bool.Decides.{nat_tests}
 use mathlib.Core.Path.{fun_ext}
 use Rattle.mb_word.specs.Numbers.{put_at}
 use Rattle.mb_tree.specs.Views.{over}
-use Rattle.mb_iface.specs.Changed.{ChangeList, changed, put_block, shown_over}
+use Rattle.mb_kinds.specs.Changed.{ChangeList, changed, put_block, shown_over}
 use Rattle.mb_iface.specs.Edits.{HasEdited, HasEditedBoth}
 use Rattle.mb_iface.proofs.ChangedBlocks.{over_put, put_block_same}
 use Rattle.mb_iface.proofs.WithinViews.{within_put}

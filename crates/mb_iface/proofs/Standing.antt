@@ -4,7 +4,7 @@ use Rattle.std.proofs.lemmas.Bool.{cases_eq}
 use Rattle.std.proofs.lemmas.Bool.Decides.{nat_tests}
 use Rattle.indexmap.specs.IndexMap.{insert_entry, set_value_at}
 use Rattle.mb_word.specs.Numbers.{put_at}
-use Rattle.mb_iface.specs.Changed.{ChangeList, AreChanges, changed}
+use Rattle.mb_kinds.specs.Changed.{ChangeList, AreChanges, changed}
 use Rattle.mb_iface.specs.Guesses.{AreMarked}
 use Rattle.mb_iface.specs.Places.{StandsAt}
 use Rattle.mb_iface.specs.Pairs.{HasPutAndEdited}

@@ -6,7 +6,7 @@ use Rattle.std.proofs.lemmas.Bool.Decides.{nat_tests}
 use mathlib.Core.Path.{fun_ext}
 use Rattle.mb_word.specs.Numbers.{put_at}
 use Rattle.mb_tree.specs.Views.{over, IsPart}
-use Rattle.mb_iface.specs.Changed.{ChangeList, changed, put_block, IsWithinView}
+use Rattle.mb_kinds.specs.Changed.{ChangeList, changed, put_block, IsWithinView}
 use Rattle.mb_iface.specs.Pairs.{HasHeld, HasHeldBoth, HasPutAndEdited}
 use Rattle.mb_iface.proofs.ChangedBlocks.{over_put, over_both, put_block_other}
 use Rattle.mb_iface.proofs.Editing.{Sets, Patches, over_unchanged, found_shown, there_now, by_patch}

@@ -2,7 +2,7 @@
 use Rattle.std.proofs.Common.{ℕ, ◌≡◌, List, Option, Some, None, IsSome, Bool, true, false, cond, nat_eq, refl, subst, arith}
 use Rattle.std.specs.Option.{option_or}
 use Rattle.std.proofs.lemmas.Bool.Decides.{nat_tests}
-use Rattle.mb_iface.specs.Changed.{ChangeList, changed, shown_over, IsWithinView}
+use Rattle.mb_kinds.specs.Changed.{ChangeList, changed, shown_over, IsWithinView}
 
 -- a block that is found under changes of blocks of the view is one of the view
 from_under : (c s : Option (List ℕ)) → (IsSome c → IsSome s) → IsSome (option_or c s) → IsSome s

@@ -15,7 +15,7 @@ use Rattle.mb_tree.specs.declared.operations.FsOp.{FsOp}
 use Rattle.mb_tree.specs.declared.trees.Tree.{Tree}
 use Rattle.mb_iface.specs.declared.replies.Acted.{Acted}
 use Rattle.mb_iface.specs.declared.replies.Acted.TheVariants as acted
-use Rattle.mb_iface.specs.Changed.{ChangeList, changed, IsWithinView}
+use Rattle.mb_kinds.specs.Changed.{ChangeList, changed, IsWithinView}
 use Rattle.mb_iface.specs.Near.{IsNear, IsTouched}
 use Rattle.mb_iface.specs.OpenCounts.{count_of}
 

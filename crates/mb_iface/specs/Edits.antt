@@ -2,7 +2,7 @@
 use Rattle.std.specs.Prelude.{List, ℕ, ◌≡◌, Option, None, IsSome}
 use Rattle.mb_word.specs.Numbers.{put_at}
 use Rattle.mb_tree.specs.Views.{over, IsPart}
-use Rattle.mb_iface.specs.Changed.{ChangeList, changed, put_block, IsWithinView}
+use Rattle.mb_kinds.specs.Changed.{ChangeList, changed, put_block, IsWithinView}
 use Rattle.mb_iface.specs.declared.edits.Edited.{Edited}
 use Rattle.mb_iface.specs.declared.edits.Edited.TheVariants as edited
 

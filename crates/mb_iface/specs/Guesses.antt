@@ -1,6 +1,6 @@
 -- Guesses at where changed blocks stand in the list.
 use Rattle.std.specs.Prelude.{List, ℕ, ◌<◌, ◌%◌, IsSome, slice_index}
-use Rattle.mb_iface.specs.Changed.{ChangeList, AreChanges, changed}
+use Rattle.mb_kinds.specs.Changed.{ChangeList, AreChanges, changed}
 
 -- where there is no guess, by a block's number modulo 16, no such block is changed
 abbrev pub AreMarked : List ℕ → ChangeList → Type 0

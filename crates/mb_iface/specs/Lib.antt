@@ -1,6 +1,5 @@
 pub mod Acting
 pub mod Asking
-pub mod Changed
 pub mod Edits
 pub mod Guesses
 pub mod Near

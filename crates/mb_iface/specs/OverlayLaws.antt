@@ -1,7 +1,7 @@
 -- The laws of changes over blocks and over views.
 use Rattle.std.specs.Prelude.{List, [], ℕ, ◌≡◌, ◌≢◌, Option, IsSome}
 use Rattle.mb_tree.specs.Views.{over, IsPart}
-use Rattle.mb_iface.specs.Changed.{ChangeList, changed, put_block, shown_over, IsWithinView}
+use Rattle.mb_kinds.specs.Changed.{ChangeList, changed, put_block, shown_over, IsWithinView}
 
 -- without changes the blocks read as they are
 abbrev pub NoChangeKeeps : Type 0

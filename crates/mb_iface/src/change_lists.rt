@@ -3,7 +3,7 @@ ghost use Rattle.mb_word.specs.Numbers.{put_at};
 ghost use Rattle.std.specs.Option.{option_or};
 ghost use Rattle.mb_tree.specs.Views.{over};
 ghost use Rattle.indexmap.specs.IndexMap.{insert_entry, insert_all, spare, Updates, IsUnique};
-ghost use Rattle.mb_iface.specs.Changed.{AreChanges, changed, put_block};
+ghost use Rattle.mb_kinds.specs.Changed.{AreChanges, changed, put_block};
 ghost use Rattle.mb_iface.specs.Places.{StandsAt};
 
 use indexmap::IndexMap;

@@ -1,5 +1,5 @@
 ghost use Rattle.std.specs.Prelude.{◌≡◌, ◌≤◌, ◌<◌, ◌+◌, None, length};
-ghost use Rattle.mb_iface.specs.Changed.{changed};
+ghost use Rattle.mb_kinds.specs.Changed.{changed};
 ghost use Rattle.mb_iface.specs.Edits.{Edits, EditsBoth};
 
 use crate::change_lists::Changes;

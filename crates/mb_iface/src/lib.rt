@@ -3,11 +3,10 @@
 //! answers, and the trait of a file system's code. Nothing here waits, and only want of memory is
 //! refused.
 //!
-//! `specs/Changed.antt` says how changes lie over the blocks of an image, `specs/Places.antt` where a
-//! changed block stands in their list, `specs/Edits.antt` what a change of some bytes of a block does,
-//! `specs/Pairs.antt` what a change of two blocks, of both or of none, `specs/Near.antt` for which
-//! blocks a query or an operation may ask, `specs/Asking.antt` and `specs/Acting.antt` what its answers
-//! mean on a volume of the reference tree.
+//! `specs/Places.antt` says where a changed block stands in the list of the changes (`specs/Changed.antt` of
+//! `mb_kinds`), `specs/Edits.antt` what a change of some bytes of a block does, `specs/Pairs.antt` what a
+//! change of two blocks, of both or of none, `specs/Near.antt` for which blocks a query or an operation may
+//! ask, `specs/Asking.antt` and `specs/Acting.antt` what its answers mean on a volume of the reference tree.
 #![tactic(auto)]
 
 mod change_lists;

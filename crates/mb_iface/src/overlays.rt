@@ -1,6 +1,6 @@
 ghost use Rattle.std.specs.Prelude.{◌≡◌, ℕ, List, Some, None, IfSome, IfNone, option_copied};
 ghost use Rattle.mb_tree.specs.Views.{over, IsPart};
-ghost use Rattle.mb_iface.specs.Changed.{changed, shown_over};
+ghost use Rattle.mb_kinds.specs.Changed.{changed, shown_over};
 
 use crate::change_lists::Changes;
 use crate::views::View;
@@ -23,7 +23,7 @@ impl<'a, V: View> Over<'a, V> {
 }
 
 impl<V: View> View for Over<'_, V> {
-    ghost use Rattle.mb_iface.specs.Changed.{shown_over};
+    ghost use Rattle.mb_kinds.specs.Changed.{shown_over};
 
     ghost shown = { λ o. shown_over (V.shown o.view.now) o.changes.now };
 

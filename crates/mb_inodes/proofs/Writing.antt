@@ -7,7 +7,7 @@ use Rattle.mb_layout.specs.Inode.{dinode_bytes, FitsDinode}
 use Rattle.mb_layout.specs.declared.dinodes.Dinode.{Dinode}
 use Rattle.mb_layout.proofs.InodeBytes.{length-dinode_bytes}
 use Rattle.mb_tree.specs.Views.{over, IsPart}
-use Rattle.mb_iface.specs.Changed.{ChangeList, changed, put_block}
+use Rattle.mb_kinds.specs.Changed.{ChangeList, changed, put_block}
 use Rattle.mb_iface.specs.Edits.{Edits}
 use Rattle.mb_iface.specs.declared.edits.Edited.{Edited}
 use Rattle.mb_iface.specs.declared.edits.Edited.TheVariants.{Done, Lacking, NoMemory}

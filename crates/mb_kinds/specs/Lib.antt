@@ -1,3 +1,4 @@
+pub mod Changed
 pub mod ErrorNames
 pub mod Image
 pub mod Own

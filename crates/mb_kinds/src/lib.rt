@@ -4,7 +4,7 @@
 //! exactly where their contents are.
 //!
 //! `specs/Own.antt` says which entries of a history are a caller's own, `specs/Image.antt` what an
-//! image of a volume is.
+//! image of a volume is, `specs/Changed.antt` how changed blocks lie over those of an image.
 #![tactic(auto)]
 
 mod bytes;

@@ -5,7 +5,7 @@ use Rattle.std.specs.List.{IsDistinct, AllByRecursion, All}
 use Rattle.std.specs.Map.{keys_of}
 use Rattle.std.proofs.lemmas.List.Elements.{All-nil, All-cons, All-head, All-tail, All-append}
 use Rattle.mb_frames.specs.Pages.{Page, contents}
-use Rattle.mb_iface.specs.Changed.{IsChange, AreChanges}
+use Rattle.mb_kinds.specs.Changed.{IsChange, AreChanges}
 use Rattle.mb_layers.specs.Places.{place_at}
 
 abbrev pub blocks_of : List Page → List ℕ

@@ -12,7 +12,7 @@ use Rattle.mb_frames.proofs.Pointers.{same_ptr_eq, same_ptr_refl}
 use Rattle.mb_frames.proofs.Chains.{one, one_self}
 use Rattle.mb_frames.proofs.Pages.{stands_append, stands_cons, stands_none, standing_at, standing_set, without_here, without_set, replaced_set}
 use Rattle.mb_frames.proofs.Callers.{stands_here, read_here}
-use Rattle.mb_iface.specs.Changed.{AreChanges}
+use Rattle.mb_kinds.specs.Changed.{AreChanges}
 use Rattle.indexmap.specs.IndexMap.{insert_entry}
 use Rattle.mb_layers.specs.Pages.{page_at}
 use Rattle.mb_layers.specs.Places.{place_at}

@@ -5,7 +5,7 @@ use Rattle.std.proofs.lemmas.List.Elements.{All-cons, All-head, All-tail}
 use Rattle.indexmap.specs.IndexMap.{insert_entry}
 use Rattle.mb_edge.specs.Damage.{wiped, page_replaced}
 use Rattle.mb_frames.specs.Pages.{Page, page, contents, filled, replaced}
-use Rattle.mb_iface.specs.Changed.{IsChange, AreChanges}
+use Rattle.mb_kinds.specs.Changed.{IsChange, AreChanges}
 use Rattle.mb_layers.specs.Places.{placed, place_at}
 use Rattle.mb_layers.proofs.Finds.{block_self}
 use Rattle.mb_layers.proofs.Distinct.{blocks_of}

@@ -10,7 +10,7 @@ use denote.RawPtr.{Ptr}
 use Rattle.indexmap.specs.IndexMap.{spare}
 use Rattle.mb_kinds.specs.Image.{Image}
 use Rattle.mb_frames.specs.Pages.{Page, Shelf, ring_at, with_ring, standing, contents}
-use Rattle.mb_iface.specs.Changed.{AreChanges}
+use Rattle.mb_kinds.specs.Changed.{AreChanges}
 use Rattle.mb_layers.specs.Pages.{page_at, under, count_covered}
 use Rattle.mb_layers.specs.Places.{place_at}
 use Rattle.mb_layers.specs.State.{sealed_ring, current_ring, begun, spare_of, IsOver, AreRings, AreTied, ListsBoth, IsSound}

@@ -9,7 +9,7 @@ use Rattle.std.specs.Prelude.{◌≢◌, vec_len, vec_capacity}
 use denote.RawPtr.{Ptr}
 use Rattle.mb_frames.specs.Pages.{Page, page, Shelf, ring_at, with_ring, standing, Stands, contents, SameAt}
 use Rattle.mb_frames.proofs.Pages.{stands_none, standing_cons}
-use Rattle.mb_iface.specs.Changed.{IsChange, AreChanges}
+use Rattle.mb_kinds.specs.Changed.{IsChange, AreChanges}
 use Rattle.mb_layers.specs.Places.{placed, place_at}
 use Rattle.mb_layers.specs.State.{sealed_ring, current_ring, begun, spare_of, IsOver, AreRings, AreTied, ListsBoth, IsSound}
 use Rattle.mb_layers.specs.Tokens.{current_in, sealed_in, IsAged, SameAges}

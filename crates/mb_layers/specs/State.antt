@@ -4,7 +4,7 @@ use Rattle.std.specs.List.{list_any}
 use denote.RawPtr.{Ptr}
 use Rattle.mb_frames.specs.Pages.{Page, Shelf, standing, ring_at, contents}
 use Rattle.indexmap.specs.IndexMap.{spare}
-use Rattle.mb_iface.specs.Changed.{AreChanges}
+use Rattle.mb_kinds.specs.Changed.{AreChanges}
 use Rattle.mb_layers.specs.Places.{place_at}
 use Rattle.mb_layers.specs.declared.tokens.Tokens.{Tokens}
 use Rattle.mb_layers.specs.Tokens.{current_in, sealed_in, IsAged}

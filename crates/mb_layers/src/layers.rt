@@ -5,7 +5,7 @@ ghost use Rattle.std.specs.Map.{remove_entry};
 ghost use Rattle.indexmap.specs.IndexMap.{insert_entry, spare};
 ghost use Rattle.mb_kinds.specs.Image.{Image};
 ghost use Rattle.mb_edge.specs.Damage.{page_replaced, wiped};
-ghost use Rattle.mb_iface.specs.Changed.{AreChanges};
+ghost use Rattle.mb_kinds.specs.Changed.{AreChanges};
 ghost use Rattle.mb_frames.specs.Pages.{ring_at, contents};
 ghost use Rattle.mb_layers.specs.Pages.{PageList, page_at, under, count_covered};
 ghost use Rattle.mb_layers.specs.Places.{place_at};

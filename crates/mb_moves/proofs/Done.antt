@@ -13,7 +13,7 @@ use Rattle.mb_tree.specs.declared.operations.FsOp.TheVariants.{Create, Empty, Ma
 use Rattle.mb_tree.specs.declared.trees.Tree.{Tree}
 use Rattle.mb_tree.proofs.EachOperation.{operation_kept}
 use Rattle.mb_iface.specs.Acting.{HasDone, HasRefused, Picks, PicksNumber, with_changes}
-use Rattle.mb_iface.specs.Changed.{ChangeList, IsWithinView}
+use Rattle.mb_kinds.specs.Changed.{ChangeList, IsWithinView}
 use Rattle.mb_nodes.proofs.Volumes.{volume_of}
 use Rattle.mb_moves.specs.Advancing.{AdvancesTo}
 use Rattle.mb_moves.proofs.InARow.{itself}

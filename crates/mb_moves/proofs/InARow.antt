@@ -6,7 +6,7 @@ use Rattle.mb_tree.specs.Volume.{IsVolume}
 use Rattle.mb_tree.specs.declared.trees.Tree.{Tree}
 use Rattle.mb_tree.proofs.KeptVolumes.{kept_composes, kept_same}
 use Rattle.mb_iface.specs.Acting.{with_changes}
-use Rattle.mb_iface.specs.Changed.{ChangeList, changed}
+use Rattle.mb_kinds.specs.Changed.{ChangeList, changed}
 use Rattle.mb_nodes.specs.Stored.{IsStored}
 use Rattle.mb_nodes.proofs.Volumes.{stored_of}
 use Rattle.mb_moves.specs.Advancing.{Advances, AdvancesTo, IsNearTo}

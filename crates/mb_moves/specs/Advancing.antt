@@ -4,7 +4,7 @@ use Rattle.mb_kinds.specs.Image.{Image}
 use Rattle.mb_tree.specs.Views.{over, IsPart}
 use Rattle.mb_tree.specs.declared.trees.Tree.{Tree}
 use Rattle.mb_iface.specs.Acting.{with_changes}
-use Rattle.mb_iface.specs.Changed.{ChangeList, changed}
+use Rattle.mb_kinds.specs.Changed.{ChangeList, changed}
 use Rattle.mb_iface.specs.Near.{IsNear}
 use Rattle.mb_nodes.specs.Stored.{IsStored, Follows}
 

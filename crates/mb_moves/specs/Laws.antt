@@ -20,7 +20,7 @@ use Rattle.mb_tree.specs.declared.nodes.PlainSlot.{PlainSlot}
 use Rattle.mb_tree.specs.declared.operations.FsOp.{FsOp}
 use Rattle.mb_tree.specs.declared.trees.Tree.{Tree}
 use Rattle.mb_iface.specs.Acting.{HasDone, HasRefused, Picks, with_changes}
-use Rattle.mb_iface.specs.Changed.{ChangeList, IsWithinView}
+use Rattle.mb_kinds.specs.Changed.{ChangeList, IsWithinView}
 use Rattle.mb_blocks.specs.FreeLists.{AreFreed, onto}
 use Rattle.mb_blocks.specs.Growing.{Reaches, missing}
 use Rattle.mb_blocks.specs.Inodes.{HasFields, IsRewritten}

@@ -21,7 +21,7 @@ use Rattle.mb_tree.specs.declared.nodes.Node.{Node}
 use Rattle.mb_tree.specs.declared.nodes.PlainSlot.{PlainSlot}
 use Rattle.mb_tree.specs.declared.trees.Tree.{Tree}
 use Rattle.mb_iface.specs.Asking.{Finds, place_answer}
-use Rattle.mb_iface.specs.Changed.{ChangeList, changed}
+use Rattle.mb_kinds.specs.Changed.{ChangeList, changed}
 use Rattle.mb_iface.specs.Near.{IsNear, IsPassed}
 use Rattle.mb_iface.proofs.ChangedBlocks.{over_none}
 use Rattle.mb_iface.specs.Near.IsNear.{super_block, inode_list, free, held}

@@ -5,7 +5,7 @@ use Rattle.std.proofs.lemmas.Bool.Decides.{nat_tests}
 use Rattle.mb_tree.specs.Blocks.{pointers, part_address, part_in}
 use Rattle.mb_tree.specs.Places.{at}
 use Rattle.mb_tree.specs.Views.{over, IsPart}
-use Rattle.mb_iface.specs.Changed.{ChangeList, changed}
+use Rattle.mb_kinds.specs.Changed.{ChangeList, changed}
 use Rattle.mb_blocks.proofs.PartBytes.{part_found}
 use Rattle.mb_blocks.proofs.Pointing.{zero_entry}
 use Rattle.mb_bmap.specs.Locating.{address_on, IsFirstHole, IsOnWayTo, OnWay}

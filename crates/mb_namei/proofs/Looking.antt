@@ -17,7 +17,7 @@ use Rattle.mb_tree.specs.declared.nodes.PlainSlot.{PlainSlot}
 use Rattle.mb_tree.specs.declared.nodes.Node.{Node}
 use Rattle.mb_tree.specs.declared.trees.Tree.{Tree}
 use Rattle.mb_tree.proofs.InodeKinds.{is_leaf_at}
-use Rattle.mb_iface.specs.Changed.{ChangeList, changed}
+use Rattle.mb_kinds.specs.Changed.{ChangeList, changed}
 use Rattle.mb_iface.specs.Near.{IsNear}
 use Rattle.mb_namei.specs.Directories.{IsBlockOf}
 use Rattle.mb_namei.specs.InodeLaws.{IsInodeOf, ReadsNode}

@@ -7,7 +7,7 @@ use Rattle.mb_tree.specs.Blocks.{part_address, part_in, slot_of, slot_in}
 use Rattle.mb_tree.specs.Lookup.{is_used, is_named, number_of}
 use Rattle.mb_tree.specs.Views.{over}
 use Rattle.mb_tree.specs.declared.nodes.PlainSlot.{PlainSlot}
-use Rattle.mb_iface.specs.Changed.{ChangeList, changed}
+use Rattle.mb_kinds.specs.Changed.{ChangeList, changed}
 use Rattle.mb_bmap.specs.Locating.{OnWay}
 use Rattle.mb_bmap.specs.Ways.{route_of}
 use Rattle.mb_namei.specs.Directories.{IsDirectoryOn}

@@ -24,7 +24,7 @@ use Rattle.mb_tree.specs.Volume.{IsVolume}
 use Rattle.mb_tree.specs.declared.lookups.Placed.TheVariants.{At, Itself}
 use Rattle.mb_tree.specs.declared.nodes.Node.{Node}
 use Rattle.mb_tree.specs.declared.trees.Tree.{Tree}
-use Rattle.mb_iface.specs.Changed.{ChangeList, changed}
+use Rattle.mb_kinds.specs.Changed.{ChangeList, changed}
 use Rattle.mb_iface.specs.Near.{IsOnWay, IsOnWayBefore}
 use Rattle.mb_iface.proofs.ChangedBlocks.{over_none}
 use Rattle.mb_namei.specs.Lookups.{OnVolume}

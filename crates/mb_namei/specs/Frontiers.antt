@@ -1,6 +1,6 @@
 -- What a directory's search asks for before it is begun.
 use Rattle.std.specs.Prelude.{List, ℕ, Option, IfSome}
-use Rattle.mb_iface.specs.Changed.{ChangeList}
+use Rattle.mb_kinds.specs.Changed.{ChangeList}
 use Rattle.mb_iface.specs.Needs.{IsNeed}
 use Rattle.mb_iface.specs.declared.replies.Need.{Need}
 use Rattle.mb_namei.specs.Directories.{IsBlockOf}

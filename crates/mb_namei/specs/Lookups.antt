@@ -7,7 +7,7 @@ use Rattle.mb_tree.specs.Trees.{IsThere}
 use Rattle.mb_tree.specs.Views.{over, IsPart}
 use Rattle.mb_tree.specs.Volume.{IsVolume}
 use Rattle.mb_tree.specs.declared.trees.Tree.{Tree}
-use Rattle.mb_iface.specs.Changed.{ChangeList, changed}
+use Rattle.mb_kinds.specs.Changed.{ChangeList, changed}
 use Rattle.mb_iface.specs.Near.{IsNear}
 use Rattle.mb_iface.specs.Needs.{IsNeed}
 use Rattle.mb_namei.specs.declared.lookups.LookedUp.{LookedUp}

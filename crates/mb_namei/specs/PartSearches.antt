@@ -1,7 +1,7 @@
 -- One part of a directory, gone through after the parts before it.
 use Rattle.std.specs.Prelude.{List, ℕ, ◌+◌, ◌*◌, ◌/◌, ◌<◌, ◌≤◌, ◌≡◌, min, Option}
 use Rattle.mb_tree.specs.Blocks.{slot_in}
-use Rattle.mb_iface.specs.Changed.{ChangeList}
+use Rattle.mb_kinds.specs.Changed.{ChangeList}
 use Rattle.mb_iface.specs.Needs.{IsNeed}
 use Rattle.mb_namei.specs.Directories.{IsBlockOf}
 use Rattle.mb_namei.specs.Searching.{OnDirectory}

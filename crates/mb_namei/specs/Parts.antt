@@ -3,7 +3,7 @@ use Rattle.std.specs.Prelude.{List, ℕ, ◌≡◌, Option, Some}
 use Rattle.mb_tree.specs.Blocks.{part_in}
 use Rattle.mb_bmap.specs.Locating.{OnWay}
 use Rattle.mb_bmap.specs.Ways.{route_of}
-use Rattle.mb_iface.specs.Changed.{ChangeList}
+use Rattle.mb_kinds.specs.Changed.{ChangeList}
 use Rattle.mb_iface.specs.Needs.{IsNeed}
 use Rattle.mb_tree.specs.Blocks.{part_address}
 use Rattle.mb_namei.specs.Directories.{IsBlockOf}

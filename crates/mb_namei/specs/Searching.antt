@@ -3,7 +3,7 @@ use Rattle.std.specs.Prelude.{List, ℕ, ◌≡◌, Bool, not, Option, Some, Non
 use Rattle.mb_tree.specs.Lookup.{is_used, is_named, number_of}
 use Rattle.mb_tree.specs.Views.{over, IsPart}
 use Rattle.mb_tree.specs.declared.nodes.PlainSlot.{PlainSlot}
-use Rattle.mb_iface.specs.Changed.{ChangeList, changed}
+use Rattle.mb_kinds.specs.Changed.{ChangeList, changed}
 use Rattle.mb_iface.specs.Needs.{IsNeed}
 use Rattle.mb_namei.specs.Directories.{IsDirectoryOn, IsBlockOf}
 use Rattle.mb_namei.specs.declared.searches.Sought.{Sought}

@@ -5,7 +5,8 @@ use Rattle.mb_core_spec.specs.declared.steps.Step.TheVariants as step
 use Rattle.mb_edge.specs.declared.crossings.Crossing.{Crossing}
 use Rattle.mb_calls.specs.declared.performing.Performed.TheVariants as performed
 use Rattle.mb_calls.specs.declared.performing.Ready.{Ready}
-use Rattle.mb_core_spec.specs.Copies.{KeptBlock, PagesState, kept_at, shown}
+use Rattle.mb_cache.specs.Kept.{KeptBlock, kept_at, shown}
+use Rattle.mb_core_spec.specs.Copies.{PagesState}
 use Rattle.mb_iface.specs.Needs.{IsNeed}
 use Rattle.mb_iface.specs.declared.replies.Need.{Need}
 use Rattle.mb_jobs.specs.declared.jobs.JobCall.{JobCall}

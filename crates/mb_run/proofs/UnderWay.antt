@@ -3,7 +3,8 @@ use Rattle.std.proofs.Common.{◌≡◌, ◌⊎◌, inl, inr, ℕ, List, true, f
 use Rattle.mb_calls.proofs.Cutting.{going_grows}
 use Rattle.mb_calls.specs.Following.{IsGoingFor, ViewGrows}
 use Rattle.mb_calls.specs.declared.resuming.Performing.{Performing}
-use Rattle.mb_core_spec.specs.Copies.{PagesState, TableCopy, no_pages, shown}
+use Rattle.mb_cache.specs.Kept.{shown}
+use Rattle.mb_core_spec.specs.Copies.{PagesState, TableCopy, no_pages}
 use Rattle.mb_iface.specs.declared.replies.Need.{Need}
 use Rattle.mb_kinds.specs.declared.calls.Call.{Call}
 use Rattle.mb_run.specs.Pages.{Grows, GrowsBy, IsUnderWay, LacksAll, has}

@@ -2,7 +2,8 @@
 use Rattle.std.specs.Prelude.{[], ◌∷◌, ℕ, Bool, true, ◌&&◌, nat_eq, Option, None, Some, length, slice_get}
 use Rattle.mb_cache.specs.Stamps.{Stamps, stamp_of}
 use Rattle.mb_core_spec.specs.Callers.{begun, insiders}
-use Rattle.mb_core_spec.specs.Copies.{CopyList, KeptBlock, LiveTables, PagesState, TableCopy, kept_at, no_pages}
+use Rattle.mb_cache.specs.Kept.{CopyList, KeptBlock, kept_at}
+use Rattle.mb_core_spec.specs.Copies.{LiveTables, PagesState, TableCopy, no_pages}
 use Rattle.mb_core_spec.specs.Numbers.{open_calls}
 use Rattle.mb_core_spec.specs.State.{CallerState, CoreState}
 use Rattle.mb_run.specs.Sights.{Seat, Sight, limits_of, steps_left}

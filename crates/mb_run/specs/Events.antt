@@ -9,7 +9,8 @@ use Rattle.mb_kinds.specs.declared.faults.Ticket.{Ticket}
 use Rattle.mb_kinds.specs.declared.replies.Reply.{Reply}
 use Rattle.mb_kinds.specs.declared.replies.Reply.TheVariants as reply
 use Rattle.mb_edge.specs.Causes.{Rose}
-use Rattle.mb_core_spec.specs.Copies.{PagesState, no_pages, shown}
+use Rattle.mb_cache.specs.Kept.{shown}
+use Rattle.mb_core_spec.specs.Copies.{PagesState, no_pages}
 use Rattle.mb_run.specs.Pages.{Grows, HasTablesFor, LacksAll, Performs, has}
 use Rattle.mb_run.specs.Seals.{Marks, is_due}
 use Rattle.mb_run.specs.Sights.{Seat, Sight, one_if, recovers, flight_of, is_new, IsOld}

@@ -5,7 +5,8 @@ use Rattle.mb_calls.specs.Following.{IsGoingFor, ViewGrows}
 use Rattle.mb_calls.specs.Performed.{FitsCall, IsRight}
 use Rattle.mb_calls.specs.declared.performing.Performed.{Performed}
 use Rattle.mb_calls.specs.declared.resuming.Performing.{Performing}
-use Rattle.mb_core_spec.specs.Copies.{PagesState, TableCopy, kept_at, no_pages, shown}
+use Rattle.mb_cache.specs.Kept.{kept_at, shown}
+use Rattle.mb_core_spec.specs.Copies.{PagesState, TableCopy, no_pages}
 use Rattle.mb_iface.specs.Needs.{blocks_of}
 use Rattle.mb_iface.specs.declared.replies.Need.{Need}
 use Rattle.mb_kinds.specs.declared.calls.Call.{Call}

@@ -19,7 +19,8 @@ use Rattle.mb_calls.specs.declared.performing.Ready.{Ready as PerformedReady}
 use Rattle.mb_callers.specs.CallerLaws.{FloorMeetsNoStale}
 use Rattle.mb_callers.specs.Stale.{AllFresh, IsLeastStale}
 use Rattle.mb_core_spec.specs.Callers.{one_if}
-use Rattle.mb_core_spec.specs.Copies.{HoldsFloor, PagesState, TableCopy, shown}
+use Rattle.mb_cache.specs.Kept.{shown}
+use Rattle.mb_core_spec.specs.Copies.{HoldsFloor, PagesState, TableCopy}
 use Rattle.mb_core_spec.specs.Events.{floor_after, gathers_anew, logged_op, staling, taken_back, with_room}
 use Rattle.mb_core_spec.specs.Flights.{IsMine}
 use Rattle.mb_core_spec.specs.Numbers.{is_open, open_flight}

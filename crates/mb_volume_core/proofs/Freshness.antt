@@ -3,7 +3,8 @@ use Rattle.std.proofs.Common.{◌≡◌, ◌∙◌, [], ◌∷◌, ℕ, true, fa
 use Rattle.std.proofs.lemmas.Bool.{and_from, and_parts, eq-eqb, eqb-true}
 use Rattle.std.proofs.lemmas.Option.{same_Some}
 use Rattle.mb_cache.specs.Stamps.{Stamps, stamp_of}
-use Rattle.mb_core_spec.specs.Copies.{CopyList, HoldsFloor, KeptBlock, LiveTables, PagesState, TableCopy, kept_at}
+use Rattle.mb_cache.specs.Kept.{CopyList, KeptBlock, kept_at}
+use Rattle.mb_core_spec.specs.Copies.{HoldsFloor, LiveTables, PagesState, TableCopy}
 use Rattle.mb_run.specs.CoreSight.{are_blocks_fresh, are_tables_fresh, is_block_fresh, is_fresh}
 
 -- ---- what holds is found

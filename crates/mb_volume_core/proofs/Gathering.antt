@@ -9,7 +9,8 @@ use Rattle.mb_kinds.specs.declared.replies.Reply.TheVariants as reply
 use Rattle.mb_iface.specs.declared.replies.Need.{Need}
 use Rattle.mb_callers.specs.CallerLaws.{Gathered as Got, HasMore}
 use Rattle.mb_callers.proofs.Gatherings.{blocks_gathered, tables_gathered}
-use Rattle.mb_core_spec.specs.Copies.{KeptBlock, PagesState, kept_at}
+use Rattle.mb_cache.specs.Kept.{KeptBlock, kept_at}
+use Rattle.mb_core_spec.specs.Copies.{PagesState}
 use Rattle.mb_core_spec.specs.Events.{gathering, with_room}
 use Rattle.mb_core_spec.specs.Right.{Right}
 use Rattle.mb_core_spec.specs.State.{CallerState, CoreState}

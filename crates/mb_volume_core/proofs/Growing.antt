@@ -10,7 +10,8 @@ use Rattle.mb_callers.specs.Gathering.{with_blocks, with_tables}
 use Rattle.mb_copies.specs.Reads.{numbers, stored}
 use Rattle.mb_copies.proofs.Stored.{kept_stored}
 use Rattle.mb_copies.proofs.Numbers.{first_of}
-use Rattle.mb_core_spec.specs.Copies.{CopyList, KeptBlock, PagesState, TableCopy, kept_at, shown}
+use Rattle.mb_cache.specs.Kept.{CopyList, KeptBlock, kept_at, shown}
+use Rattle.mb_core_spec.specs.Copies.{PagesState, TableCopy}
 use Rattle.mb_kinds.specs.declared.calls.Call.{Call}
 use Rattle.mb_run.specs.Pages.{Grows, IsUnderWay, LacksAll, has}
 use Rattle.mb_tree.specs.declared.seats.Seat.{Seat}

@@ -8,7 +8,8 @@ use Rattle.mb_kinds.specs.declared.entries.Entry.{Entry}
 use Rattle.mb_kinds.specs.declared.entries.Flight.{Flight}
 use Rattle.mb_cache.specs.Stamps.{Stamps, stamp_of}
 use Rattle.mb_core_spec.specs.Callers.{insiders, one_if}
-use Rattle.mb_core_spec.specs.Copies.{CopyList, HoldsFloor, KeptBlock, LiveTables, PagesState, TableCopy, kept_at}
+use Rattle.mb_cache.specs.Kept.{CopyList, KeptBlock, kept_at}
+use Rattle.mb_core_spec.specs.Copies.{HoldsFloor, LiveTables, PagesState, TableCopy}
 use Rattle.mb_core_spec.specs.Faults.{MayNumber}
 use Rattle.mb_core_spec.specs.Flights.{IsFloor, IsFlying, runs}
 use Rattle.mb_core_spec.specs.Numbers.{AreInOrder, CanFollow, IsEntry, is_open, open_calls, open_flight}

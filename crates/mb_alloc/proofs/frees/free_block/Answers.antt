@@ -3,7 +3,7 @@ use Rattle.std.proofs.lemmas.List.{length-replicate}
 use Rattle.mb_word.specs.Fields.{nfree_of}
 use Rattle.mb_word.specs.Numbers.{word_at, put_at}
 use Rattle.mb_tree.specs.Views.{over}
-use Rattle.mb_iface.specs.Changed.{changed}
+use Rattle.mb_kinds.specs.Changed.{changed}
 use Rattle.mb_alloc.proofs.Takings.{too_many}
 use Rattle.mb_alloc.proofs.Freeings.{freed_none, freed_some, freed_full, put_back, put_back_full}
 use Rattle.mb_alloc.proofs.Within.{length-take_drop}

@@ -2,7 +2,7 @@ use Rattle.std.proofs.Common.{ℕ, List, ◌≡◌, refl, sym, ap, inl, inr, len
 use Rattle.mb_word.specs.Fields.{ninode_of}
 use Rattle.mb_word.specs.Numbers.{put_at}
 use Rattle.mb_tree.specs.Views.{over}
-use Rattle.mb_iface.specs.Changed.{changed, put_block}
+use Rattle.mb_kinds.specs.Changed.{changed, put_block}
 use Rattle.mb_iface.proofs.Editing.{by_patch, by_both}
 use Rattle.mb_iface.proofs.TwoBlocks.{still_there}
 use Rattle.mb_alloc.proofs.Erasings.{erased_at, cached_more, first_stays}

@@ -1,7 +1,7 @@
 use Rattle.std.proofs.Common.{refl, sym, ap, ◌∙◌, ◌-◌, ◌∷◌, [], arith}
 use Rattle.mb_word.specs.Fields.{isize_of}
 use Rattle.mb_tree.specs.Views.{over}
-use Rattle.mb_iface.specs.Changed.{changed}
+use Rattle.mb_kinds.specs.Changed.{changed}
 use Rattle.mb_alloc.specs.Numbers.{cached_below}
 use Rattle.mb_alloc.proofs.Picking.{passed_more, picked_now, cache_cut}
 use Rattle.mb_alloc.proofs.picks.pick_cached.Goals as goal

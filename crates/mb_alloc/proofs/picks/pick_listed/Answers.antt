@@ -1,7 +1,7 @@
 use Rattle.std.proofs.Common.{◌≡◌, [], ◌∷◌, ◌-◌, ◌*◌, refl, sym, ap, ◌∙◌, arith}
 use Rattle.mb_word.specs.Fields.{isize_of}
 use Rattle.mb_tree.specs.Views.{over}
-use Rattle.mb_iface.specs.Changed.{changed}
+use Rattle.mb_kinds.specs.Changed.{changed}
 use Rattle.mb_alloc.specs.Scanning.{words_back}
 use Rattle.mb_alloc.proofs.Scanning.{cache_made, words_first}
 use Rattle.mb_alloc.proofs.Within.{length-take_drop}

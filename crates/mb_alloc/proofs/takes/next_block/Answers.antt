@@ -1,7 +1,7 @@
 use Rattle.std.proofs.Common.{sym, ap, ◌∙◌, ◌+◌, ◌*◌, arith}
 use Rattle.mb_word.specs.Numbers.{word_at, long_at}
 use Rattle.mb_tree.specs.Views.{over}
-use Rattle.mb_iface.specs.Changed.{changed}
+use Rattle.mb_kinds.specs.Changed.{changed}
 use Rattle.mb_alloc.proofs.Takings.{too_many, out_far, next_is}
 use Rattle.mb_alloc.proofs.takes.next_block.Goals as goal
 

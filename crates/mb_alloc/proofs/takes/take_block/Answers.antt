@@ -1,6 +1,6 @@
 use Rattle.std.proofs.Common.{sym, ap, ◌∙◌, take, arith}
 use Rattle.mb_tree.specs.Views.{over}
-use Rattle.mb_iface.specs.Changed.{changed}
+use Rattle.mb_kinds.specs.Changed.{changed}
 use Rattle.mb_alloc.proofs.Takings.{taken_more, taken_last}
 use Rattle.mb_alloc.proofs.takes.take_block.Goals as goal
 

@@ -1,6 +1,6 @@
 use Rattle.std.proofs.Common.{refl, sym, ap, subst, ◌∙◌, take, IsSome, arith}
 use Rattle.mb_tree.specs.Views.{over}
-use Rattle.mb_iface.specs.Changed.{changed}
+use Rattle.mb_kinds.specs.Changed.{changed}
 use Rattle.mb_alloc.proofs.Takings.{taken_zeroed_more, taken_zeroed_last}
 use Rattle.mb_alloc.proofs.takes.take_zeroed.Goals as goal
 

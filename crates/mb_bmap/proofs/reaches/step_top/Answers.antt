@@ -1,7 +1,7 @@
 use Rattle.std.proofs.Common.{refl, sym, ap, inr, ◌∙◌}
 use Rattle.mb_word.specs.Fields.{inode_block, inode_place, address_of}
 use Rattle.mb_tree.specs.Views.{over}
-use Rattle.mb_iface.specs.Changed.{changed}
+use Rattle.mb_kinds.specs.Changed.{changed}
 use Rattle.mb_bmap.proofs.Stepping.{set_top, sized_two}
 use Rattle.mb_bmap.proofs.reaches.step_top.Goals as goal
 

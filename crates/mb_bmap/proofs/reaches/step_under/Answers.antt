@@ -1,7 +1,7 @@
 use Rattle.std.proofs.Common.{refl, sym, ap, inr, ◌∙◌, ◌*◌}
 use Rattle.mb_word.specs.Numbers.{long_at}
 use Rattle.mb_tree.specs.Views.{over}
-use Rattle.mb_iface.specs.Changed.{changed}
+use Rattle.mb_kinds.specs.Changed.{changed}
 use Rattle.mb_bmap.proofs.Stepping.{set_entry, sized_two}
 use Rattle.mb_bmap.proofs.reaches.step_under.Goals as goal
 

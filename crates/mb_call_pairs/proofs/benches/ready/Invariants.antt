@@ -1,4 +1,4 @@
-use Rattle.mb_iface.specs.Changed.{changed}
+use Rattle.mb_kinds.specs.Changed.{changed}
 use Rattle.mb_calls.specs.Following.{IsGoingFor}
 use Rattle.mb_call_pairs.proofs.benches.ready.Given as goal
 

@@ -1,5 +1,5 @@
 use Rattle.std.proofs.Common.{◌≡◌, ◌++◌, ◌+◌, ◌-◌, List, length}
-use Rattle.mb_core_spec.specs.Copies.{KeptBlock}
+use Rattle.mb_cache.specs.Kept.{KeptBlock}
 use Rattle.mb_copies.proofs.copies.lengthen.Given as goal
 
 abbrev pub invariant-copies : goal.invariant-copies

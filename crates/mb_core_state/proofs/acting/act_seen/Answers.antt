@@ -1,5 +1,5 @@
 use Rattle.mb_cache.specs.State.{seen}
-use Rattle.mb_core_spec.specs.Copies.{shown}
+use Rattle.mb_cache.specs.Kept.{shown}
 use Rattle.mb_core_state.proofs.Missing.{fewer_lack}
 use Rattle.mb_core_state.proofs.acting.act_seen.Goals as goal
 

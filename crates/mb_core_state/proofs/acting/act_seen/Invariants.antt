@@ -2,7 +2,7 @@ use Rattle.std.proofs.Common.{◌≡◌, ◌≤◌, Some}
 use Rattle.mb_kinds.specs.Image.{Image}
 use Rattle.mb_tree.specs.Views.{IsPart}
 use Rattle.mb_cache.specs.State.{seen}
-use Rattle.mb_core_spec.specs.Copies.{shown}
+use Rattle.mb_cache.specs.Kept.{shown}
 use Rattle.mb_core_state.proofs.Missing.{lacking}
 use Rattle.mb_core_state.proofs.acting.act_seen.Given as goal
 

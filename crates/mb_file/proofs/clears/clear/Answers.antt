@@ -1,6 +1,6 @@
 use Rattle.std.proofs.Common.{◌≡◌, List, ℕ, subst}
 use Rattle.mb_tree.specs.Views.{over}
-use Rattle.mb_iface.specs.Changed.{changed}
+use Rattle.mb_kinds.specs.Changed.{changed}
 use Rattle.mb_blocks.specs.Inodes.{IsDinodeWritten}
 use Rattle.mb_file.specs.Freeing.{PutsAllBack}
 use Rattle.mb_file.proofs.Clearing.{asked_listing, clears_by}

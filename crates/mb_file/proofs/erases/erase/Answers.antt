@@ -1,5 +1,5 @@
 use Rattle.std.proofs.Common.{refl, subst}
-use Rattle.mb_iface.specs.Changed.{shown_over}
+use Rattle.mb_kinds.specs.Changed.{shown_over}
 use Rattle.mb_alloc.specs.declared.frees.Hung.TheVariants as hung
 use Rattle.mb_file.specs.Erasing.{Erases}
 use Rattle.mb_file.proofs.ErasingSteps.{erases_over, asked_over}

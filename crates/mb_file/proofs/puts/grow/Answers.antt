@@ -1,6 +1,6 @@
 use Rattle.std.proofs.Common.{subst}
 use Rattle.mb_tree.specs.Views.{over}
-use Rattle.mb_iface.specs.Changed.{changed}
+use Rattle.mb_kinds.specs.Changed.{changed}
 use Rattle.mb_blocks.specs.Inodes.{IsDinodeWritten}
 use Rattle.mb_file.proofs.PuttingBytes.{asked_own, size_set}
 use Rattle.mb_file.proofs.puts.grow.Goals as goal

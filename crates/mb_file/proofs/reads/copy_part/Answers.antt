@@ -1,6 +1,6 @@
 use Rattle.std.proofs.Common.{◌+◌, refl, ℕ, replicate}
 use Rattle.mb_alloc.proofs.Within.{lacks}
-use Rattle.mb_iface.specs.Changed.{changed}
+use Rattle.mb_kinds.specs.Changed.{changed}
 use Rattle.mb_file.proofs.Finding.{asked_part}
 use Rattle.mb_file.proofs.Reading.{appends_found, appends_hole, zeros_is}
 use Rattle.mb_file.proofs.reads.copy_part.Goals as goal

@@ -2,7 +2,7 @@ use Rattle.std.proofs.Common.{◌-◌, ◌<◌, sym, subst, ◌∙◌, arith}
 use Rattle.std.specs.List.{Contains}
 use Rattle.mb_tree.specs.Blocks.{pointers}
 use Rattle.mb_tree.specs.Views.{over}
-use Rattle.mb_iface.specs.Changed.{changed}
+use Rattle.mb_kinds.specs.Changed.{changed}
 use Rattle.mb_file.specs.Walking.{LacksBlock, LacksIndex, under_address}
 use Rattle.mb_file.proofs.Listing.{itself_under, asked_under}
 use Rattle.mb_file.proofs.walks.+lacking_under.Goals as goal

@@ -2,7 +2,7 @@ use Rattle.std.proofs.Common.{◌≡◌, ◌+◌, ◌-◌, inl, sym, subst, arit
 use Rattle.std.specs.List.{Contains}
 use Rattle.mb_tree.specs.Blocks.{pointers}
 use Rattle.mb_tree.specs.Views.{over}
-use Rattle.mb_iface.specs.Changed.{changed}
+use Rattle.mb_kinds.specs.Changed.{changed}
 use Rattle.mb_alloc.proofs.Within.{lacks}
 use Rattle.mb_file.specs.Walking.{under_address}
 use Rattle.mb_file.proofs.Listing.{HasPushed, not_listable, pushed_none, pushed_alone, itself_under, pushed_first, pushed_next, pushed_parts, asked_under, pushed_all}

@@ -1,4 +1,4 @@
-use Rattle.mb_iface.specs.Changed.{changed}
+use Rattle.mb_kinds.specs.Changed.{changed}
 use Rattle.mb_gathering.specs.Growing.{Grows, IsFrom}
 use Rattle.mb_gathering.proofs.views.gather.Given as goal
 

@@ -1,5 +1,5 @@
 use Rattle.std.specs.Prelude.{◌≡◌, None}
-use Rattle.mb_iface.specs.Changed.{changed}
+use Rattle.mb_kinds.specs.Changed.{changed}
 use Rattle.mb_gathering.proofs.views.without.Given as goal
 
 abbrev pub invariant-loop-place : goal.invariant-loop-place

@@ -1,5 +1,5 @@
 use Rattle.std.proofs.Common.{sym, ap, subst, ◌∙◌}
-use Rattle.mb_iface.specs.Changed.{changed}
+use Rattle.mb_kinds.specs.Changed.{changed}
 use Rattle.mb_iface.specs.Edits.{Edits}
 use Rattle.mb_iface.proofs.Editing.{by_patch, unpatched, none_told}
 use Rattle.mb_iface.proofs.edits.edit.Goals as goal

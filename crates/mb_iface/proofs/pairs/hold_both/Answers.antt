@@ -1,5 +1,5 @@
 use Rattle.std.proofs.Common.{rules, ◌≡◌, None, sym}
-use Rattle.mb_iface.specs.Changed.{changed}
+use Rattle.mb_kinds.specs.Changed.{changed}
 use Rattle.mb_iface.proofs.TwoBlocks.{both_held_now}
 use Rattle.mb_iface.proofs.pairs.hold_both.Goals as goal
 

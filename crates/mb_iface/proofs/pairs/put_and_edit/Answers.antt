@@ -1,5 +1,5 @@
 use Rattle.std.proofs.Common.{rules, ◌≡◌, ◌≢◌, ◌⊎◌, inl, inr, None, IsSome, sym, arith}
-use Rattle.mb_iface.specs.Changed.{changed}
+use Rattle.mb_kinds.specs.Changed.{changed}
 use Rattle.mb_iface.proofs.TwoBlocks.{edited_in_place, edited_in_copy}
 use Rattle.mb_iface.proofs.pairs.put_and_edit.Goals.{then-put-block-via-then-put-block, then-put-block-via-else-put-block+then-is_some}
 use Rattle.mb_iface.proofs.pairs.put_and_edit.Goals as goal

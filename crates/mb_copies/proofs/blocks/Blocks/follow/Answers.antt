@@ -1,4 +1,4 @@
-use Rattle.mb_core_spec.specs.Copies.{shown}
+use Rattle.mb_cache.specs.Kept.{shown}
 use Rattle.mb_copies.proofs.Renewals.{renewed_part}
 use Rattle.mb_copies.proofs.blocks.Blocks.follow.Goals as goal
 

@@ -1,6 +1,6 @@
 use Rattle.std.proofs.Common.{◌≡◌, ◌∙◌, Some, None, sym, ap, subst, arith}
 use Rattle.std.proofs.lemmas.Option.{slice_get_within, slice_get-get_or}
-use Rattle.mb_core_spec.specs.Copies.{kept_at}
+use Rattle.mb_cache.specs.Kept.{kept_at}
 use Rattle.mb_copies.proofs.Zipped.{kept_in, none_kept}
 use Rattle.mb_copies.proofs.copies.Copies.find.Goals as goal
 

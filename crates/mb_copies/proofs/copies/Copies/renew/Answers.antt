@@ -1,4 +1,4 @@
-use Rattle.mb_core_spec.specs.Copies.{shown}
+use Rattle.mb_cache.specs.Kept.{shown}
 use Rattle.mb_copies.specs.Reads.{renewed}
 use Rattle.mb_copies.proofs.Renewals.{once_more, renewed_more}
 use Rattle.mb_copies.proofs.copies.Copies.renew.Goals as goal

@@ -1,7 +1,7 @@
 use Rattle.std.proofs.Common.{◌≡◌, ◌∙◌, ◌∷◌, [], nat_eq, slice_index_or, slice_set, ap, sym, subst, arith}
 use Rattle.std.proofs.lemmas.Option.{slice_get_within, slice_get-get_or}
 use Rattle.std.specs.List.{IsDistinct, zip}
-use Rattle.mb_core_spec.specs.Copies.{shown}
+use Rattle.mb_cache.specs.Kept.{shown}
 use Rattle.mb_copies.specs.Reads.{renewed}
 use Rattle.mb_copies.proofs.Renewals.{none_renewed, one_renewed}
 use Rattle.mb_copies.proofs.Zipped.{keys_zip, none_kept, zip_at, zip_set}

@@ -1,7 +1,7 @@
 use Rattle.std.proofs.Common.{ℕ, ◌∙◌, ◌++◌, ◌∷◌, [], ap, sym, subst}
 use Rattle.std.proofs.lemmas.List.{map-append, take_more_set}
 use Rattle.mb_cache.specs.State.{seen}
-use Rattle.mb_core_spec.specs.Copies.{KeptBlock}
+use Rattle.mb_cache.specs.Kept.{KeptBlock}
 use Rattle.mb_copies.specs.Reads.{AreRead, numbers}
 use Rattle.mb_copies.proofs.CopyLoops.{read_more}
 use Rattle.mb_copies.proofs.reads.Reads.read.Goals as goal

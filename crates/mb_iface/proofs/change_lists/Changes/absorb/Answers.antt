@@ -3,7 +3,7 @@ use Rattle.std.specs.List.{All}
 use Rattle.std.specs.Option.{option_or}
 use Rattle.std.specs.Cmp.{nat_eq_equiv}
 use Rattle.std.proofs.lemmas.Map.Made.{update_all_distinct}
-use Rattle.mb_iface.specs.Changed.{IsChange, changed}
+use Rattle.mb_kinds.specs.Changed.{IsChange, changed}
 use Rattle.mb_iface.proofs.ChangedBlocks.{over_later}
 use Rattle.mb_iface.proofs.ChangeEntries.{all_inserted}
 use Rattle.mb_iface.proofs.Marks.{all_marked}

@@ -1,5 +1,5 @@
 use Rattle.std.proofs.Common.{◌∙◌, sym, ap}
-use Rattle.mb_iface.specs.Changed.{changed}
+use Rattle.mb_kinds.specs.Changed.{changed}
 use Rattle.mb_iface.proofs.Marks.{unmarked}
 use Rattle.mb_iface.proofs.change_lists.Changes.get.Goals as goal
 

@@ -2,7 +2,7 @@ use Rattle.std.proofs.Common.{ℕ, ◌≡◌, ◌∙◌, Some, MatchOption, slic
 use Rattle.std.proofs.lemmas.Option.{slice_get_within}
 use Rattle.indexmap.specs.IndexMap.{set_value_at}
 use Rattle.mb_word.specs.Numbers.{put_at}
-use Rattle.mb_iface.specs.Changed.{ChangeList, changed}
+use Rattle.mb_kinds.specs.Changed.{ChangeList, changed}
 use Rattle.mb_iface.proofs.ChangePlaces.{changes_set, changed_at, set_at, patched_at, of_block}
 use Rattle.mb_iface.proofs.Marks.{unmarked, marked_put}
 use Rattle.mb_iface.proofs.change_lists.Changes.patch.Goals as goal

@@ -1,7 +1,7 @@
 use Rattle.std.proofs.Common.{◌∙◌, ◌≡◌, length, slice_set, ap, subst, sym, nat_eq, cond, Some, arith}
 use Rattle.std.specs.List.{All}
 use Rattle.std.proofs.lemmas.List.{length-set}
-use Rattle.mb_iface.specs.Changed.{IsChange, changed}
+use Rattle.mb_kinds.specs.Changed.{IsChange, changed}
 use Rattle.mb_iface.specs.Guesses.{AreMarked}
 use Rattle.mb_iface.proofs.ChangedBlocks.{over_both}
 use Rattle.mb_iface.proofs.ChangeEntries.{each_inserted}

@@ -1,7 +1,7 @@
 use Rattle.std.proofs.Common.{◌∙◌, ap, subst, sym, nat_eq, cond, Some, replicate, arith}
 use Rattle.std.specs.List.{All}
 use Rattle.indexmap.specs.IndexMap.{insert_entry}
-use Rattle.mb_iface.specs.Changed.{IsChange, changed}
+use Rattle.mb_kinds.specs.Changed.{IsChange, changed}
 use Rattle.mb_iface.proofs.ChangedBlocks.{over_put}
 use Rattle.mb_iface.proofs.ChangeEntries.{each_inserted}
 use Rattle.mb_iface.proofs.Marks.{marked_put}
