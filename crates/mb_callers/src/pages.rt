@@ -69,9 +69,9 @@ fn next_foreseen(foresight: &mut Foresight, blocks: &Copies, need: &Need) -> Opt
 
 /// The others of a need, and in each place that is left a foreseen block.
 fn others_foreseen(foresight: &mut Foresight, blocks: &Copies, need: &Need) -> Others {
-    let mut others = [0; 7];
+    let mut others = [0; 15];
     let mut more = true;
-    for place in 0..7 {
+    for place in 0..15 {
         let named = need.others.blocks()[place];
         if 0 < named && named < 262_144 {
             others[place] = named;

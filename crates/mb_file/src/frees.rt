@@ -150,7 +150,7 @@ fn wanted_parts(size: u32) -> u32 {
 /// Block 1 and the blocks of addresses to which an inode leads, as far as the view lacks them and a need does not
 /// have them in its run.
 fn lacking_roots<V: View>(view: &V, changes: &Changes, inode: &Dinode, need: &Need) -> Others {
-    let mut others = [0; 7];
+    let mut others = [0; 15];
     let mut count = 0;
     for place in 9..13u8 {
         let block = if place == 9 { 1 } else { inode.address(place) };

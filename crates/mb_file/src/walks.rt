@@ -147,17 +147,17 @@ fn push_under<V: View>(
 }
 
 /// The blocks that the view lacks among those to which an index block's addresses lead, but for the last
-/// `passed` of them: at most seven, and 0 behind them.
+/// `passed` of them: at most fifteen, and 0 behind them.
 fn lacking_beside<V: View>(
     view: &V,
     changes: &Changes,
     index: &[u8; 512],
     passed: usize,
 ) -> Others {
-    let mut others = [0; 7];
+    let mut others = [0; 15];
     let mut count = 0;
     for more in passed..128usize {
-        if count == 7 {
+        if count == 15 {
             break;
         }
         let block = long_at(index, 4 * (127 - more));

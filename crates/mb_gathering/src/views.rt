@@ -72,7 +72,7 @@ pub fn gather(disk: &Gathered, view: &mut Gathered, need: Need) -> Result<(), Fa
     for block in need.first..need.first.saturating_add(need.count).min(262_144) {
         gather_block(disk, view, block)?;
     }
-    for at in 0..7 {
+    for at in 0..15 {
         let block = need.others.blocks()[at];
         if block > 0 && block < 262_144 {
             gather_block(disk, view, block)?;

@@ -3,10 +3,10 @@ ghost use Rattle.mb_iface.specs.OtherBlocks.{AreBlocks};
 
 use std::marker::Model;
 
-/// Single blocks, at most seven, each below 262,144: a contract sees seven numbers, of which 0 is no block.
+/// Single blocks, at most fifteen, each below 262,144: a contract sees fifteen numbers, of which 0 is no block.
 #[derive(Clone, Copy, Debug, PartialEq, Drop)]
 pub struct Others {
-    blocks: [u32; 7],
+    blocks: [u32; 15],
 }
 
 impl Model for Others {
@@ -25,13 +25,13 @@ impl Model for Others {
 impl Others {
     /// No block.
     pub fn none() -> Others
-        ensures { result ≡ replicate 7 0 }
+        ensures { result ≡ replicate 15 0 }
     {
-        Others { blocks: [0; 7] }
+        Others { blocks: [0; 15] }
     }
 
     /// Those of a list.
-    pub fn of(blocks: [u32; 7]) -> Others
+    pub fn of(blocks: [u32; 15]) -> Others
         requires { AreBlocks blocks }
         ensures { result ≡ blocks }
     {
@@ -39,7 +39,7 @@ impl Others {
     }
 
     /// The blocks, and 0 in each place that has none.
-    pub fn blocks(&self) -> &[u32; 7]
+    pub fn blocks(&self) -> &[u32; 15]
         ensures { result.now ≡ self.now }
     {
         &self.blocks

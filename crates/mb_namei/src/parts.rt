@@ -50,7 +50,7 @@ pub(crate) fn fetch<'a, V: View>(
 
 /// What is asked for where the view lacks a part's block: eight parts, and later as many as were passed before
 /// it and one more, at most 32, so what is asked for doubles while a file is gone through. Its neighbours are
-/// asked for with it, and beside them up to seven blocks that stand apart. It stays out of its callers.
+/// asked for with it, and beside them up to fifteen blocks that stand apart. It stays out of its callers.
 #[inline(never)]
 fn lacked<V: View>(view: &V, changes: &Changes, ino: u16, part: u32, parts: u32, block: u32) -> Need
     requires few { parts ≤ 2113674 }
@@ -99,7 +99,7 @@ fn neighbours<V: View>(
 }
 
 /// The blocks that the view lacks of the parts from one on and before another, as far as their addresses
-/// can be told: at most seven, and 0 behind them. The file's first index block is the first of them where
+/// can be told: at most fifteen, and 0 behind them. The file's first index block is the first of them where
 /// the view lacks it and parts that are asked for next stand under it.
 fn others_of<V: View>(
     view: &V,
@@ -110,7 +110,7 @@ fn others_of<V: View>(
 ) -> Others
     requires { to ≤ 2113674 }
 {
-    let mut others = [0; 7];
+    let mut others = [0; 15];
     let mut count = 0;
     if let Some(index) = addresses.lacking_index(2 * to + 1) {
         others[0] = index;
@@ -121,7 +121,7 @@ fn others_of<V: View>(
             break;
         };
         if view.get(block).is_none() {
-            if count == 7 {
+            if count == 15 {
                 break;
             }
             others[count] = block;

@@ -3,4 +3,4 @@ use Rattle.mb_iface.specs.OtherBlocks.{AreBlocks}
 use Rattle.mb_callers.proofs.pages.others_foreseen.Given as goal
 
 abbrev pub invariant-loop-place : goal.invariant-loop-place
-invariant-loop-place l = AreBlocks l.others × (length l.others ≡ 7)
+invariant-loop-place l = AreBlocks l.others × (length l.others ≡ 15)

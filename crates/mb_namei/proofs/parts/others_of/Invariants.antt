@@ -3,4 +3,4 @@ use Rattle.mb_iface.specs.OtherBlocks.{AreBlocks}
 use Rattle.mb_namei.proofs.parts.others_of.Given as goal
 
 abbrev pub invariant-loop-part : goal.invariant-loop-part
-invariant-loop-part g l = AreBlocks l.others × (length l.others ≡ 7) × (l.count ≤ 7)
+invariant-loop-part g l = AreBlocks l.others × (length l.others ≡ 15) × (l.count ≤ 15)
