@@ -4,7 +4,7 @@ ghost use Rattle.mb_calls.specs.Looked.{IsFirst, IsSecond};
 ghost use Rattle.mb_calls.specs.Performed.{FitsCall, IsNeeded, IsRight};
 
 use crate::performing::{Performed, perform_on, seat_of};
-use crate::walks::{PathWalk, PathWalks, find_place, follow, set_out};
+use crate::walks::{PathWalk, PathWalks, cut, find_place, follow, set_out};
 use mb_iface::{FileSys, Need, Opens, View};
 use mb_kinds::{Call, Path};
 use mb_tree::{Seat, call_allowed};
@@ -53,7 +53,16 @@ fn second_path(call: &Call) -> Option<&Path>
     }
 }
 
-/// Follows a path to its last component, and finds its place; it tells which blocks the view lacks.
+/// Whether a path has more than two components from an index on.
+fn is_long(path: &Path, from: usize) -> bool {
+    match cut(path.as_slice(), from) {
+        Some(next) => cut(path.as_slice(), next).is_some(),
+        None => false,
+    }
+}
+
+/// Finds the place of a path by its whole rest, which takes least where all blocks are there. Where some are lacking it
+/// tells which, and follows a long path as far as they are there, so that its components are not all searched again.
 fn follow_to<F: FileSys, V: View>(
     alloc: Global,
     fs: &F,
@@ -69,11 +78,11 @@ fn follow_to<F: FileSys, V: View>(
     if walk.end.is_some() {
         return None;
     }
-    let need = follow(alloc, fs, view, seat, path, walk);
-    if need.is_some() {
-        return need;
+    let need = find_place(alloc, fs, view, seat, path, walk);
+    if need.is_some() && is_long(path, walk.from) {
+        let _ = follow(alloc, fs, view, seat, path, walk);
     }
-    find_place(alloc, fs, view, seat, path, walk)
+    need
 }
 
 /// The first walk of a call goes on. The blocks that it lacks are the first ones that the call needs, since its
