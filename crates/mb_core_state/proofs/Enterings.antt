@@ -142,3 +142,13 @@ pub twice_of : {F D : Type 0} (held old : CoreState F D) (caller ordinal number 
     → TellsTwice old.journal.records caller number result
 twice_of {F} {D} held old caller ordinal number result same is tells =
     subst (λ n. TellsTwice old.journal.records caller n result) is (subst (λ (core : CoreState F D). TellsTwice core.journal.records caller ordinal result) same tells)
+
+-- a call that begins goes inside with a copy of it that was made, from a core that is the same
+pub goes_new_with : {F D : Type 0} (old core new : CoreState F D) (caller : ℕ) (given copy : Call) (ticket : Ticket) (reserved : Option ℕ) → core ≡ old → copy ≡ given
+    → ((mine : CallerState) → slice_get old.callers caller ≡ Some mine → mine.flight ≡ None)
+    → ((mine : CallerState) → slice_get core.callers caller ≡ Some mine → GoesInside core new caller (begins core.config.start core.callers mine copy) (flight_if core.config.start core.callers mine copy None) ticket reserved)
+    → (mine : CallerState) → slice_get old.callers caller ≡ Some mine → GoesInside old new caller (with_call old mine given) (flight_of old mine given) ticket reserved
+goes_new_with {F} {D} old core new caller given copy ticket reserved same copied none goes =
+    subst (λ (start : CoreState F D). (mine : CallerState) → slice_get start.callers caller ≡ Some mine → GoesInside start new caller (with_call start mine given) (flight_of start mine given) ticket reserved) same (λ mine here.
+    subst (λ (now : Call). GoesInside core new caller (with_call core mine now) (flight_of core mine now) ticket reserved) copied
+    (goes_new core new caller mine copy ticket reserved (none mine (subst (λ (start : CoreState F D). slice_get start.callers caller ≡ Some mine) same here)) (goes mine here)))

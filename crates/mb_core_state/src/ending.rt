@@ -24,7 +24,10 @@ impl<F: FileSys, D: Disk> Fields<F, D> {
         ensures room { self.new.journal.room ≡ self.old.journal.room }
     {
         self.give_floor(caller);
-        let (_, answer) = self.callers.get_mut(caller).end(&mut self.cache);
+        let (flight, answer) = self.callers.get_mut(caller).end(&mut self.cache);
+        if let Some(flight) = flight {
+            self.rooms.keep(caller, flight.call);
+        }
         answer
     }
 

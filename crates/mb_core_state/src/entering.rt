@@ -103,7 +103,7 @@ impl<F: FileSys, D: Disk> Fields<F, D> {
         ensures kept { KeepsRoom self.old.journal.room self.new.journal.room }
     {
         self.journal.reserve_answers()?;
-        let call = call.copied(alloc)?;
+        let call = self.rooms.copied(alloc, caller, call)?;
         self.begin_call(caller, call);
         Ok(())
     }
@@ -231,7 +231,7 @@ impl<F: FileSys, D: Disk> Fields<F, D> {
         if self.flies(caller) {
             self.go_in_again(caller, reserved)
         } else {
-            let call = call.copied(alloc)?;
+            let call = self.rooms.copied(alloc, caller, call)?;
             self.go_in_new(caller, call, reserved)
         }
     }

@@ -5,6 +5,7 @@ ghost use Rattle.mb_core_spec.specs.Begun.{begun_core, idle};
 ghost use Rattle.mb_core_spec.specs.Events.{without};
 ghost use Rattle.mb_core_state.specs.Rooms.{fresh_cache};
 
+use crate::flight_rooms::FlightRooms;
 use mb_cache::Cache;
 use mb_callers::Callers;
 use mb_copies::Blocks;
@@ -33,6 +34,7 @@ pub struct Fields<F: FileSys, D: Disk> {
     /// Blocks as they are seen, which operations that are done again have from one to the next. It is for speed alone: no
     /// block has to be there.
     pub(crate) kept: Blocks,
+    pub(crate) rooms: FlightRooms,
 }
 
 impl<F: FileSys, D: Disk> Model for Fields<F, D> {
@@ -73,7 +75,7 @@ impl<F: FileSys, D: Disk> Fields<F, D> {
     {
         let first = Snapshot::of(&disk);
         let cache = Cache::new(alloc, disk)?;
-        let (tables, callers) = match begun_parts(alloc, &config.callers) {
+        let (tables, callers, rooms) = match begun_parts(alloc, &config.callers) {
             Ok(parts) => parts,
             Err(NoMemory) => return Err(cache.into_disk()),
         };
@@ -89,6 +91,7 @@ impl<F: FileSys, D: Disk> Fields<F, D> {
             incarnation: 0,
             config,
             kept: Blocks::new(alloc),
+            rooms,
         })
     }
 
@@ -102,12 +105,13 @@ impl<F: FileSys, D: Disk> Fields<F, D> {
     }
 }
 
-/// The tables and the callers' states of a core that begins.
-fn begun_parts(alloc: Global, creds: &Creds) -> Result<(Tables, Callers), NoMemory>
+/// The tables, the callers' states and the rooms of their flights, of a core that begins.
+fn begun_parts(alloc: Global, creds: &Creds) -> Result<(Tables, Callers, FlightRooms), NoMemory>
     ensures tables { IfOk result (λ parts. parts.0 ≡ record { sessions = map first_seat creds.now; saved = map first_seat creds.now; opens = fin.empty; stamp = 0 }) }
     ensures callers { IfOk result (λ parts. parts.1 ≡ replicate (length creds.now) idle) }
 {
     let tables = Tables::new(alloc, creds)?;
     let callers = Callers::new(alloc, creds.as_slice().len() as u8)?;
-    Ok((tables, callers))
+    let rooms = FlightRooms::new(alloc, creds.as_slice().len())?;
+    Ok((tables, callers, rooms))
 }

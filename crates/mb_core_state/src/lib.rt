@@ -13,6 +13,7 @@ mod ending;
 mod entering;
 mod fields;
 mod finishing;
+mod flight_rooms;
 mod gathering;
 mod laws;
 mod logging;

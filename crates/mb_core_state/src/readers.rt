@@ -95,6 +95,7 @@ impl<F: FileSys, D: Disk> Fields<F, D> {
             incarnation: _,
             config: _,
             kept: _,
+            rooms: _,
         } = self;
         cache.into_disk()
     }

@@ -1,11 +1,24 @@
-ghost use Rattle.std.specs.Prelude.{◌≡◌, IfOk};
+ghost use Rattle.std.specs.Prelude.{◌≡◌, [], IfOk};
 ghost use Rattle.mb_kinds.specs.Texts.{AreOctets, IsPath};
 
 use std::alloc::{AllocError, Global};
 use std::marker::Model;
+use std::mem;
 
 /// A directory entry's name: 14 bytes, padded with 0 (V7 dir(5)).
 pub type Name = [u8; 14];
+
+/// A copy of bytes in the room of a list, of which an empty one is left. The only error is want of memory.
+fn copy_into(alloc: Global, room: &mut Vec<u8>, bytes: &[u8]) -> Result<Vec<u8>, AllocError>
+    ensures copy { IfOk result (λ copy. copy.items ≡ bytes.now) }
+    ensures left { room.new.items ≡ [] }
+{
+    let mut copy = mem::replace(room, Vec::new(alloc));
+    copy.clear();
+    copy.reserve_exact(bytes.len())?;
+    copy.extend_from_slice(bytes)?;
+    Ok(copy)
+}
 
 /// The bytes of one read or write, at most 65,535 of them. A contract sees the list.
 #[derive(Debug, Drop)]
@@ -56,6 +69,16 @@ impl Octets {
     {
         let bytes = Vec::from_slice(alloc, &self.bytes)?;
         Ok(Octets { bytes })
+    }
+
+    /// A copy in the room of a list, of which an empty one is left. The only error is want of memory.
+    pub fn copied_into(&self, alloc: Global, room: &mut Vec<u8>) -> Result<Octets, AllocError>
+        ensures copy { IfOk result (λ copy. copy ≡ self.now) }
+        ensures left { room.new.items ≡ [] }
+    {
+        Ok(Octets {
+            bytes: copy_into(alloc, room, &self.bytes)?,
+        })
     }
 }
 
@@ -122,6 +145,16 @@ impl Path {
     {
         let bytes = Vec::from_slice(alloc, &self.bytes)?;
         Ok(Path { bytes })
+    }
+
+    /// A copy in the room of a list, of which an empty one is left. The only error is want of memory.
+    pub fn copied_into(&self, alloc: Global, room: &mut Vec<u8>) -> Result<Path, AllocError>
+        ensures copy { IfOk result (λ copy. copy ≡ self.now) }
+        ensures left { room.new.items ≡ [] }
+    {
+        Ok(Path {
+            bytes: copy_into(alloc, room, &self.bytes)?,
+        })
     }
 }
 

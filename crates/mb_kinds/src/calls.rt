@@ -1,4 +1,4 @@
-ghost use Rattle.std.specs.Prelude.{◌≡◌, IfOk};
+ghost use Rattle.std.specs.Prelude.{◌≡◌, ◌≤◌, IfOk, IfSome, length};
 
 use crate::bytes::{Octets, Path};
 use std::alloc::{AllocError, Global};
@@ -103,13 +103,22 @@ impl Call {
     pub fn copied(&self, alloc: Global) -> Result<Call, AllocError>
         ensures { IfOk result (λ copy. copy ≡ self.now) }
     {
+        let mut room = Vec::new(alloc);
+        self.copied_into(alloc, &mut room)
+    }
+
+    /// A copy whose path or bytes stand in the room of a list, of which an empty one is left; of two paths the first
+    /// takes it, and a call without any leaves the list. The only error is want of memory.
+    pub fn copied_into(&self, alloc: Global, room: &mut Vec<u8>) -> Result<Call, AllocError>
+        ensures { IfOk result (λ copy. copy ≡ self.now) }
+    {
         let copy = match self {
             Call::Open { path, how } => Call::Open {
-                path: path.copied(alloc)?,
+                path: path.copied_into(alloc, room)?,
                 how: *how,
             },
             Call::Creat { path, mode } => Call::Creat {
-                path: path.copied(alloc)?,
+                path: path.copied_into(alloc, room)?,
                 mode: *mode,
             },
             Call::Close { fd } => Call::Close { fd: *fd },
@@ -119,7 +128,7 @@ impl Call {
             },
             Call::Write { fd, bytes } => Call::Write {
                 fd: *fd,
-                bytes: bytes.copied(alloc)?,
+                bytes: bytes.copied_into(alloc, room)?,
             },
             Call::Lseek { fd, offset, whence } => Call::Lseek {
                 fd: *fd,
@@ -128,42 +137,42 @@ impl Call {
             },
             Call::Dup { fd } => Call::Dup { fd: *fd },
             Call::Link { from, to } => Call::Link {
-                from: from.copied(alloc)?,
+                from: from.copied_into(alloc, room)?,
                 to: to.copied(alloc)?,
             },
             Call::Unlink { path } => Call::Unlink {
-                path: path.copied(alloc)?,
+                path: path.copied_into(alloc, room)?,
             },
             Call::Mkdir { path, mode } => Call::Mkdir {
-                path: path.copied(alloc)?,
+                path: path.copied_into(alloc, room)?,
                 mode: *mode,
             },
             Call::Rmdir { path } => Call::Rmdir {
-                path: path.copied(alloc)?,
+                path: path.copied_into(alloc, room)?,
             },
             Call::Chdir { path } => Call::Chdir {
-                path: path.copied(alloc)?,
+                path: path.copied_into(alloc, room)?,
             },
             Call::Stat { path } => Call::Stat {
-                path: path.copied(alloc)?,
+                path: path.copied_into(alloc, room)?,
             },
             Call::Fstat { fd } => Call::Fstat { fd: *fd },
             Call::Chmod { path, mode } => Call::Chmod {
-                path: path.copied(alloc)?,
+                path: path.copied_into(alloc, room)?,
                 mode: *mode,
             },
             Call::Chown { path, uid, gid } => Call::Chown {
-                path: path.copied(alloc)?,
+                path: path.copied_into(alloc, room)?,
                 uid: *uid,
                 gid: *gid,
             },
             Call::Utime { path, atime, mtime } => Call::Utime {
-                path: path.copied(alloc)?,
+                path: path.copied_into(alloc, room)?,
                 atime: *atime,
                 mtime: *mtime,
             },
             Call::Access { path, bits } => Call::Access {
-                path: path.copied(alloc)?,
+                path: path.copied_into(alloc, room)?,
                 bits: *bits,
             },
             Call::Umask { mask } => Call::Umask { mask: *mask },
@@ -171,5 +180,28 @@ impl Call {
             Call::Exit => Call::Exit,
         };
         Ok(copy)
+    }
+
+    /// The room of the bytes that it holds: of its path, of the first of two, or of what it writes. `None` where it
+    /// holds none; needs no memory.
+    pub fn into_room(self) -> Option<Vec<u8>>
+        ensures { IfSome result (λ room. length room.items ≤ 65535) }
+    {
+        match self {
+            Call::Open { path, .. }
+            | Call::Creat { path, .. }
+            | Call::Unlink { path }
+            | Call::Mkdir { path, .. }
+            | Call::Rmdir { path }
+            | Call::Chdir { path }
+            | Call::Stat { path }
+            | Call::Chmod { path, .. }
+            | Call::Chown { path, .. }
+            | Call::Utime { path, .. }
+            | Call::Access { path, .. } => Some(path.into_vec()),
+            Call::Link { from, to: _ } => Some(from.into_vec()),
+            Call::Write { bytes, .. } => Some(bytes.into_vec()),
+            _ => None,
+        }
     }
 }
