@@ -84,7 +84,7 @@ fn windows_of_blocks_apart_double_over<R: Abort + AllocGlobal>(
     Ok(())
 }
 
-/// So is a directory of 20 blocks none of which is beside another, up to 8 of them at once: in 3 windows.
+/// So is a directory of 20 blocks none of which is beside another: in windows of 8, of 9, and of the 3 that are left.
 #[test]
 fn windows_of_blocks_apart_double(rt: HostRuntime) -> Result<(), Fail> {
     let disk = volume_apart(rt.alloc())?;
@@ -105,8 +105,8 @@ fn nothing_is_asked_for_behind_a_name(rt: HostRuntime) -> Result<(), Fail> {
             }
         );
         let windows = match part {
-            0..=6 => 1,
-            7..=14 => 2,
+            0..=7 => 1,
+            8..=16 => 2,
             _ => 3,
         };
         assert_eq!(rt; asked, 1 + windows);
