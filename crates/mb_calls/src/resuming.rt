@@ -4,7 +4,7 @@ ghost use Rattle.mb_calls.specs.Looked.{IsFirst, IsSecond};
 ghost use Rattle.mb_calls.specs.Performed.{FitsCall, IsNeeded, IsRight};
 
 use crate::performing::{Performed, perform_on, seat_of};
-use crate::walks::{PathWalk, PathWalks, cut, find_place, follow, set_out};
+use crate::walks::{PathWalk, PathWalks, find_place, follow, set_out};
 use mb_iface::{FileSys, Need, Opens, View};
 use mb_kinds::{Call, Path};
 use mb_tree::{Seat, call_allowed};
@@ -53,16 +53,33 @@ fn second_path(call: &Call) -> Option<&Path>
     }
 }
 
-/// Whether a path has more than two components from an index on.
-fn is_long(path: &Path, from: usize) -> bool {
-    match cut(path.as_slice(), from) {
-        Some(next) => cut(path.as_slice(), next).is_some(),
-        None => false,
-    }
-}
+/// How many bytes the rest of a path has at most that is followed one component after another before its place is looked
+/// for: two components, as a rule.
+const SHORT: usize = 16;
 
 /// Finds the place of a path by its whole rest, which takes least where all blocks are there. Where some are lacking it
-/// tells which, and follows a long path as far as they are there, so that its components are not all searched again.
+/// tells which, and follows the path as far as they are there, so that its components are not all searched again.
+fn find_far<F: FileSys, V: View>(
+    alloc: Global,
+    fs: &F,
+    view: &V,
+    seat: &Seat,
+    path: &Path,
+    walk: &mut PathWalk,
+) -> Option<Need>
+    requires kept { IsKept (V.shown view.now) seat.now path.now walk.old }
+    ensures kept { IsKept (V.shown view.now) seat.now path.now walk.new }
+    ensures lacking { IfSome result (LacksOnWay (V.shown view.now) seat.now path.now) }
+{
+    let need = find_place(alloc, fs, view, seat, path, walk);
+    if need.is_some() {
+        let _ = follow(alloc, fs, view, seat, path, walk);
+    }
+    need
+}
+
+/// Follows a path to its last component, and finds its place, a long path's by its whole rest first; it tells which blocks
+/// the view lacks.
 fn follow_to<F: FileSys, V: View>(
     alloc: Global,
     fs: &F,
@@ -78,11 +95,14 @@ fn follow_to<F: FileSys, V: View>(
     if walk.end.is_some() {
         return None;
     }
-    let need = find_place(alloc, fs, view, seat, path, walk);
-    if need.is_some() && is_long(path, walk.from) {
-        let _ = follow(alloc, fs, view, seat, path, walk);
+    if path.as_slice().len().saturating_sub(walk.from) > SHORT {
+        return find_far(alloc, fs, view, seat, path, walk);
     }
-    need
+    let need = follow(alloc, fs, view, seat, path, walk);
+    if need.is_some() {
+        return need;
+    }
+    find_place(alloc, fs, view, seat, path, walk)
 }
 
 /// The first walk of a call goes on. The blocks that it lacks are the first ones that the call needs, since its
