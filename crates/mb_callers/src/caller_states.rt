@@ -263,7 +263,7 @@ impl CallerState {
             &mut self.pages.blocks,
             &mut pages.blocks,
             cache,
-            &self.reads,
+            &mut self.reads,
         )?;
         Ok(())
     }

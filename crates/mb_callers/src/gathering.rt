@@ -13,16 +13,17 @@ use mb_edge::{Disk, NoMemory};
 use mb_gate::{Ulog, Undo};
 use std::alloc::Global;
 
-/// Pins the blocks that were read, notes it in an undo log, and stores their copies in both lists; or changes nothing.
+/// Pins the blocks that were read, notes it in an undo log, and puts their copies into both lists; or changes nothing but
+/// what was read.
 pub(crate) fn keep_blocks<D: Disk>(
     undo: &mut Ulog,
     mine: &mut Copies,
     pages: &mut Copies,
     cache: &mut Cache<D>,
-    reads: &Reads,
+    reads: &mut Reads,
 ) -> Result<(), NoMemory>
-    ensures ok { OnOk result ((undo.new.items ≡ undo.old.items ++ pin_steps reads.now) × (mine.new.items ≡ stored mine.old.items reads.now) × (pages.new.items ≡ stored pages.old.items reads.now)) }
-    ensures pins { OnOk result (GivesBack cache.new.pins cache.old.pins (pin_steps reads.now)) }
+    ensures ok { OnOk result ((undo.new.items ≡ undo.old.items ++ pin_steps reads.old) × (mine.new.items ≡ stored mine.old.items reads.old) × (pages.new.items ≡ stored pages.old.items reads.old)) }
+    ensures pins { OnOk result (GivesBack cache.new.pins cache.old.pins (pin_steps reads.old)) }
     ensures err { OnErr result ((undo.new.items ≡ undo.old.items) × (mine.new.items ≡ mine.old.items) × (pages.new.items ≡ pages.old.items) × (cache.new.pins ≡ cache.old.pins)) }
     ensures rest { cache.new ≡ record cache.old { pins = cache.new.pins; room = record cache.old.room { pins = cache.new.room.pins } } }
     ensures room { length undo.old.items + undo.old.spare ≤ length undo.new.items + undo.new.spare }
@@ -33,8 +34,8 @@ pub(crate) fn keep_blocks<D: Disk>(
     undo.reserve(more)?;
     cache.reserve_pins(more)?;
     note_pins(undo, cache, reads);
-    mine.store(reads);
     pages.store(reads);
+    mine.take(reads);
     Ok(())
 }
 

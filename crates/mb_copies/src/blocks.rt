@@ -62,7 +62,7 @@ impl Blocks {
     {
         self.reads.fetch(cache, need)?;
         self.copies.reserve(self.reads.len())?;
-        self.copies.store(&self.reads);
+        self.copies.take(&mut self.reads);
         Ok(())
     }
 

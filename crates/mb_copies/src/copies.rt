@@ -1,4 +1,4 @@
-ghost use Rattle.std.specs.Prelude.{◌≡◌, ◌≤◌, ◌<◌, ◌+◌, ◌-◌, ◌∷◌, ◌++◌, [], ℕ, List, length, OnOk, IsOk, IfSome, IfNone, Some, None, option_copied, nat_eq};
+ghost use Rattle.std.specs.Prelude.{◌≡◌, ◌≤◌, ◌<◌, ◌+◌, ◌-◌, ◌∷◌, ◌++◌, [], ℕ, List, length, drop, slice_get, OnOk, IsOk, IfSome, IfNone, Some, None, option_copied, nat_eq};
 ghost use Rattle.std.specs.List.{IsDistinct};
 ghost use Rattle.std.specs.Map.{keys_of};
 ghost use Rattle.indexmap.specs.IndexMap.{insert_entry};
@@ -48,8 +48,9 @@ fn lengthen(copies: &mut Vec<KeptBlock>, used: usize, more: usize) -> Result<(),
     ensures ok { OnOk result (more ≤ length copies.new.items - used) }
     ensures sure { more ≤ length copies.old.items - used → IsOk result }
 {
+    let alloc = *copies.allocator();
     'copies: while copies.len() - used < more {
-        copies.push(KeptBlock::blank())?;
+        copies.push(KeptBlock::blank(alloc)?)?;
     }
     Ok(())
 }
@@ -121,6 +122,33 @@ impl Copies {
         for at in 0..reads.len() {
             let (block, kept) = reads.at(at);
             self.put(block, kept);
+        }
+    }
+
+    /// One copy more, which a list held at a place, in the place of its block's copy where it has one; what the list holds
+    /// behind that place stays. Needs no memory.
+    fn put_from(&mut self, reads: &mut Reads, at: usize)
+        requires room { 0 < self.old.spare }
+        requires at { at < length reads.old }
+        ensures items { (block : ℕ) (kept : copy.KeptBlock) → slice_get reads.old at ≡ Some (block, kept) → self.new.items ≡ insert_entry nat_eq self.old.items block kept }
+        ensures spare { self.old.spare ≤ self.new.spare + 1 }
+        ensures behind { drop (at + 1) reads.new ≡ drop (at + 1) reads.old }
+        ensures count { length reads.new ≡ length reads.old }
+    {
+        let (block, _kept) = reads.at(at);
+        let place = self.numbers.insert(block);
+        reads.swap(at, &mut self.copies[place]);
+    }
+
+    /// The copies of a list more, whose bytes go over from the list, so that none is copied; needs no memory. What the list
+    /// holds afterwards is not told, but its room.
+    pub fn take(&mut self, reads: &mut Reads)
+        requires { length reads.old ≤ self.old.spare }
+        ensures items { self.new.items ≡ stored self.old.items reads.old }
+        ensures spare { self.old.spare ≤ self.new.spare + length reads.old }
+    {
+        for at in 0..reads.len() {
+            self.put_from(reads, at);
         }
     }
 

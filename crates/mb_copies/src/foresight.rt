@@ -33,8 +33,11 @@ impl Looked {
         }
     }
 
-    /// Whether the call looked at a block.
-    fn has(&self, block: u32) -> bool {
+    /// Whether the call looked at a block, which may well be in that place.
+    fn has(&self, block: u32, likely: usize) -> bool {
+        if likely < self.count.min(32) && self.blocks[likely] == block {
+            return true;
+        }
         for at in 0..self.count.min(32) {
             if self.blocks[at] == block {
                 return true;
@@ -208,7 +211,9 @@ impl Foresight {
         let mut looked = Looked::none(kind);
         for at in 0..blocks.len().min(32) {
             if seen >> at & 1 == 1 {
-                looked.add(blocks[at], before.kind == kind && before.has(blocks[at]));
+                let likely = looked.count;
+                let again = before.kind == kind && before.has(blocks[at], likely);
+                looked.add(blocks[at], again);
             }
         }
         self.calls[place] = looked;

@@ -1,16 +1,19 @@
-ghost use Rattle.std.specs.Prelude.{◌≡◌, Some, OnOk};
+ghost use Rattle.std.specs.Prelude.{◌≡◌, Some, OnOk, bytes_eq};
 ghost use Rattle.mb_cache.specs.State.{ReadHasCause, seen};
 ghost use Rattle.mb_copies.specs.Reads.{IsRead};
 ghost use Rattle.mb_copies.specs.Stale.{is_same};
 
 use mb_cache::{Cache, ReadFault};
 use mb_edge::Disk;
+use std::alloc::{AllocError, Global};
 use std::marker::Model;
+use std::mem;
 
-/// The bytes of a block with the stamp that it had.
+/// The bytes of a block with the stamp that it had. The bytes stand apart, so that a copy goes from one list to another
+/// without them.
 #[derive(Drop)]
 pub struct KeptBlock {
-    bytes: [u8; 512],
+    bytes: Box<[u8; 512]>,
     stamp: u64,
 }
 
@@ -19,16 +22,16 @@ impl Model for KeptBlock {
 
     ghost Value = { spec.KeptBlock };
 
-    ghost view = { λ k. record { bytes = k.bytes; stamp = k.stamp } };
+    ghost view = { λ k. record { bytes = k.bytes.value; stamp = k.stamp } };
 }
 
 impl KeptBlock {
-    /// Zeros, which a read or a copy writes over.
-    pub(crate) fn blank() -> KeptBlock {
-        KeptBlock {
-            bytes: [0; 512],
+    /// Zeros, which a read or a copy writes over. The only error is want of memory.
+    pub(crate) fn blank(alloc: Global) -> Result<KeptBlock, AllocError> {
+        Ok(KeptBlock {
+            bytes: Box::new(alloc, [0; 512])?,
             stamp: 0,
-        }
+        })
     }
 
     /// The bytes of the block.
@@ -49,15 +52,23 @@ impl KeptBlock {
     pub(crate) fn copy_from(&mut self, kept: &KeptBlock)
         ensures { self.new ≡ kept.now }
     {
-        self.bytes = kept.bytes;
+        *self.bytes = *kept.bytes;
         self.stamp = kept.stamp;
+    }
+
+    /// Each becomes the other; no byte is copied.
+    pub(crate) fn swap(&mut self, kept: &mut KeptBlock)
+        ensures first { self.new ≡ kept.old }
+        ensures second { kept.new ≡ self.old }
+    {
+        mem::swap(self, kept);
     }
 
     /// Gives the copy new bytes, under the stamp that it has.
     pub(crate) fn rewrite(&mut self, bytes: &[u8; 512])
         ensures { self.new ≡ record self.old { bytes = bytes.now } }
     {
-        self.bytes = *bytes;
+        *self.bytes = *bytes;
     }
 
     /// Becomes a block as it is seen. After an error it may hold anything.
@@ -79,6 +90,17 @@ impl KeptBlock {
     pub(crate) fn is_same(&self, page: &KeptBlock, stamp: u64) -> bool
         ensures { result ≡ is_same (Some self.now) stamp page.now }
     {
-        self.bytes == page.bytes && self.stamp == stamp
+        self.stamp == stamp && are_same(&self.bytes, &page.bytes)
     }
+}
+
+/// Whether two blocks have the same bytes. It looks at all of them, so that no branch hinders looking at many at a time.
+fn are_same(left: &[u8; 512], right: &[u8; 512]) -> bool
+    ensures { result ≡ bytes_eq left.now right.now }
+{
+    let mut same = true;
+    for at in 0..512 {
+        same &= left[at] == right[at];
+    }
+    same
 }

@@ -110,6 +110,7 @@ impl Places {
     }
 
     /// The place of a block, which comes behind all others where it was not there; needs no memory.
+    #[inline(always)]
     pub fn insert(&mut self, block: u32) -> usize
         requires { 0 < self.old.spare }
         ensures place { result ≡ position_or_len (nat_eq block) self.old.items }

@@ -1,4 +1,5 @@
-ghost use Rattle.std.specs.Prelude.{◌≡◌, ◌≤◌, ◌<◌, ◌+◌, ◌++◌, ◌∷◌, [], Some, length, take, OnOk, slice_get};
+ghost use Rattle.std.specs.Prelude.{◌≡◌, ◌≤◌, ◌<◌, ◌+◌, ◌++◌, ◌∷◌, [], ℕ, Some, length, drop, take, OnOk, slice_get};
+ghost use Rattle.mb_cache.specs.Kept as copy;
 ghost use Rattle.mb_cache.specs.State.{ReadHasCause, seen};
 ghost use Rattle.mb_copies.specs.Reads.{AreRead, numbers};
 ghost use Rattle.mb_iface.specs.Needs.{blocks_of};
@@ -39,7 +40,8 @@ fn reserve_one(items: &mut Vec<(u32, KeptBlock)>, count: usize) -> Result<(), No
     ensures more { length items.old.items ≤ length items.new.items }
 {
     if count == items.len() {
-        items.push((0, KeptBlock::blank()))?;
+        let alloc = *items.allocator();
+        items.push((0, KeptBlock::blank(alloc)?))?;
     }
     Ok(())
 }
@@ -69,6 +71,17 @@ impl Reads {
     {
         let (block, kept) = &self.items[place];
         (*block, kept)
+    }
+
+    /// Gives the copy at a place for another one; what stands behind that place stays.
+    pub(crate) fn swap(&mut self, place: usize, kept: &mut KeptBlock)
+        requires { place < length self.old }
+        ensures given { (block : ℕ) (read : copy.KeptBlock) → slice_get self.old place ≡ Some (block, read) → kept.new ≡ read }
+        ensures behind { drop (place + 1) self.new ≡ drop (place + 1) self.old }
+        ensures count { length self.new ≡ length self.old }
+    {
+        let (_block, mine) = &mut self.items[place];
+        mine.swap(kept);
     }
 
     /// Takes all blocks out, and keeps the room; needs no memory.

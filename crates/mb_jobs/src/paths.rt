@@ -7,18 +7,27 @@ use hex::FromHexError;
 use mb_kinds::{How, Octets, Path, Whence};
 use std::alloc::{AllocError, Global};
 
-/// Whether each byte of a word prints and is no blank.
+/// Whether each byte of a word prints and is no blank. It looks at all of them, so that no branch hinders looking at many
+/// at a time.
 fn has_path_bytes(word: &[u8]) -> bool
     ensures { result ≡ list_all is_path_byte word.now }
 {
-    word.iter().all(|byte| 33 <= *byte && *byte <= 126)
+    let mut prints = true;
+    for byte in word {
+        prints &= 33 <= *byte && *byte <= 126;
+    }
+    prints
 }
 
-/// Whether each byte of a text prints or is a blank.
+/// Whether each byte of a text prints or is a blank, as [`has_path_bytes`] looks at them.
 fn has_text_bytes(text: &[u8]) -> bool
     ensures { result ≡ list_all is_text_byte text.now }
 {
-    text.iter().all(|byte| 32 <= *byte && *byte <= 126)
+    let mut prints = true;
+    for byte in text {
+        prints &= 32 <= *byte && *byte <= 126;
+    }
+    prints
 }
 
 /// Whether a text has 1 to so many bytes.

@@ -1,5 +1,6 @@
 pub mod Answering
 pub mod Fetching
+pub mod Leading
 pub mod InodeNodes
 pub mod Looking
 pub mod NameWords

@@ -1,5 +1,6 @@
-ghost use Rattle.std.specs.Prelude.{◌≡◌, ◌≤◌, ◌<◌, ◌+◌, None};
+ghost use Rattle.std.specs.Prelude.{◌≡◌, ◌≤◌, ◌<◌, ◌+◌, None, IfSome};
 ghost use Rattle.mb_iface.specs.Needs.{IsNeed};
+ghost use Rattle.mb_namei.specs.Addresses.{AreOf};
 ghost use Rattle.mb_namei.specs.Parts.{Fetches};
 
 use crate::addresses::Addresses;
@@ -20,9 +21,33 @@ pub(crate) enum Fetched<'a> {
     Need(Need),
 }
 
-/// A part of a file that has so many parts. It stands in each of its callers, whose way is short where
-/// the part's block is there.
+/// A part of a file that has so many parts, whose addresses are at hand where its inode's block is there. It stands in each of
+/// its callers, whose way is short where the part's address is at hand and its block is there.
 #[inline(always)]
+pub(crate) fn fetch_by<'a, V: View>(
+    view: &'a V,
+    changes: &'a Changes,
+    addresses: Option<Addresses<'_>>,
+    ino: u16,
+    part: u32,
+    parts: u32,
+) -> Fetched<'a>
+    requires few { parts ≤ 2113674 }
+    requires part { part < parts }
+    requires known { IfSome addresses (AreOf (V.shown view.now) changes.now ino) }
+    ensures { Fetches (V.shown view.now) changes.now ino part result }
+{
+    if let Some(addresses) = addresses {
+        if let Some(block) = addresses.near(part) {
+            if let Some(bytes) = seen(view, changes, block) {
+                return Fetched::Bytes(bytes);
+            }
+        }
+    }
+    fetch(view, changes, ino, part, parts)
+}
+
+/// A part of a file that has so many parts.
 pub(crate) fn fetch<'a, V: View>(
     view: &'a V,
     changes: &'a Changes,

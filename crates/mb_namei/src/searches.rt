@@ -1,9 +1,11 @@
-ghost use Rattle.std.specs.Prelude.{◌≤◌, ◌<◌, ◌*◌};
+ghost use Rattle.std.specs.Prelude.{◌≤◌, ◌<◌, ◌*◌, IfSome};
+ghost use Rattle.mb_namei.specs.Addresses.{AreOf};
 ghost use Rattle.mb_namei.specs.Searching.{Seeks, CountsUsed};
 ghost use Rattle.mb_namei.specs.PartSearches.{SeeksInPart, CountsInPart};
 
+use crate::addresses::Addresses;
 use crate::frontiers::lacking_part;
-use crate::parts::{Fetched, fetch};
+use crate::parts::{Fetched, fetch, fetch_by};
 use crate::slots::{Glimpse, count_slots, scan_slots};
 use mb_iface::{Changes, Need, View};
 use mb_kinds::Name;
@@ -67,9 +69,10 @@ pub fn search<V: View>(view: &V, changes: &Changes, dir: u16, size: u32, name: &
     if let Some(need) = lacking_part(view, changes, dir, parts, name) {
         return Sought::Need(need);
     }
+    let addresses = Addresses::read(view, changes, dir);
     let mut empty = count;
     for part in 0..parts {
-        match search_part(view, changes, dir, part, count, empty, name) {
+        match search_part(view, changes, addresses, dir, part, count, empty, name) {
             PartSought::Found { at, ino } => return Sought::Found { at, ino },
             PartSought::Unnamed { empty: first } => empty = first,
             PartSought::Hole => return Sought::Full,
@@ -101,11 +104,12 @@ pub fn count_used<V: View>(view: &V, changes: &Changes, dir: u16, size: u32) -> 
 }
 
 /// Searches the slots of one part, where the first empty slot before it is `empty`. It stands in each of
-/// its callers, as `fetch` does in it.
+/// its callers, as `fetch_by` does in it.
 #[inline(always)]
-pub(crate) fn search_part<V: View>(
+fn search_part<V: View>(
     view: &V,
     changes: &Changes,
+    addresses: Option<Addresses<'_>>,
     dir: u16,
     part: u32,
     count: u32,
@@ -115,10 +119,11 @@ pub(crate) fn search_part<V: View>(
     requires part { 32 * part < count }
     requires few { part < 2113674 }
     requires slots { count ≤ 268435455 }
+    requires known { IfSome addresses (AreOf (V.shown view.now) changes.now dir) }
     ensures { SeeksInPart (V.shown view.now) changes.now dir part count empty name.now result }
 {
     let parts = count.div_ceil(32).min(2_113_674);
-    let bytes = match fetch(view, changes, dir, part, parts) {
+    let bytes = match fetch_by(view, changes, addresses, dir, part, parts) {
         Fetched::Bytes(bytes) => bytes,
         Fetched::Hole => return PartSought::Hole,
         Fetched::Need(need) => return PartSought::Need(need),
