@@ -1,11 +1,10 @@
-ghost use Rattle.std.specs.Prelude.{◌≡◌, ◌≤◌, Some, slice_get};
-ghost use Rattle.mb_kinds.specs.declared.entries.Flight.{Flight};
-ghost use Rattle.mb_core_spec.specs.Events.{GivesBack, ended, with_room};
+ghost use Rattle.std.specs.Prelude.{◌≡◌, ◌≤◌, Some};
+ghost use Rattle.mb_core_spec.specs.Events.{ended};
 ghost use Rattle.mb_core_spec.specs.Right.{Right};
-ghost use Rattle.mb_core_spec.specs.State.{CallerState};
-ghost use Rattle.mb_core_state.specs.Answers.{Gathering, Leaving, Strikes};
-ghost use Rattle.mb_core_state.specs.Entering.{Enters};
-ghost use Rattle.mb_core_state.specs.Finishing.{Finishes};
+ghost use Rattle.mb_core_state.specs.Answers.{Strikes, GathersFor, LeavesFor};
+ghost use Rattle.mb_core_state.specs.Entering.{EntersFor};
+ghost use Rattle.mb_core_state.specs.Finishing.{FinishesFor};
+ghost use Rattle.mb_core_state.specs.Mine.{GivesBackBy, OfMine};
 ghost use Rattle.mb_core_events.specs.Callings.{HasEntry, HasOpenCall, HoldsTicket, IsAsked, IsUnanswered, MayCall, MayFinish};
 
 use mb_callers::Pages;
@@ -49,7 +48,7 @@ impl<F: FileSys, D: Disk> Core<F, D> {
     /// `NoMemory` may come in the place of any but the first, and nothing has changed then.
     pub fn enter(&mut self, alloc: Global, caller: u8, call: &Call) -> Enter
         requires { MayCall self.old caller call.now }
-        ensures enters { (mine : CallerState) → slice_get self.old.callers caller ≡ Some mine → Enters self.old self.new caller mine call.now result }
+        ensures enters { EntersFor self.old self.new caller call.now result }
         ensures right { Right D.told D.faults self.new }
     {
         call_allowed(call);
@@ -68,7 +67,7 @@ impl<F: FileSys, D: Disk> Core<F, D> {
     ) -> Gathered
         requires ticket { IsUnanswered self.old ticket.now }
         requires need { IsAsked need }
-        ensures gathers { (mine : CallerState) (flight : Flight) → slice_get self.old.callers ticket.now.caller ≡ Some mine → mine.flight ≡ Some flight → Gathering D.told D.faults self.old self.new ticket.now need mine flight pages.old pages.new result }
+        ensures gathers { GathersFor D.told D.faults self.old self.new ticket.now need pages.old pages.new result }
         ensures told { D.told self.new.cache.disk ≡ D.told self.old.cache.disk }
         ensures later { D.faults self.old.cache.disk ≤ D.faults self.new.cache.disk }
         ensures right { Right D.told D.faults self.new }
@@ -87,7 +86,7 @@ impl<F: FileSys, D: Disk> Core<F, D> {
         ready: Ready,
     ) -> Finished
         requires { MayFinish self.old ticket.now pages.now ready }
-        ensures finishes { (mine : CallerState) (flight : Flight) → slice_get self.old.callers ticket.now.caller ≡ Some mine → mine.flight ≡ Some flight → Finishes self.old self.new ticket.now mine flight pages.now ready result }
+        ensures finishes { FinishesFor self.old self.new ticket.now pages.now ready result }
         ensures sealable { result ≡ Finished.Logged → 11 ≤ self.new.journal.room.trail }
         ensures right { Right D.told D.faults self.new }
     {
@@ -100,7 +99,7 @@ impl<F: FileSys, D: Disk> Core<F, D> {
     /// earlier incarnation. Needs no memory.
     pub fn leave(&mut self, ticket: &Ticket) -> Left
         requires { HasEntry self.old ticket.now }
-        ensures leaves { (mine : CallerState) → slice_get self.old.callers ticket.now.caller ≡ Some mine → Leaving self.old self.new ticket.now mine result }
+        ensures leaves { LeavesFor self.old self.new ticket.now result }
         ensures right { Right D.told D.faults self.new }
     {
         self.fields.leave(ticket)
@@ -109,7 +108,7 @@ impl<F: FileSys, D: Disk> Core<F, D> {
     /// The call in flight of a caller, which has no entry, ends without one; what it took is given back. Needs no memory.
     pub fn quit(&mut self, caller: u8)
         requires { HasOpenCall self.old caller }
-        ensures quit { (mine : CallerState) → slice_get self.old.callers caller ≡ Some mine → (self.new ≡ with_room (ended self.old caller mine self.new.cache.pins) self.new) × GivesBack self.old.cache.pins self.new.cache.pins mine.undo }
+        ensures quit { OfMine self.old caller (λ mine. GivesBackBy (ended self.old caller mine) self.old self.new mine) }
         ensures right { Right D.told D.faults self.new }
     {
         self.fields.quit(caller);

@@ -1,7 +1,7 @@
-ghost use Rattle.std.specs.Prelude.{◌≡◌, ◌<◌, ◌≤◌, length, Some, slice_get};
+ghost use Rattle.std.specs.Prelude.{◌≡◌, ◌<◌, ◌≤◌, length};
 ghost use Rattle.mb_core_spec.specs.Right.{Right};
-ghost use Rattle.mb_core_spec.specs.State.{CallerState};
 ghost use Rattle.mb_core_spec.specs.Trail.{IsDisciplined};
+ghost use Rattle.mb_core_state.specs.Mine.{OfMine};
 ghost use Rattle.mb_core_events.specs.Callings.{state_of};
 
 use crate::events::Core;
@@ -53,7 +53,7 @@ impl<F: FileSys, D: Disk> Core<F, D> {
     /// How many calls a caller began.
     pub fn begun(&self, caller: u8) -> u32
         requires { caller < length self.now.config.callers }
-        ensures { (mine : CallerState) → slice_get self.now.callers caller ≡ Some mine → result ≡ mine.begun }
+        ensures { OfMine self.now caller (λ mine. result ≡ mine.begun) }
     {
         self.fields.begun(caller)
     }

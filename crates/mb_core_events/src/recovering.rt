@@ -1,16 +1,11 @@
 ghost use Rattle.std.specs.Prelude.{◌≡◌, ◌<◌, ◌≤◌, ◌+◌, ℕ, length, Some, slice_get, IfErr, IfOk, IfSome, OnOk, OnErr, IsOk};
-ghost use Rattle.mb_kinds.specs.Image.{Image};
-ghost use Rattle.mb_kinds.specs.declared.entries.Flight.{Flight};
-ghost use Rattle.mb_tree.specs.Sessions.{counts};
-ghost use Rattle.mb_cache.specs.Pages.{under};
 ghost use Rattle.mb_cache.specs.State.{Flushes};
-ghost use Rattle.mb_session.specs.OpenFiles.{TellsCounts};
 ghost use Rattle.mb_core_spec.specs.Events.{with_room};
-ghost use Rattle.mb_core_spec.specs.Recovery.{dropping, failing, flushing, reopening, resuming, sealing, striking_again};
+ghost use Rattle.mb_core_spec.specs.Recovery.{dropping, failing, flushing, resuming, striking_again};
 ghost use Rattle.mb_core_spec.specs.Right.{Right};
-ghost use Rattle.mb_core_spec.specs.State.{CallerState};
-ghost use Rattle.mb_core_state.specs.Redoing.{FailsStep, IsRemounted, IsReplayed};
+ghost use Rattle.mb_core_state.specs.Redoing.{FailsStep, IsRemounted, IsReplayed, Reopens, SealsAll};
 ghost use Rattle.mb_oplog.specs.declared.oplogs.Logged.{Logged};
+ghost use Rattle.mb_core_state.specs.Mine.{OfFlight};
 ghost use Rattle.mb_core_events.specs.Callings.{HasCall, MayMeetFault, MayReplayNow, Unwinds, phase_now};
 
 use crate::events::Core;
@@ -28,7 +23,7 @@ impl<F: FileSys, D: Disk> Core<F, D> {
     /// only error is want of memory, and it does not come right after a `finish` that answered `Logged`.
     pub fn seal(&mut self) -> Result<(), NoMemory>
         requires { self.old.stage ≡ Stage.Running }
-        ensures ok { OnOk result ((self.new ≡ with_room (sealing self.old self.new.cache.sealed) self.new) × ((image : Image) → under image self.new.cache.sealed ≡ under (under image self.old.cache.sealed) self.old.cache.current)) }
+        ensures ok { OnOk result (SealsAll self.old self.new) }
         ensures err { OnErr result (self.new ≡ with_room self.old self.new) }
         ensures sure { 11 ≤ self.old.journal.room.trail → IsOk result }
         ensures right { Right D.told D.faults self.new }
@@ -121,7 +116,7 @@ impl<F: FileSys, D: Disk> Core<F, D> {
     /// then.
     pub fn reopen(&mut self, alloc: Global) -> Result<(), NoMemory>
         requires { phase_now self.old ≡ Phase.Reopen }
-        ensures ok { OnOk result ((self.new ≡ with_room (reopening self.old self.new.tables.opens) self.new) × TellsCounts self.new.tables.opens (counts self.old.tables.saved)) }
+        ensures ok { OnOk result (Reopens self.old self.new) }
         ensures err { OnErr result (self.new ≡ with_room self.old self.new) }
         ensures right { Right D.told D.faults self.new }
     {
@@ -150,7 +145,7 @@ impl<F: FileSys, D: Disk> Core<F, D> {
     ) -> Result<u32, NoMemory>
         requires phase { MayMeetFault (phase_now self.old) }
         requires struck { (of : HasCall self.old caller) × (H.struck hook.now ≡ Some (record { caller = caller; ordinal = of.flight.ordinal; kind = kind; nth = nth })) }
-        ensures ok { OnOk result ((mine : CallerState) (flight : Flight) → slice_get self.old.callers caller ≡ Some mine → mine.flight ≡ Some flight → self.new ≡ with_room (striking_again self.old caller flight.ordinal kind nth (H.strokes hook.now)) self.new) }
+        ensures ok { OnOk result (OfFlight self.old caller (λ mine flight. self.new ≡ with_room (striking_again self.old caller flight.ordinal kind nth (H.strokes hook.now)) self.new)) }
         ensures number { IfOk result (λ number. number ≡ length self.old.journal.records + 1) }
         ensures err { OnErr result (self.new ≡ with_room self.old self.new) }
         ensures right { Right D.told D.faults self.new }

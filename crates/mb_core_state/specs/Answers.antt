@@ -16,6 +16,7 @@ use Rattle.mb_core_spec.specs.Recovery.{striking}
 use Rattle.mb_core_spec.specs.State.{CallerState, CoreState}
 use Rattle.mb_core_spec.specs.declared.stages.Stage.{Stage}
 use Rattle.mb_core_spec.specs.declared.stages.Stage.TheVariants as stage
+use Rattle.mb_core_state.specs.Mine.{OfFlight, OfMine}
 use Rattle.mb_core_state.specs.declared.answers.Fault.{Fault}
 use Rattle.mb_core_state.specs.declared.answers.Fault.TheVariants as fault
 use Rattle.mb_core_state.specs.declared.answers.Gathered.{Gathered}
@@ -55,6 +56,10 @@ Leaving old new ticket mine (left.Skip was now) = IsSkipped old new ticket was n
 Leaving old new ticket mine (left.Left answer) = IsPresent old ticket × (mine.answer ≡ Some answer)
     × (new ≡ with_room (leaving old ticket.caller mine ticket new.cache.pins) new) × GivesBack old.cache.pins new.cache.pins mine.undo
 
+-- of whichever state its caller has
+abbrev pub LeavesFor : {F D : Type 0} → CoreState F D → CoreState F D → Ticket → Left → Type 0
+LeavesFor old new ticket result = OfMine old ticket.caller (λ mine. Leaving old new ticket mine result)
+
 -- ---- a fault strikes
 
 abbrev pub Strikes : {F D : Type 0} → CoreState F D → CoreState F D → Ticket → Kind → ℕ → List Stroke → Fault → Type 0
@@ -71,6 +76,9 @@ pub record KeepsGathered {F D : Type 0} (told : D → Option Image) (old new : C
   pub blocks : 1 ≤ need.first → GathersBlocks told old.cache new.cache need mine kept pages got
   pub callers : new.callers ≡ slice_set old.callers caller kept
 
+abbrev pub KeepsGatheredFor : {F D : Type 0} → (D → Option Image) → CoreState F D → CoreState F D → ℕ → Need → PagesState → PagesState → Type 0
+KeepsGatheredFor told old new caller need pages got = OfMine old caller (λ mine. KeepsGathered told old new caller need mine pages got)
+
 abbrev pub Gathering : {F D : Type 0} → (D → Option Image) → (D → ℕ) → CoreState F D → CoreState F D → Ticket → Need → CallerState → Flight → PagesState → PagesState → Gathered → Type 0
 Gathering told faults old new ticket need mine flight pages got (gathered.Skip was now) = IsSkipped old new ticket was now × (got ≡ pages)
 Gathering told faults old new ticket need mine flight pages got gathered.Device = IsPresent old ticket × Rose (faults old.cache.disk) (faults new.cache.disk)
@@ -78,6 +86,10 @@ Gathering told faults old new ticket need mine flight pages got gathered.Device 
 Gathering told faults old new ticket need mine flight pages got gathered.NoMemory = IsPresent old ticket × (new ≡ with_room (with_disk old new.cache.disk) new) × (got ≡ pages)
 Gathering told faults old new ticket need mine flight pages got gathered.Done = IsPresent old ticket × (by : KeepsGathered told old new ticket.caller need mine pages got)
     × (new ≡ with_room (gathering old new.cache.disk ticket.caller mine by.kept.pages by.kept.undo new.cache.pins new.cache.room) new)
+
+-- of whichever state and call its caller has
+abbrev pub GathersFor : {F D : Type 0} → (D → Option Image) → (D → ℕ) → CoreState F D → CoreState F D → Ticket → Need → PagesState → PagesState → Gathered → Type 0
+GathersFor told faults old new ticket need pages got result = OfFlight old ticket.caller (λ mine flight. Gathering told faults old new ticket need mine flight pages got result)
 
 -- ---- the next step of a recovery
 

@@ -15,6 +15,7 @@ use Rattle.mb_core_spec.specs.Events.{GivesBack, Leaves, answered_by, beginning,
 use Rattle.mb_core_spec.specs.State.{CallerState, CoreState, JournalRoom}
 use Rattle.mb_core_spec.specs.declared.stages.Stage.{Stage}
 use Rattle.mb_core_spec.specs.declared.stages.Stage.TheVariants as stage
+use Rattle.mb_core_state.specs.Mine.{OfMine}
 use Rattle.mb_core_state.specs.declared.answers.Enter.{Enter}
 use Rattle.mb_core_state.specs.declared.answers.Enter.TheVariants as enter
 
@@ -136,6 +137,14 @@ pub record GoesInside {F D : Type 0} (old new : CoreState F D) (caller : ℕ) (s
   pub ticket_is : ticket ≡ ticket_for old caller flight
   pub event : new ≡ with_room (entering old caller state flight ticket reserved) new
 
+-- a call that begins goes inside
+abbrev pub BeginsInside : {F D : Type 0} → CoreState F D → CoreState F D → ℕ → CallerState → Call → Ticket → Option ℕ → Type 0
+BeginsInside old new caller mine given ticket reserved = GoesInside old new caller (begins old.config.start old.callers mine given) (flight_if old.config.start old.callers mine given None) ticket reserved
+
+-- the call in flight goes inside, or else one that begins
+abbrev pub ComesInside : {F D : Type 0} → CoreState F D → CoreState F D → ℕ → CallerState → Call → Ticket → Option ℕ → Type 0
+ComesInside old new caller mine given ticket reserved = GoesInside old new caller (with_call old mine given) (flight_of old mine given) ticket reserved
+
 -- what is left of the room when it went inside: its own entry, a fault, and the steps of all who leave or are unwound
 pub record HasEnteredRoom (old left : JournalRoom) : Type 0 where
   pub entries : old.history ≤ left.history
@@ -145,7 +154,7 @@ pub record HasEnteredRoom (old left : JournalRoom) : Type 0 where
 
 -- the call goes inside: the one in flight, or one that begins
 pub record GoesIn {F D : Type 0} (old new : CoreState F D) (caller : ℕ) (mine : CallerState) (given : Call) (ticket : Ticket) : Type 0 where
-  pub inside : GoesInside old new caller (with_call old mine given) (flight_of old mine given) ticket (reserved_by old.tables.sessions caller given)
+  pub inside : ComesInside old new caller mine given ticket (reserved_by old.tables.sessions caller given)
   pub room : HasEnteredRoom old.journal.room new.journal.room
 
 -- by the answer, in the order in which the answers come; a call that has its ticket of the present incarnation stays inside with it
@@ -156,3 +165,7 @@ Enters old new caller mine given enter.Shut = LacksEntry mine.flight × IsShut o
 Enters old new caller mine given (enter.Inside ticket) = LacksEntry mine.flight × (old.stage ≡ stage.Running) × TellsTwice old.journal.records caller (flight_of old mine given).ordinal None
     × ((HasTicketNow old.incarnation mine.flight ticket × (new ≡ old)) ⊎ (LacksTicket old.incarnation mine.flight × GoesIn old new caller mine given ticket))
 Enters old new caller mine given enter.NoMemory = LacksEntry mine.flight × (new ≡ with_room old new) × KeepsRoom old.journal.room new.journal.room
+
+-- of whichever state the caller has
+abbrev pub EntersFor : {F D : Type 0} → CoreState F D → CoreState F D → ℕ → Call → Enter → Type 0
+EntersFor old new caller given result = OfMine old caller (λ mine. Enters old new caller mine given result)

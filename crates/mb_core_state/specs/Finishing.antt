@@ -1,5 +1,5 @@
 -- What a call that finishes is answered, and what it then made of the core.
-use Rattle.std.specs.Prelude.{List, ℕ, ◌≡◌, ◌≢◌, true, Option, None, Some, slice_get, slice_set}
+use Rattle.std.specs.Prelude.{Bool, List, ℕ, ◌≡◌, ◌≢◌, true, Option, None, Some, slice_get, slice_set}
 use Rattle.mb_kinds.specs.declared.entries.Entry.{Entry}
 use Rattle.mb_kinds.specs.declared.entries.Flight.{Flight}
 use Rattle.mb_kinds.specs.declared.faults.Ticket.{Ticket}
@@ -12,11 +12,12 @@ use Rattle.mb_cache.specs.Stamps.{Stamps, raised_by}
 use Rattle.mb_callers.specs.Stale.{AllFresh, IsLeastStale}
 use Rattle.mb_tables.specs.Follows.{tables_after}
 use Rattle.mb_core_spec.specs.Copies.{PagesState}
-use Rattle.mb_core_spec.specs.Events.{GivesBack, booked, logged_op, logging, staling, taken_back, with_room, without}
+use Rattle.mb_core_spec.specs.Events.{GivesBack, booked, entry_for, logged_op, logging, staling, taken_back, with_room, without}
 use Rattle.mb_core_spec.specs.Flights.{IsMine}
 use Rattle.mb_core_spec.specs.State.{CallerState, CoreState}
 use Rattle.mb_core_spec.specs.declared.ready.Ready.{Ready}
 use Rattle.mb_core_state.specs.Answers.{IsPresent, IsSkipped}
+use Rattle.mb_core_state.specs.Mine.{GivesBackBy, OfFlight, OfMine}
 use Rattle.mb_core_state.specs.declared.answers.Finished.{Finished}
 use Rattle.mb_core_state.specs.declared.answers.Finished.TheVariants as finished
 
@@ -74,3 +75,29 @@ Finishes old new ticket mine flight pages ready (finished.Stale block) = IsPrese
 Finishes old new ticket mine flight pages ready finished.NoMemory = IsPresent old ticket × IsMine ticket.caller old.floor × (new ≡ with_room old new)
 Finishes old new ticket mine flight pages ready finished.Logged = IsPresent old ticket × IsMine ticket.caller old.floor
     × AllFresh ready.shared ticket.caller old.cache.stamps old.tables mine.pages pages × IsLogged old new ticket.caller mine flight ticket ready
+
+-- of whichever state and call its caller has
+abbrev pub FinishesFor : {F D : Type 0} → CoreState F D → CoreState F D → Ticket → PagesState → Ready → Finished → Type 0
+FinishesFor old new ticket pages ready result = OfFlight old ticket.caller (λ mine flight. Finishes old new ticket mine flight pages ready result)
+
+-- ---- its parts
+
+-- a call's pages are fresh
+abbrev pub AreFreshIn : {F D : Type 0} → CoreState F D → Bool → ℕ → CallerState → PagesState → Type 0
+AreFreshIn core shared caller mine pages = AllFresh shared caller core.cache.stamps core.tables mine.pages pages
+
+-- a block is the least stale one of them
+abbrev pub IsLeastStaleIn : {F D : Type 0} → CoreState F D → Bool → ℕ → CallerState → PagesState → ℕ → Type 0
+IsLeastStaleIn core shared caller mine pages block = IsLeastStale shared caller core.cache.stamps core.tables mine.pages pages block
+
+-- the entry that a caller's call gets
+abbrev pub IsEntryFor : {F D : Type 0} → CoreState F D → ℕ → Option ℕ → Reply → Entry → Type 0
+IsEntryFor core caller pick given entry = OfFlight core caller (λ mine flight. entry ≡ entry_for caller flight pick given)
+
+-- a call has its entry, and gives back what it took
+abbrev pub Books : {F D : Type 0} → CoreState F D → CoreState F D → Ticket → Option FsOp → Entry → Reply → Type 0
+Books old new ticket op entry given = OfFlight old ticket.caller (λ mine flight. GivesBackBy (booking old ticket.caller mine flight ticket op entry given) old new mine)
+
+-- a call gathers anew, and gives back what it took
+abbrev pub GathersAnew : {F D : Type 0} → CoreState F D → CoreState F D → Ticket → ℕ → Type 0
+GathersAnew old new ticket block = OfMine old ticket.caller (λ mine. GivesBackBy (staling old ticket.caller mine ticket block) old new mine)

@@ -2,6 +2,7 @@ pub mod Answers
 pub mod Entering
 pub mod Finishing
 pub mod KeptBlocks
+pub mod Mine
 pub mod Opening
 pub mod Redoing
 pub mod Rooms

@@ -7,6 +7,8 @@ use Rattle.mb_kinds.specs.declared.replies.Reply.TheVariants as reply
 use Rattle.mb_edge.specs.Causes.{Rose}
 use Rattle.mb_edge.specs.Damage.{OpenCounts}
 use Rattle.mb_folds.specs.Folded.{folded}
+use Rattle.mb_session.specs.OpenFiles.{TellsCounts}
+use Rattle.mb_tree.specs.Sessions.{counts}
 use Rattle.mb_tree.specs.Views.{IsPart}
 use Rattle.mb_tree.specs.Volume.{IsVolume}
 use Rattle.mb_tree.specs.declared.operations.FsOp.{FsOp}
@@ -15,7 +17,7 @@ use Rattle.mb_iface.specs.Acting.{Acts}
 use Rattle.mb_kinds.specs.Changed.{AreChanges, ChangeList}
 use Rattle.mb_iface.specs.declared.replies.Acted.TheVariants as acted
 use Rattle.mb_oplog.specs.declared.oplogs.Logged.{Logged}
-use Rattle.mb_cache.specs.Pages.{installed}
+use Rattle.mb_cache.specs.Pages.{installed, under}
 use Rattle.mb_cache.specs.Stamps.{raised_by}
 use Rattle.mb_cache.specs.State.{CacheState, seen}
 use Rattle.mb_cache.specs.declared.answers.ReadFault.{ReadFault}
@@ -25,7 +27,7 @@ use Rattle.mb_journal.specs.Room.{KeepsRoom}
 use Rattle.mb_core_spec.specs.Events.{GivesBack, Leaves, answered_by, with_room}
 use Rattle.mb_core_spec.specs.Histories.{picked_ops}
 use Rattle.mb_core_spec.specs.Numbers.{open_flight}
-use Rattle.mb_core_spec.specs.Recovery.{remounting, replaying}
+use Rattle.mb_core_spec.specs.Recovery.{remounting, reopening, replaying, sealing}
 use Rattle.mb_core_spec.specs.State.{CallerState, CoreState}
 use Rattle.mb_core_state.specs.Answers.{with_disk}
 
@@ -80,3 +82,21 @@ pub record IsReplayed {F D : Type 0} (told : D → Option Image) (old new : Core
   pub are : AreChanges changes
   pub acts : ActsSeen told old.cache old.tables.opens logged.op logged.pick changes
   pub event : new ≡ with_room (redoing (with_disk old new.cache.disk) logged changes done) new
+
+-- of whichever operation of the log stands there
+abbrev pub IsReplayedFor : {F D : Type 0} → (D → Option Image) → CoreState F D → CoreState F D → ℕ → Type 0
+IsReplayedFor told old new done = (logged : Logged) → slice_get old.journal.oplog done ≡ Some logged → IsReplayed told old new done logged
+
+abbrev pub IsRedoneFor : {F D : Type 0} → CoreState F D → CoreState F D → ℕ → ChangeList → Type 0
+IsRedoneFor old new done changes = (logged : Logged) → slice_get old.journal.oplog done ≡ Some logged → new ≡ with_room (redoing old logged changes done) new
+
+abbrev pub ActsSeenFor : {F D : Type 0} → (D → Option Image) → CoreState F D → ℕ → ChangeList → Type 0
+ActsSeenFor told core done changes = (logged : Logged) → slice_get core.journal.oplog done ≡ Some logged → ActsSeen told core.cache core.tables.opens logged.op logged.pick changes
+
+-- ---- the sessions are opened anew, and a checkpoint is taken
+
+abbrev pub Reopens : {F D : Type 0} → CoreState F D → CoreState F D → Type 0
+Reopens old new = (new ≡ with_room (reopening old new.tables.opens) new) × TellsCounts new.tables.opens (counts old.tables.saved)
+
+abbrev pub SealsAll : {F D : Type 0} → CoreState F D → CoreState F D → Type 0
+SealsAll old new = (new ≡ with_room (sealing old new.cache.sealed) new) × ((image : Image) → under image new.cache.sealed ≡ under (under image old.cache.sealed) old.cache.current)

@@ -1,12 +1,12 @@
-ghost use Rattle.std.specs.Prelude.{◌≡◌, ◌<◌, ◌≤◌, ◌+◌, ◌⊎◌, ℕ, true, false, None, Some, [], length, slice_get, OnOk, OnErr, IfOk, IfSome, IfNone, IsSome};
+ghost use Rattle.std.specs.Prelude.{◌≡◌, ◌<◌, ◌≤◌, ◌+◌, true, false, None, Some, [], length, slice_get, OnOk, OnErr, IfOk, IfSome, IfNone, IsSome};
 ghost use Rattle.mb_kinds.specs.declared.calls.Call.{Call};
-ghost use Rattle.mb_kinds.specs.declared.entries.Flight.{Flight};
 ghost use Rattle.mb_core_spec.specs.Callers.{begun};
-ghost use Rattle.mb_core_spec.specs.Events.{Leaves, beginning, begins, entering, with_room};
+ghost use Rattle.mb_core_spec.specs.Events.{Leaves, beginning, begins, with_room};
 ghost use Rattle.mb_core_spec.specs.State.{CallerState};
 ghost use Rattle.mb_journal.specs.Faults.{TellsTwice};
 ghost use Rattle.mb_journal.specs.Room.{HasEntryRoom, KeepsRoom};
-ghost use Rattle.mb_core_state.specs.Entering.{Enters, GoesIn, GoesInside, HasAnswerRoom, HasEntry, HasTicketNow, IsGivenUp, IsShut, LacksEntry, LacksTicket, MayComeIn, flight_if, flight_of, reserved_by, reserves, ticket_for, waiting, with_call};
+ghost use Rattle.mb_core_state.specs.Mine.{HasMine, OfFlight, OfMine};
+ghost use Rattle.mb_core_state.specs.Entering.{BeginsInside, ComesInside, GoesIn, GoesInside, HasEntry, HasTicketNow, IsGivenUp, IsShut, LacksEntry, LacksTicket, MayComeIn, flight_of, reserved_by, reserves, waiting, EntersFor};
 ghost use Rattle.mb_core_state.specs.Rooms.{HasPins};
 
 use crate::answers::Enter;
@@ -23,8 +23,8 @@ impl<F: FileSys, D: Disk> Fields<F, D> {
     /// Whether a caller has a call in flight that has its entry.
     fn has_entry(&self, caller: u8) -> bool
         requires { caller < length self.now.callers }
-        ensures has { result ≡ true → (mine : CallerState) → slice_get self.now.callers caller ≡ Some mine → HasEntry mine.flight }
-        ensures lacks { result ≡ false → (mine : CallerState) → slice_get self.now.callers caller ≡ Some mine → LacksEntry mine.flight }
+        ensures has { result ≡ true → OfMine self.now caller (λ mine. HasEntry mine.flight) }
+        ensures lacks { result ≡ false → OfMine self.now caller (λ mine. LacksEntry mine.flight) }
     {
         match self.callers.get(caller).flight() {
             Some(flight) => flight.answered,
@@ -35,8 +35,8 @@ impl<F: FileSys, D: Disk> Fields<F, D> {
     /// Whether a caller has a call in flight.
     fn flies(&self, caller: u8) -> bool
         requires { caller < length self.now.callers }
-        ensures flies { result ≡ true → (mine : CallerState) → slice_get self.now.callers caller ≡ Some mine → IsSome mine.flight }
-        ensures none { result ≡ false → (mine : CallerState) → slice_get self.now.callers caller ≡ Some mine → mine.flight ≡ None }
+        ensures flies { result ≡ true → OfMine self.now caller (λ mine. IsSome mine.flight) }
+        ensures none { result ≡ false → OfMine self.now caller (λ mine. mine.flight ≡ None) }
     {
         self.callers.get(caller).flight().is_some()
     }
@@ -44,8 +44,8 @@ impl<F: FileSys, D: Disk> Fields<F, D> {
     /// The ticket of a caller's call in flight, where it is of the present incarnation.
     fn present_ticket(&self, caller: u8) -> Option<Ticket>
         requires { caller < length self.now.callers }
-        ensures some { (mine : CallerState) → slice_get self.now.callers caller ≡ Some mine → IfSome result (HasTicketNow self.now.incarnation mine.flight) }
-        ensures none { (mine : CallerState) → slice_get self.now.callers caller ≡ Some mine → IfNone result (LacksTicket self.now.incarnation mine.flight) }
+        ensures some { OfMine self.now caller (λ mine. IfSome result (HasTicketNow self.now.incarnation mine.flight)) }
+        ensures none { OfMine self.now caller (λ mine. IfNone result (LacksTicket self.now.incarnation mine.flight)) }
     {
         let Some(flight) = self.callers.get(caller).flight() else {
             return None;
@@ -73,9 +73,9 @@ impl<F: FileSys, D: Disk> Fields<F, D> {
     /// A call begins, and waits; needs no memory.
     fn begin_call(&mut self, caller: u8, call: Call)
         requires few { length self.old.callers ≤ 8 }
-        requires caller { (mine : CallerState) × (slice_get self.old.callers caller ≡ Some mine) × (mine.begun < 4294967295) }
+        requires caller { HasMine self.old caller (λ mine. mine.begun < 4294967295) }
         requires moments { self.old.config.start + begun self.old.callers < 4294967295 }
-        ensures begun { (mine : CallerState) → slice_get self.old.callers caller ≡ Some mine → self.new ≡ beginning self.old caller mine call }
+        ensures begun { OfMine self.old caller (λ mine. self.new ≡ beginning self.old caller mine call) }
         ensures room { self.new.journal.room ≡ self.old.journal.room }
     {
         let moment = self.next_moment();
@@ -95,9 +95,9 @@ impl<F: FileSys, D: Disk> Fields<F, D> {
     /// nothing has changed then.
     fn wait_new(&mut self, alloc: Global, caller: u8, call: &Call) -> Result<(), NoMemory>
         requires few { length self.old.callers ≤ 8 }
-        requires caller { (mine : CallerState) × (slice_get self.old.callers caller ≡ Some mine) × (mine.begun < 4294967295) }
+        requires caller { HasMine self.old caller (λ mine. mine.begun < 4294967295) }
         requires moments { self.old.config.start + begun self.old.callers < 4294967295 }
-        ensures ok { OnOk result ((mine : CallerState) → slice_get self.old.callers caller ≡ Some mine → self.new ≡ with_room (beginning self.old caller mine call.now) self.new) }
+        ensures ok { OnOk result (OfMine self.old caller (λ mine. self.new ≡ with_room (beginning self.old caller mine call.now) self.new)) }
         ensures err { OnErr result (self.new ≡ with_room self.old self.new) }
         ensures room { OnOk result (8 ≤ self.new.journal.room.history) }
         ensures kept { KeepsRoom self.old.journal.room self.new.journal.room }
@@ -112,8 +112,8 @@ impl<F: FileSys, D: Disk> Fields<F, D> {
     /// The only error is want of memory, and nothing has changed then.
     fn wait(&mut self, alloc: Global, caller: u8, call: &Call) -> Result<(), NoMemory>
         requires few { length self.old.callers ≤ 8 }
-        requires ready { (mine : CallerState) × (slice_get self.old.callers caller ≡ Some mine) × MayComeIn self.old mine }
-        ensures ok { OnOk result ((mine : CallerState) → slice_get self.old.callers caller ≡ Some mine → self.new ≡ with_room (waiting self.old caller mine call.now) self.new) }
+        requires ready { HasMine self.old caller (λ mine. MayComeIn self.old mine) }
+        ensures ok { OnOk result (OfMine self.old caller (λ mine. self.new ≡ with_room (waiting self.old caller mine call.now) self.new)) }
         ensures err { OnErr result (self.new ≡ with_room self.old self.new) }
         ensures room { OnOk result (8 ≤ self.new.journal.room.history) }
         ensures kept { KeepsRoom self.old.journal.room self.new.journal.room }
@@ -135,9 +135,9 @@ impl<F: FileSys, D: Disk> Fields<F, D> {
         answer: Reply,
     ) -> Result<(), NoMemory>
         requires few { length self.old.callers ≤ 8 }
-        requires ready { (mine : CallerState) × (slice_get self.old.callers caller ≡ Some mine) × MayComeIn self.old mine }
+        requires ready { HasMine self.old caller (λ mine. MayComeIn self.old mine) }
         requires pins { HasPins self.old caller }
-        ensures ok { OnOk result ((mine : CallerState) → slice_get self.old.callers caller ≡ Some mine → IsGivenUp self.old self.new caller mine call.now answer) }
+        ensures ok { OnOk result (OfMine self.old caller (λ mine. IsGivenUp self.old self.new caller mine call.now answer)) }
         ensures err { OnErr result ((self.new ≡ with_room self.old self.new) × KeepsRoom self.old.journal.room self.new.journal.room) }
     {
         self.wait(alloc, caller, call)?;
@@ -163,10 +163,10 @@ impl<F: FileSys, D: Disk> Fields<F, D> {
 
     /// A call in flight goes inside, with a new ticket. The only error is want of memory, and nothing has changed then.
     fn go_in_again(&mut self, caller: u8, reserved: Option<u16>) -> Result<Ticket, NoMemory>
-        requires flight { (mine : CallerState) × (slice_get self.old.callers caller ≡ Some mine) × IsSome mine.flight }
-        requires empty { (mine : CallerState) → slice_get self.old.callers caller ≡ Some mine → mine.undo ≡ [] }
+        requires flight { HasMine self.old caller (λ mine. IsSome mine.flight) }
+        requires empty { OfMine self.old caller (λ mine. mine.undo ≡ []) }
         requires room { 0 < self.old.journal.room.trail }
-        ensures ok { IfOk result (λ ticket. (mine : CallerState) (flight : Flight) → slice_get self.old.callers caller ≡ Some mine → mine.flight ≡ Some flight → GoesInside self.old self.new caller mine flight ticket reserved) }
+        ensures ok { IfOk result (λ ticket. OfFlight self.old caller (λ mine flight. GoesInside self.old self.new caller mine flight ticket reserved)) }
         ensures err { OnErr result (self.new ≡ self.old) }
         ensures room { Leaves self.old.journal.room self.new.journal.room 1 0 }
     {
@@ -190,11 +190,11 @@ impl<F: FileSys, D: Disk> Fields<F, D> {
         reserved: Option<u16>,
     ) -> Result<Ticket, NoMemory>
         requires few { length self.old.callers ≤ 8 }
-        requires caller { (mine : CallerState) × (slice_get self.old.callers caller ≡ Some mine) × (mine.begun < 4294967295) }
+        requires caller { HasMine self.old caller (λ mine. mine.begun < 4294967295) }
         requires moments { self.old.config.start + begun self.old.callers < 4294967295 }
-        requires empty { (mine : CallerState) → slice_get self.old.callers caller ≡ Some mine → mine.undo ≡ [] }
+        requires empty { OfMine self.old caller (λ mine. mine.undo ≡ []) }
         requires room { 0 < self.old.journal.room.trail }
-        ensures ok { IfOk result (λ ticket. (mine : CallerState) → slice_get self.old.callers caller ≡ Some mine → GoesInside self.old self.new caller (begins self.old.config.start self.old.callers mine call) (flight_if self.old.config.start self.old.callers mine call None) ticket reserved) }
+        ensures ok { IfOk result (λ ticket. OfMine self.old caller (λ mine. BeginsInside self.old self.new caller mine call ticket reserved)) }
         ensures err { OnErr result (self.new ≡ self.old) }
         ensures room { Leaves self.old.journal.room self.new.journal.room 1 0 }
     {
@@ -224,7 +224,7 @@ impl<F: FileSys, D: Disk> Fields<F, D> {
         requires few { length self.old.callers ≤ 8 }
         requires ready { (mine : CallerState) × (slice_get self.old.callers caller ≡ Some mine) × MayComeIn self.old mine × (mine.undo ≡ []) }
         requires room { 0 < self.old.journal.room.trail }
-        ensures ok { IfOk result (λ ticket. (mine : CallerState) → slice_get self.old.callers caller ≡ Some mine → GoesInside self.old self.new caller (with_call self.old mine call.now) (flight_of self.old mine call.now) ticket reserved) }
+        ensures ok { IfOk result (λ ticket. OfMine self.old caller (λ mine. ComesInside self.old self.new caller mine call.now ticket reserved)) }
         ensures err { OnErr result (self.new ≡ self.old) }
         ensures room { Leaves self.old.journal.room self.new.journal.room 1 0 }
     {
@@ -251,7 +251,7 @@ impl<F: FileSys, D: Disk> Fields<F, D> {
         requires few { length self.old.callers ≤ 8 }
         requires ready { (mine : CallerState) × (slice_get self.old.callers caller ≡ Some mine) × MayComeIn self.old mine × (mine.undo ≡ []) }
         requires seats { caller < length self.old.tables.sessions }
-        ensures ok { IfOk result (λ ticket. (mine : CallerState) → slice_get self.old.callers caller ≡ Some mine → GoesIn self.old self.new caller mine call.now ticket) }
+        ensures ok { IfOk result (λ ticket. OfMine self.old caller (λ mine. GoesIn self.old self.new caller mine call.now ticket)) }
         ensures err { OnErr result ((self.new ≡ with_room self.old self.new) × KeepsRoom self.old.journal.room self.new.journal.room) }
     {
         let reserved = self.reserved_by(caller, call);
@@ -265,7 +265,7 @@ impl<F: FileSys, D: Disk> Fields<F, D> {
 impl<F: FileSys, D: Disk> Fields<F, D> {
     /// The ordinal of a caller's call in flight, or of the one that it begins next.
     fn ordinal(&self, caller: u8) -> u32
-        requires { (mine : CallerState) × (slice_get self.now.callers caller ≡ Some mine) × MayComeIn self.now mine }
+        requires { HasMine self.now caller (λ mine. MayComeIn self.now mine) }
         ensures { (mine : CallerState) (given : Call) → slice_get self.now.callers caller ≡ Some mine → result ≡ (flight_of self.now mine given).ordinal }
     {
         let mine = self.callers.get(caller);
@@ -277,7 +277,7 @@ impl<F: FileSys, D: Disk> Fields<F, D> {
 
     /// The numbers of the first two faults of its own that a call met which enters.
     fn own_faults(&self, caller: u8) -> Option<(u32, u32)>
-        requires ready { (mine : CallerState) × (slice_get self.now.callers caller ≡ Some mine) × MayComeIn self.now mine }
+        requires ready { HasMine self.now caller (λ mine. MayComeIn self.now mine) }
         requires records { length self.now.journal.records < 4294967296 }
         ensures { (mine : CallerState) (given : Call) → slice_get self.now.callers caller ≡ Some mine → TellsTwice self.now.journal.records caller (flight_of self.now mine given).ordinal result }
     {
@@ -295,11 +295,11 @@ impl<F: FileSys, D: Disk> Fields<F, D> {
     /// ticket of the present incarnation stays so; an `open`, a `creat` and a `dup` that go inside reserve a descriptor.
     pub fn enter(&mut self, alloc: Global, caller: u8, call: &Call) -> Enter
         requires few { length self.old.callers ≤ 8 }
-        requires ready { (mine : CallerState) × (slice_get self.old.callers caller ≡ Some mine) × MayComeIn self.old mine }
+        requires ready { HasMine self.old caller (λ mine. MayComeIn self.old mine) }
         requires pins { HasPins self.old caller }
         requires seats { caller < length self.old.tables.sessions }
         requires records { length self.old.journal.records < 4294967296 }
-        ensures { (mine : CallerState) → slice_get self.old.callers caller ≡ Some mine → Enters self.old self.new caller mine call.now result }
+        ensures { EntersFor self.old self.new caller call.now result }
     {
         if self.has_entry(caller) {
             return Enter::Done(self.hand_out(caller));
@@ -313,10 +313,10 @@ impl<F: FileSys, D: Disk> Fields<F, D> {
 
     fn enter_shut(&mut self, alloc: Global, caller: u8, call: &Call) -> Enter
         requires few { length self.old.callers ≤ 8 }
-        requires ready { (mine : CallerState) × (slice_get self.old.callers caller ≡ Some mine) × MayComeIn self.old mine }
-        requires lacks { (mine : CallerState) → slice_get self.old.callers caller ≡ Some mine → LacksEntry mine.flight }
+        requires ready { HasMine self.old caller (λ mine. MayComeIn self.old mine) }
+        requires lacks { OfMine self.old caller (λ mine. LacksEntry mine.flight) }
         requires shut { IsShut self.old.stage }
-        ensures { (mine : CallerState) → slice_get self.old.callers caller ≡ Some mine → Enters self.old self.new caller mine call.now result }
+        ensures { EntersFor self.old self.new caller call.now result }
     {
         match self.wait(alloc, caller, call) {
             Ok(()) => Enter::Shut,
@@ -326,12 +326,12 @@ impl<F: FileSys, D: Disk> Fields<F, D> {
 
     fn enter_failed(&mut self, alloc: Global, caller: u8, call: &Call) -> Enter
         requires few { length self.old.callers ≤ 8 }
-        requires ready { (mine : CallerState) × (slice_get self.old.callers caller ≡ Some mine) × MayComeIn self.old mine }
+        requires ready { HasMine self.old caller (λ mine. MayComeIn self.old mine) }
         requires pins { HasPins self.old caller }
         requires records { length self.old.journal.records < 4294967296 }
-        requires lacks { (mine : CallerState) → slice_get self.old.callers caller ≡ Some mine → LacksEntry mine.flight }
+        requires lacks { OfMine self.old caller (λ mine. LacksEntry mine.flight) }
         requires failed { self.old.stage ≡ Stage.Failed }
-        ensures { (mine : CallerState) → slice_get self.old.callers caller ≡ Some mine → Enters self.old self.new caller mine call.now result }
+        ensures { EntersFor self.old self.new caller call.now result }
     {
         let faults = self.journal.records().len() as u32;
         match self.give_up_call(alloc, caller, call, Reply::Failed { faults }) {
@@ -342,13 +342,13 @@ impl<F: FileSys, D: Disk> Fields<F, D> {
 
     fn enter_running(&mut self, alloc: Global, caller: u8, call: &Call) -> Enter
         requires few { length self.old.callers ≤ 8 }
-        requires ready { (mine : CallerState) × (slice_get self.old.callers caller ≡ Some mine) × MayComeIn self.old mine }
+        requires ready { HasMine self.old caller (λ mine. MayComeIn self.old mine) }
         requires pins { HasPins self.old caller }
         requires seats { caller < length self.old.tables.sessions }
         requires records { length self.old.journal.records < 4294967296 }
-        requires lacks { (mine : CallerState) → slice_get self.old.callers caller ≡ Some mine → LacksEntry mine.flight }
+        requires lacks { OfMine self.old caller (λ mine. LacksEntry mine.flight) }
         requires runs { self.old.stage ≡ Stage.Running }
-        ensures { (mine : CallerState) → slice_get self.old.callers caller ≡ Some mine → Enters self.old self.new caller mine call.now result }
+        ensures { EntersFor self.old self.new caller call.now result }
     {
         if let Some((first, second)) = self.own_faults(caller) {
             return match self.give_up_call(alloc, caller, call, Reply::Restart { first, second }) {

@@ -1,14 +1,14 @@
-ghost use Rattle.std.specs.Prelude.{◌≡◌, ◌<◌, ◌≤◌, ◌^◌, ◌-◌, ◌+◌, ℕ, true, Some, length, slice_get, OnOk, OnErr, IfOk, IfErr, IfSome, IfNone, IsSome};
+ghost use Rattle.std.specs.Prelude.{◌≡◌, ◌<◌, ◌≤◌, ◌^◌, ◌-◌, true, Some, length, slice_get, OnOk, OnErr, IfOk, IfErr, IfSome, IfNone, IsSome};
 ghost use Rattle.mb_kinds.specs.declared.entries.Flight.{Flight};
 ghost use Rattle.mb_tree.specs.Sessions.{HasDescriptorInRange};
-ghost use Rattle.mb_callers.specs.Stale.{AllFresh, IsLeastStale};
-ghost use Rattle.mb_core_spec.specs.Events.{GivesBack, Leaves, entry_for, floor_after, staling, with_room};
+ghost use Rattle.mb_core_spec.specs.Events.{Leaves, floor_after, with_room};
 ghost use Rattle.mb_core_spec.specs.Flights.{IsMine};
 ghost use Rattle.mb_core_spec.specs.State.{CallerState};
 ghost use Rattle.mb_journal.specs.Room.{HasEntryRoom, KeepsRoom};
 ghost use Rattle.mb_kinds.specs.Changed.{AreChanges};
+ghost use Rattle.mb_core_state.specs.Mine.{HasMine, OfMine};
 ghost use Rattle.mb_core_state.specs.Answers.{IsPresent};
-ghost use Rattle.mb_core_state.specs.Finishing.{Finishes, HolderFlies, IsBusy, putting};
+ghost use Rattle.mb_core_state.specs.Finishing.{Finishes, HolderFlies, IsBusy, putting, FinishesFor, AreFreshIn, IsLeastStaleIn, IsEntryFor, GathersAnew};
 ghost use Rattle.mb_core_state.specs.Rooms.{FinishLeaves, HasPins};
 
 use crate::answers::Finished;
@@ -41,12 +41,12 @@ impl<F: FileSys, D: Disk> Fields<F, D> {
     /// What a call without its entry comes to is installed, with room for its entry, which is given. The only error is want
     /// of memory, and nothing has changed then.
     fn put_ready(&mut self, alloc: Global, caller: u8, ready: &Ready) -> Result<Entry, NoMemory>
-        requires flight { (mine : CallerState) × (slice_get self.old.callers caller ≡ Some mine) × IsSome mine.flight }
+        requires flight { HasMine self.old caller (λ mine. IsSome mine.flight) }
         requires seats { caller < length self.old.tables.sessions }
         requires session { HasDescriptorInRange ready.now.session }
         requires few { self.old.tables.stamp < 2 ^ 64 - 1 }
         ensures ok { OnOk result (self.new ≡ with_room (putting self.old caller ready.now.op ready.now.pick ready.now.changes ready.now.session) self.new) }
-        ensures entry { IfOk result (λ entry. (mine : CallerState) (flight : Flight) → slice_get self.old.callers caller ≡ Some mine → mine.flight ≡ Some flight → entry ≡ entry_for caller flight ready.now.pick ready.now.reply) }
+        ensures entry { IfOk result (IsEntryFor self.old caller ready.now.pick ready.now.reply) }
         ensures err { OnErr result (self.new ≡ with_room self.old self.new) }
         ensures lists { OnOk result (HasEntryRoom self.new.journal.room) }
         ensures changes { OnOk result (AreChanges ready.now.changes) }
@@ -70,14 +70,14 @@ impl<F: FileSys, D: Disk> Fields<F, D> {
         pages: &Pages,
         ready: Ready,
     ) -> Finished
-        requires flight { (mine : CallerState) × (slice_get self.old.callers ticket.now.caller ≡ Some mine) × IsSome mine.flight }
-        requires inside { IsPresent self.old ticket.now → (mine : CallerState) × (slice_get self.old.callers ticket.now.caller ≡ Some mine) × (mine.inside ≡ true) }
+        requires flight { HasMine self.old ticket.now.caller (λ mine. IsSome mine.flight) }
+        requires inside { IsPresent self.old ticket.now → HasMine self.old ticket.now.caller (λ mine. mine.inside ≡ true) }
         requires pins { HasPins self.old ticket.now.caller }
         requires holder { HolderFlies self.old.floor self.old.callers }
         requires seats { ticket.now.caller < length self.old.tables.sessions }
         requires session { HasDescriptorInRange ready.session }
         requires stamps { self.old.tables.stamp < 2 ^ 64 - 1 }
-        ensures finishes { (mine : CallerState) (flight : Flight) → slice_get self.old.callers ticket.now.caller ≡ Some mine → mine.flight ≡ Some flight → Finishes self.old self.new ticket.now mine flight pages.now ready result }
+        ensures finishes { FinishesFor self.old self.new ticket.now pages.now ready result }
         ensures room { FinishLeaves self.old.journal.room self.new.journal.room result }
         ensures changes { result ≡ Finished.Logged → AreChanges ready.changes }
     {
@@ -100,8 +100,8 @@ impl<F: FileSys, D: Disk> Fields<F, D> {
         pages: &Pages,
         ready: &Ready,
     ) -> Result<Entry, Finished>
-        requires flight { (mine : CallerState) × (slice_get self.old.callers ticket.now.caller ≡ Some mine) × IsSome mine.flight }
-        requires inside { IsPresent self.old ticket.now → (mine : CallerState) × (slice_get self.old.callers ticket.now.caller ≡ Some mine) × (mine.inside ≡ true) }
+        requires flight { HasMine self.old ticket.now.caller (λ mine. IsSome mine.flight) }
+        requires inside { IsPresent self.old ticket.now → HasMine self.old ticket.now.caller (λ mine. mine.inside ≡ true) }
         requires pins { HasPins self.old ticket.now.caller }
         requires holder { HolderFlies self.old.floor self.old.callers }
         requires seats { ticket.now.caller < length self.old.tables.sessions }
@@ -112,9 +112,9 @@ impl<F: FileSys, D: Disk> Fields<F, D> {
         ensures left { IfErr result (FinishLeaves self.old.journal.room self.new.journal.room) }
         ensures present { OnOk result (IsPresent self.old ticket.now) }
         ensures mine { OnOk result (IsMine ticket.now.caller self.old.floor) }
-        ensures fresh { (mine : CallerState) → slice_get self.old.callers ticket.now.caller ≡ Some mine → OnOk result (AllFresh ready.now.shared ticket.now.caller self.old.cache.stamps self.old.tables mine.pages pages.now) }
+        ensures fresh { OfMine self.old ticket.now.caller (λ mine. OnOk result (AreFreshIn self.old ready.now.shared ticket.now.caller mine pages.now)) }
         ensures put { OnOk result (self.new ≡ with_room (putting self.old ticket.now.caller ready.now.op ready.now.pick ready.now.changes ready.now.session) self.new) }
-        ensures entry { IfOk result (λ entry. (mine : CallerState) (flight : Flight) → slice_get self.old.callers ticket.now.caller ≡ Some mine → mine.flight ≡ Some flight → entry ≡ entry_for ticket.now.caller flight ready.now.pick ready.now.reply) }
+        ensures entry { IfOk result (IsEntryFor self.old ticket.now.caller ready.now.pick ready.now.reply) }
         ensures lists { OnOk result (HasEntryRoom self.new.journal.room) }
         ensures changes { OnOk result (AreChanges ready.now.changes) }
         ensures kept { OnOk result (KeepsRoom self.old.journal.room self.new.journal.room) }
@@ -143,8 +143,8 @@ impl<F: FileSys, D: Disk> Fields<F, D> {
     /// The least stale block of a call's pages; `None` exactly where nothing is stale.
     fn stale(&self, caller: u8, shared: bool, pages: &Pages) -> Option<u32>
         requires { caller < length self.now.callers }
-        ensures none { (mine : CallerState) → slice_get self.now.callers caller ≡ Some mine → IfNone result (AllFresh shared caller self.now.cache.stamps self.now.tables mine.pages pages.now) }
-        ensures some { (mine : CallerState) → slice_get self.now.callers caller ≡ Some mine → IfSome result (IsLeastStale shared caller self.now.cache.stamps self.now.tables mine.pages pages.now) }
+        ensures none { OfMine self.now caller (λ mine. IfNone result (AreFreshIn self.now shared caller mine pages.now)) }
+        ensures some { OfMine self.now caller (λ mine. IfSome result (IsLeastStaleIn self.now shared caller mine pages.now)) }
     {
         let stamp = self.tables.stamp();
         self.callers
@@ -155,9 +155,9 @@ impl<F: FileSys, D: Disk> Fields<F, D> {
     /// A call without its entry gathers anew; from its fourth stale answer on it has the right to commit alone. The only error
     /// is want of memory, for its step of the trace and ten more; nothing has changed then.
     fn gather_anew(&mut self, ticket: &Ticket, block: u32) -> Result<(), NoMemory>
-        requires inside { (mine : CallerState) × (slice_get self.old.callers ticket.now.caller ≡ Some mine) × (mine.inside ≡ true) }
+        requires inside { HasMine self.old ticket.now.caller (λ mine. mine.inside ≡ true) }
         requires pins { HasPins self.old ticket.now.caller }
-        ensures ok { OnOk result ((mine : CallerState) → slice_get self.old.callers ticket.now.caller ≡ Some mine → (self.new ≡ with_room (staling self.old ticket.now.caller mine ticket.now block self.new.cache.pins) self.new) × GivesBack self.old.cache.pins self.new.cache.pins mine.undo) }
+        ensures ok { OnOk result (GathersAnew self.old self.new ticket.now block) }
         ensures err { OnErr result (self.new ≡ with_room self.old self.new) }
         ensures marks { OnOk result (10 ≤ self.new.journal.room.trail) }
         ensures kept { (self.old.journal.room.history ≤ self.new.journal.room.history) × (self.old.journal.room.records ≤ self.new.journal.room.records) }
@@ -170,10 +170,10 @@ impl<F: FileSys, D: Disk> Fields<F, D> {
 
     #[tactic(auto, using(crate::proofs::Kept::still_seen))]
     fn give_back_copies(&mut self, ticket: Ticket, block: u32)
-        requires inside { (mine : CallerState) × (slice_get self.old.callers ticket.caller ≡ Some mine) × (mine.inside ≡ true) }
+        requires inside { HasMine self.old ticket.caller (λ mine. mine.inside ≡ true) }
         requires pins { HasPins self.old ticket.caller }
         requires trail { 0 < self.old.journal.room.trail }
-        ensures anew { (mine : CallerState) → slice_get self.old.callers ticket.caller ≡ Some mine → (self.new ≡ with_room (staling self.old ticket.caller mine ticket block self.new.cache.pins) self.new) × GivesBack self.old.cache.pins self.new.cache.pins mine.undo }
+        ensures anew { GathersAnew self.old self.new ticket block }
         ensures room { Leaves self.old.journal.room self.new.journal.room 1 0 }
     {
         let floor = self.floor_after(ticket.caller);
@@ -187,7 +187,7 @@ impl<F: FileSys, D: Disk> Fields<F, D> {
     /// Who has the right to commit alone after one stale answer more to a caller's ticket.
     fn floor_after(&self, caller: u8) -> Option<u8>
         requires { caller < length self.now.callers }
-        ensures { (mine : CallerState) → slice_get self.now.callers caller ≡ Some mine → result ≡ floor_after caller mine.stales self.now.floor }
+        ensures { OfMine self.now caller (λ mine. result ≡ floor_after caller mine.stales self.now.floor) }
     {
         if self.callers.get(caller).stales() >= 3 {
             Some(caller)

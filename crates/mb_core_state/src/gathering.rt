@@ -1,10 +1,8 @@
-ghost use Rattle.std.specs.Prelude.{◌≡◌, ◌<◌, ◌≤◌, ℕ, Some, length, slice_get, slice_set, OnOk, OnErr, IsSome, IsErrOf};
-ghost use Rattle.mb_kinds.specs.declared.entries.Flight.{Flight};
-ghost use Rattle.mb_edge.specs.Causes.{Rose};
+ghost use Rattle.std.specs.Prelude.{◌≡◌, ◌<◌, ◌≤◌, length, OnOk, OnErr, IsSome};
 ghost use Rattle.mb_cache.specs.State.{ReadHasCause};
-ghost use Rattle.mb_core_spec.specs.Events.{Leaves, with_room};
-ghost use Rattle.mb_core_spec.specs.State.{CallerState};
-ghost use Rattle.mb_core_state.specs.Answers.{Gathering, IsPresent, KeepsGathered, with_disk};
+ghost use Rattle.mb_core_spec.specs.Events.{Leaves};
+ghost use Rattle.mb_core_state.specs.Mine.{HasMine};
+ghost use Rattle.mb_core_state.specs.Answers.{GathersFor, KeepsGatheredFor};
 ghost use Rattle.mb_core_state.specs.Rooms.{HasPins};
 
 use crate::answers::Gathered;
@@ -26,12 +24,12 @@ impl<F: FileSys, D: Disk> Fields<F, D> {
         need: Need,
         pages: &mut Pages,
     ) -> Gathered
-        requires flight { (mine : CallerState) × (slice_get self.old.callers ticket.now.caller ≡ Some mine) × IsSome mine.flight }
+        requires flight { HasMine self.old ticket.now.caller (λ mine. IsSome mine.flight) }
         requires pins { HasPins self.old ticket.now.caller }
         requires room { 0 < self.old.journal.room.history }
         requires first { need.first < 262144 }
         requires count { need.count ≤ 32 }
-        ensures gathers { (mine : CallerState) (flight : Flight) → slice_get self.old.callers ticket.now.caller ≡ Some mine → mine.flight ≡ Some flight → Gathering D.told D.faults self.old self.new ticket.now need mine flight pages.old pages.new result }
+        ensures gathers { GathersFor D.told D.faults self.old self.new ticket.now need pages.old pages.new result }
         ensures told { D.told self.new.cache.disk ≡ D.told self.old.cache.disk }
         ensures later { D.faults self.old.cache.disk ≤ D.faults self.new.cache.disk }
         ensures room { Leaves self.old.journal.room self.new.journal.room 0 1 }
@@ -66,7 +64,7 @@ impl<F: FileSys, D: Disk> Fields<F, D> {
         requires first { need.first < 262144 }
         requires count { need.count ≤ 32 }
         ensures rest { self.new ≡ record self.old { cache = record self.old.cache { disk = self.new.cache.disk; pins = self.new.cache.pins; room = self.new.cache.room }; callers = self.new.callers } }
-        ensures ok { OnOk result ((mine : CallerState) → slice_get self.old.callers caller ≡ Some mine → KeepsGathered D.told self.old self.new caller need mine pages.old pages.new) }
+        ensures ok { OnOk result (KeepsGatheredFor D.told self.old self.new caller need pages.old pages.new) }
         ensures err { OnErr result ((self.new.callers ≡ self.old.callers) × (pages.new ≡ pages.old) × (self.new.cache.pins ≡ self.old.cache.pins)) }
         ensures told { D.told self.new.cache.disk ≡ D.told self.old.cache.disk }
         ensures cause { ReadHasCause (D.faults self.old.cache.disk) (D.faults self.new.cache.disk) result }

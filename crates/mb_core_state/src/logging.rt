@@ -1,10 +1,9 @@
-ghost use Rattle.std.specs.Prelude.{◌≡◌, ◌<◌, ◌≤◌, ◌^◌, ◌-◌, ◌+◌, ℕ, Some, Ok, length, slice_get, OnOk, OnErr, IfOk, IsSome};
-ghost use Rattle.mb_kinds.specs.declared.entries.Flight.{Flight};
+ghost use Rattle.std.specs.Prelude.{◌≡◌, ◌<◌, ◌≤◌, ◌^◌, ◌-◌, Some, Ok, length, OnOk, OnErr, IfOk, IsSome};
 ghost use Rattle.mb_tree.specs.Sessions.{HasDescriptorInRange};
-ghost use Rattle.mb_core_spec.specs.Events.{GivesBack, Leaves, entry_for, with_room};
-ghost use Rattle.mb_core_spec.specs.State.{CallerState};
+ghost use Rattle.mb_core_spec.specs.Events.{Leaves, with_room};
 ghost use Rattle.mb_journal.specs.Room.{HasEntryRoom, KeepsRoom};
-ghost use Rattle.mb_core_state.specs.Finishing.{booking, putting};
+ghost use Rattle.mb_core_state.specs.Mine.{HasMine, OfFlight};
+ghost use Rattle.mb_core_state.specs.Finishing.{putting, IsEntryFor, Books};
 ghost use Rattle.mb_core_state.specs.Rooms.{HasPins};
 
 use crate::fields::Fields;
@@ -61,8 +60,8 @@ impl<F: FileSys, D: Disk> Fields<F, D> {
         pick: Option<u16>,
         reply: &Reply,
     ) -> Result<Entry, NoMemory>
-        requires { (mine : CallerState) × (slice_get self.now.callers caller ≡ Some mine) × IsSome mine.flight }
-        ensures { IfOk result (λ entry. (mine : CallerState) (flight : Flight) → slice_get self.now.callers caller ≡ Some mine → mine.flight ≡ Some flight → entry ≡ entry_for caller flight pick reply.now) }
+        requires { HasMine self.now caller (λ mine. IsSome mine.flight) }
+        ensures { IfOk result (IsEntryFor self.now caller pick reply.now) }
     {
         let Some(flight) = self.callers.get(caller).flight() else {
             unreachable!()
@@ -81,8 +80,8 @@ impl<F: FileSys, D: Disk> Fields<F, D> {
 
     /// The ordinal and the moment of a caller's call in flight.
     pub(crate) fn numbers(&self, caller: u8) -> (u32, u32)
-        requires { (mine : CallerState) × (slice_get self.now.callers caller ≡ Some mine) × IsSome mine.flight }
-        ensures { (mine : CallerState) (flight : Flight) → slice_get self.now.callers caller ≡ Some mine → mine.flight ≡ Some flight → (result.0 ≡ flight.ordinal) × (result.1 ≡ flight.moment) }
+        requires { HasMine self.now caller (λ mine. IsSome mine.flight) }
+        ensures { OfFlight self.now caller (λ mine flight. (result.0 ≡ flight.ordinal) × (result.1 ≡ flight.moment)) }
     {
         let Some(flight) = self.callers.get(caller).flight() else {
             unreachable!()
@@ -93,12 +92,12 @@ impl<F: FileSys, D: Disk> Fields<F, D> {
     /// The entry of a call comes into the journal, and what the call took is given back; needs no memory.
     #[tactic(auto, using(crate::proofs::Kept::still_seen))]
     pub(crate) fn book(&mut self, ticket: Ticket, entry: Entry, op: Option<FsOp>, reply: Reply)
-        requires flight { (mine : CallerState) × (slice_get self.old.callers ticket.caller ≡ Some mine) × IsSome mine.flight }
+        requires flight { HasMine self.old ticket.caller (λ mine. IsSome mine.flight) }
         requires pins { HasPins self.old ticket.caller }
         requires oplog { 0 < self.old.journal.room.oplog }
         requires history { 0 < self.old.journal.room.history }
         requires trail { 0 < self.old.journal.room.trail }
-        ensures booked { (mine : CallerState) (flight : Flight) → slice_get self.old.callers ticket.caller ≡ Some mine → mine.flight ≡ Some flight → (self.new ≡ with_room (booking self.old ticket.caller mine flight ticket op entry reply self.new.cache.pins) self.new) × GivesBack self.old.cache.pins self.new.cache.pins mine.undo }
+        ensures booked { Books self.old self.new ticket op entry reply }
         ensures room { Leaves self.old.journal.room self.new.journal.room 1 1 }
     {
         self.callers

@@ -1,4 +1,4 @@
-ghost use Rattle.std.specs.Prelude.{◌≡◌, ◌<◌, ◌≤◌, [], length, OnOk, OnErr, IfOk};
+ghost use Rattle.std.specs.Prelude.{◌≡◌, ◌<◌, [], length, OnOk, OnErr, IfOk};
 ghost use Rattle.mb_cache.specs.State.{ReadHasCause};
 ghost use Rattle.mb_core_spec.specs.Events.{with_room};
 ghost use Rattle.mb_core_state.specs.Answers.{with_disk, with_read};

@@ -1,9 +1,9 @@
-ghost use Rattle.std.specs.Prelude.{◌≡◌, ◌<◌, ◌≤◌, ℕ, Some, length, slice_get, option_map, IfSome, IfNone, IsSome, OnOk, true, false};
-ghost use Rattle.mb_kinds.specs.declared.entries.Flight.{Flight};
+ghost use Rattle.std.specs.Prelude.{◌≡◌, ◌<◌, ◌≤◌, Some, length, slice_get, option_map, IfSome, IfNone, IsSome, OnOk, true, false};
 ghost use Rattle.mb_kinds.specs.declared.faults.Ticket.{Ticket};
 ghost use Rattle.mb_core_spec.specs.Callers.{EachCaller};
 ghost use Rattle.mb_core_spec.specs.Events.{with_room};
 ghost use Rattle.mb_core_spec.specs.State.{CallerState};
+ghost use Rattle.mb_core_state.specs.Mine.{HasMine, OfFlight, OfMine};
 ghost use Rattle.mb_core_state.specs.Finishing.{HasTicketOf};
 ghost use Rattle.mb_journal.specs.Room.{KeepsRoom};
 
@@ -53,7 +53,7 @@ impl<F: FileSys, D: Disk> Fields<F, D> {
     /// How many calls a caller began.
     pub fn begun(&self, caller: u8) -> u32
         requires { caller < length self.now.callers }
-        ensures { (mine : CallerState) → slice_get self.now.callers caller ≡ Some mine → result ≡ mine.begun }
+        ensures { OfMine self.now caller (λ mine. result ≡ mine.begun) }
     {
         self.callers.get(caller).begun()
     }
@@ -126,8 +126,8 @@ impl<F: FileSys, D: Disk> Fields<F, D> {
 
     /// The ordinal of a caller's call in flight.
     pub fn ordinal_of(&self, caller: u8) -> u32
-        requires { (mine : CallerState) × (slice_get self.now.callers caller ≡ Some mine) × IsSome mine.flight }
-        ensures { (mine : CallerState) (flight : Flight) → slice_get self.now.callers caller ≡ Some mine → mine.flight ≡ Some flight → result ≡ flight.ordinal }
+        requires { HasMine self.now caller (λ mine. IsSome mine.flight) }
+        ensures { OfFlight self.now caller (λ mine flight. result ≡ flight.ordinal) }
     {
         let (ordinal, _) = self.numbers(caller);
         ordinal

@@ -1,13 +1,10 @@
 ghost use Rattle.std.specs.Prelude.{◌≡◌, ◌<◌, ◌≤◌, ◌+◌, length, nat_lt, OnOk, OnErr, IsOk};
-ghost use Rattle.mb_session.specs.OpenFiles.{TellsCounts};
 ghost use Rattle.mb_core_spec.specs.Events.{Leaves, with_room};
-ghost use Rattle.mb_core_spec.specs.Recovery.{dropping, failing, flushing, reopening, resuming, sealing};
-ghost use Rattle.mb_tree.specs.Sessions.{counts};
-ghost use Rattle.mb_cache.specs.Pages.{under};
+ghost use Rattle.mb_core_spec.specs.Recovery.{dropping, failing, flushing, resuming};
 ghost use Rattle.mb_cache.specs.State.{Flushes};
-ghost use Rattle.mb_kinds.specs.Image.{Image};
 ghost use Rattle.mb_core_spec.specs.Callers.{insiders};
 ghost use Rattle.mb_core_state.specs.Answers.{phase_of};
+ghost use Rattle.mb_core_state.specs.Redoing.{Reopens, SealsAll};
 ghost use Rattle.mb_journal.specs.Room.{KeepsRoom};
 
 use crate::answers::Phase;
@@ -76,7 +73,7 @@ impl<F: FileSys, D: Disk> Fields<F, D> {
 
     /// The open files become those of the saved sessions. The only error is want of memory, and nothing has changed then.
     pub fn reopen(&mut self, alloc: Global) -> Result<(), NoMemory>
-        ensures ok { OnOk result ((self.new ≡ with_room (reopening self.old self.new.tables.opens) self.new) × TellsCounts self.new.tables.opens (counts self.old.tables.saved)) }
+        ensures ok { OnOk result (Reopens self.old self.new) }
         ensures err { OnErr result (self.new ≡ with_room self.old self.new) }
         ensures room { self.old.journal.room.history ≤ self.new.journal.room.history }
     {
@@ -104,7 +101,7 @@ impl<F: FileSys, D: Disk> Fields<F, D> {
     #[tactic(auto, using(crate::proofs::Kept::none_seen))]
     pub fn seal(&mut self) -> Result<(), NoMemory>
         requires { length self.old.journal.history < 4294967296 }
-        ensures ok { OnOk result ((self.new ≡ with_room (sealing self.old self.new.cache.sealed) self.new) × ((image : Image) → under image self.new.cache.sealed ≡ under (under image self.old.cache.sealed) self.old.cache.current)) }
+        ensures ok { OnOk result (SealsAll self.old self.new) }
         ensures err { OnErr result (self.new ≡ with_room self.old self.new) }
         ensures sure { 11 ≤ self.old.journal.room.trail → IsOk result }
         ensures marks { OnOk result ((10 ≤ self.new.journal.room.trail) × (self.old.journal.room.records ≤ self.new.journal.room.records)) }

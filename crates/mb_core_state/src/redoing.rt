@@ -5,9 +5,9 @@ ghost use Rattle.mb_cache.specs.State.{ReadHasCause};
 ghost use Rattle.mb_journal.specs.Room.{KeepsRoom};
 ghost use Rattle.mb_core_spec.specs.Events.{Leaves, with_room};
 ghost use Rattle.mb_core_spec.specs.Numbers.{open_flight};
-ghost use Rattle.mb_core_spec.specs.State.{CallerState};
+ghost use Rattle.mb_core_state.specs.Mine.{HasMine, OfMine};
 ghost use Rattle.mb_core_state.specs.Answers.{with_disk, with_read};
-ghost use Rattle.mb_core_state.specs.Redoing.{ActsSeen, EndsByDevice, FailsStep, HasOpenRoom, IsRemounted, IsReplayed, redoing};
+ghost use Rattle.mb_core_state.specs.Redoing.{EndsByDevice, FailsStep, HasOpenRoom, IsRemounted, IsReplayed, ActsSeenFor, IsRedoneFor, IsReplayedFor};
 ghost use Rattle.mb_core_state.specs.Rooms.{HasPins};
 
 use crate::acting::act_seen;
@@ -25,9 +25,9 @@ impl<F: FileSys, D: Disk> Fields<F, D> {
     /// Whether a caller has a call in flight without an entry.
     fn awaits(&self, caller: u8) -> bool
         requires { caller < length self.now.callers }
-        ensures waits { result ≡ true → (mine : CallerState) → slice_get self.now.callers caller ≡ Some mine → open_flight mine.flight ≡ mine.flight }
-        ensures there { result ≡ true → (mine : CallerState) × (slice_get self.now.callers caller ≡ Some mine) × IsSome mine.flight }
-        ensures none { result ≡ false → (mine : CallerState) → slice_get self.now.callers caller ≡ Some mine → open_flight mine.flight ≡ None }
+        ensures waits { result ≡ true → OfMine self.now caller (λ mine. open_flight mine.flight ≡ mine.flight) }
+        ensures there { result ≡ true → HasMine self.now caller (λ mine. IsSome mine.flight) }
+        ensures none { result ≡ false → OfMine self.now caller (λ mine. open_flight mine.flight ≡ None) }
     {
         match self.callers.get(caller).flight() {
             Some(flight) => !flight.answered,
@@ -108,7 +108,7 @@ impl<F: FileSys, D: Disk> Fields<F, D> {
     /// it refuses, which comes on no disk that tells a volume, is answered as want of memory.
     fn act_again(&mut self, alloc: Global, done: u32) -> Result<Changes, ReadFault>
         requires { done < length self.old.journal.oplog }
-        ensures ok { IfOk result (λ changes. (logged : Logged) → slice_get self.old.journal.oplog done ≡ Some logged → ActsSeen D.told self.old.cache self.old.tables.opens logged.op logged.pick changes) }
+        ensures ok { IfOk result (ActsSeenFor D.told self.old done) }
         ensures rest { self.new ≡ with_read self.old self.new.cache }
         ensures told { D.told self.new.cache.disk ≡ D.told self.old.cache.disk }
         ensures cause { ReadHasCause (D.faults self.old.cache.disk) (D.faults self.new.cache.disk) result }
@@ -147,7 +147,7 @@ impl<F: FileSys, D: Disk> Fields<F, D> {
         requires pages { length changes.now ≤ self.old.cache.room.pages }
         requires are { AreChanges changes.now }
         requires trail { 0 < self.old.journal.room.trail }
-        ensures ok { OnOk result ((logged : Logged) → slice_get self.old.journal.oplog done ≡ Some logged → self.new ≡ with_room (redoing self.old logged changes.now done) self.new) }
+        ensures ok { OnOk result (IsRedoneFor self.old self.new done changes.now) }
         ensures err { OnErr result (self.new ≡ self.old) }
         ensures disk { self.new.cache.disk ≡ self.old.cache.disk }
         ensures room { self.old.journal.room.history ≤ self.new.journal.room.history }
@@ -168,7 +168,7 @@ impl<F: FileSys, D: Disk> Fields<F, D> {
     fn put_again(&mut self, done: u32, changes: &Changes) -> Result<(), NoMemory>
         requires done { done < length self.old.journal.oplog }
         requires last { done < 4294967295 }
-        ensures ok { OnOk result ((logged : Logged) → slice_get self.old.journal.oplog done ≡ Some logged → self.new ≡ with_room (redoing self.old logged changes.now done) self.new) }
+        ensures ok { OnOk result (IsRedoneFor self.old self.new done changes.now) }
         ensures are { OnOk result (AreChanges changes.now) }
         ensures err { OnErr result ((self.new ≡ with_room self.old self.new) × KeepsRoom self.old.journal.room self.new.journal.room) }
         ensures disk { self.new.cache.disk ≡ self.old.cache.disk }
@@ -184,7 +184,7 @@ impl<F: FileSys, D: Disk> Fields<F, D> {
     fn redo(&mut self, alloc: Global, done: u32) -> Result<(), ReadFault>
         requires done { done < length self.old.journal.oplog }
         requires last { done < 4294967295 }
-        ensures ok { OnOk result ((logged : Logged) → slice_get self.old.journal.oplog done ≡ Some logged → IsReplayed D.told self.old self.new done logged) }
+        ensures ok { OnOk result (IsReplayedFor D.told self.old self.new done) }
         ensures err { OnErr result ((self.new ≡ with_room (with_disk self.old self.new.cache.disk) self.new) × KeepsRoom self.old.journal.room self.new.journal.room) }
         ensures told { D.told self.new.cache.disk ≡ D.told self.old.cache.disk }
         ensures cause { ReadHasCause (D.faults self.old.cache.disk) (D.faults self.new.cache.disk) result }

@@ -1,5 +1,5 @@
 ghost use Rattle.std.specs.Prelude.{◌≡◌, ◌<◌, ◌≤◌, ◌+◌, length};
-ghost use Rattle.mb_core_spec.specs.Recovery.{recorded, striking, striking_again};
+ghost use Rattle.mb_core_spec.specs.Recovery.{recorded, striking_again};
 ghost use Rattle.mb_journal.specs.Room.{LeavesFault};
 ghost use Rattle.mb_core_state.specs.Answers.{IsPresent, Strikes};
 ghost use Rattle.mb_core_state.specs.Rooms.{damaged_both};

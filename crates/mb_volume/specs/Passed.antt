@@ -8,7 +8,7 @@ use Rattle.mb_kinds.specs.declared.faults.Kind.{Kind}
 use Rattle.mb_kinds.specs.declared.faults.Kind.TheVariants.{Enter, Gather, Finish, Leave}
 use Rattle.mb_run.specs.Pages.{has}
 use Rattle.mb_run.specs.Served.{counted}
-use Rattle.mb_run.specs.Sights.{Seat}
+use Rattle.mb_run.specs.Sights.{Seat, Sight}
 use Rattle.mb_run.specs.Seals.{is_plain}
 use Rattle.mb_run.specs.Tallies.{HasFinished, count_of, is_logged}
 use Rattle.mb_run.specs.declared.runner.At.{At}
@@ -93,6 +93,10 @@ Crosses _ before now came = now ≡ before
 pub record Marks (event : Event) (was is : Seat) (before now : Attempt) (came : Came) : Type 0 where
   pub passes : Passes event was is before now came
   pub crosses : Crosses event before.crossings now.crossings came
+
+-- the same by sights of a core
+abbrev pub MarksSeen : Event → Sight → Sight → Attempt → Attempt → Came → Type 0
+MarksSeen event old new before now came = Marks event (old.seats before.crossings.caller) (new.seats before.crossings.caller) before now came
 
 -- ---- since the call began, when the count of faults was `first`
 

@@ -15,13 +15,13 @@ use Rattle.mb_calls.specs.declared.performing.Performed.TheVariants as performed
 use Rattle.mb_core_spec.specs.Copies.{PagesState}
 use Rattle.mb_run.specs.Pages.{GrowsBy, HasTablesFor, Performs, has}
 use Rattle.mb_run.specs.Served.{AreCounts, AreSound, IsCounted, counted}
-use Rattle.mb_run.specs.Sights.{HasTicket, IsWaiting, Seat}
+use Rattle.mb_run.specs.Sights.{HasTicket, IsWaiting, Seat, Sight}
 use Rattle.mb_run.specs.declared.answers.Stepped.{Stepped}
 use Rattle.mb_run.specs.declared.answers.Stepped.TheVariants as stepped
 use Rattle.mb_run.specs.declared.runner.At.{At}
 use Rattle.mb_run.specs.declared.runner.At.TheVariants as at
 use Rattle.mb_volume.specs.Called.{IsAnsweredWith, SaysOfLimit, Suffers, own_faults}
-use Rattle.mb_volume.specs.Parts.{Part}
+use Rattle.mb_volume.specs.Parts.{Part, part_of}
 use Rattle.mb_volume.specs.declared.attempt.Attempt.{Attempt}
 use Rattle.mb_volume.specs.declared.events.Came.{Came}
 use Rattle.mb_volume.specs.declared.events.Came.TheVariants as came
@@ -163,6 +163,13 @@ pub record IsTold (now : Part) : Type 0 where
 -- and whatever the hook's test is, which was not asked
 abbrev pub GoesUnasked : Call → Part → Part → Attempt → Attempt → Came → Type 0
 GoesUnasked call old new before now came = (test : Option (Crossing → Bool)) → Goes call test old new before now came
+
+-- the same by sights of a core, of the caller whose attempt it is
+abbrev pub GoesSeen : Call → Option (Crossing → Bool) → Sight → Sight → Attempt → Attempt → Came → Type 0
+GoesSeen call test old new before now came = Goes call test (part_of old before.crossings.caller) (part_of new before.crossings.caller) before now came
+
+abbrev pub GoesUnaskedSeen : Call → Sight → Sight → Attempt → Attempt → Came → Type 0
+GoesUnaskedSeen call old new before now came = GoesUnasked call (part_of old before.crossings.caller) (part_of new before.crossings.caller) before now came
 
 -- the place has that ticket
 abbrev pub HoldsTicket : At → Ticket → Type 0

@@ -6,10 +6,10 @@ ghost use Rattle.mb_run.specs.Rising.{RisesWith};
 ghost use Rattle.mb_run.specs.Sights.{IsOrderly, IsWaiting};
 ghost use Rattle.mb_run.specs.declared.runner.At.TheVariants as at;
 ghost use Rattle.mb_volume.specs.Parts.{Moves, part_of};
-ghost use Rattle.mb_volume.specs.Passed.{Marks};
+ghost use Rattle.mb_volume.specs.Passed.{MarksSeen};
 ghost use Rattle.mb_volume.specs.Rising.{RisesAfter, word_for};
 ghost use Rattle.mb_volume.specs.declared.events.Event.TheVariants as events;
-ghost use Rattle.mb_volume.specs.Underway.{Goes, GoesUnasked, GrowsAfter, HoldsTicket, IsMet, IsOn, MayCome, rolled};
+ghost use Rattle.mb_volume.specs.Underway.{GrowsAfter, HoldsTicket, IsMet, IsOn, MayCome, rolled, GoesSeen, GoesUnaskedSeen};
 
 use crate::attempt::Attempt;
 use mb_calls::Ready;
@@ -59,8 +59,8 @@ fn enter<C: EventCore>(alloc: Global, core: &mut C, attempt: &mut Attempt, call:
     requires on { IsOn call.now (part_of (C.sight core.old) attempt.old.crossings.caller) attempt.old }
     requires outside { attempt.old.at ≡ at.Outside }
     requires right { IsOrderly (C.sight core.old) }
-    ensures goes { GoesUnasked call.now (part_of (C.sight core.old) attempt.old.crossings.caller) (part_of (C.sight core.new) attempt.old.crossings.caller) attempt.old attempt.new result }
-    ensures marks { Marks events.Enter ((C.sight core.old).seats attempt.old.crossings.caller) ((C.sight core.new).seats attempt.old.crossings.caller) attempt.old attempt.new result }
+    ensures goes { GoesUnaskedSeen call.now (C.sight core.old) (C.sight core.new) attempt.old attempt.new result }
+    ensures marks { MarksSeen events.Enter (C.sight core.old) (C.sight core.new) attempt.old attempt.new result }
     ensures same { attempt.new.crossings.caller ≡ attempt.old.crossings.caller }
     ensures moves { Moves attempt.old.crossings.caller (C.sight core.old) (C.sight core.new) }
     ensures still { (C.sight core.new).records ≡ (C.sight core.old).records }
@@ -94,8 +94,8 @@ fn gather<C: EventCore>(
     requires count { need.count ≤ 32 }
     requires right { IsOrderly (C.sight core.old) }
     ensures grown { GrowsBy need attempt.old.pages attempt.new.pages }
-    ensures goes { GoesUnasked call.now (part_of (C.sight core.old) attempt.old.crossings.caller) (part_of (C.sight core.new) attempt.old.crossings.caller) attempt.old attempt.new result }
-    ensures marks { Marks (events.Gather ticket.now need) ((C.sight core.old).seats attempt.old.crossings.caller) ((C.sight core.new).seats attempt.old.crossings.caller) attempt.old attempt.new result }
+    ensures goes { GoesUnaskedSeen call.now (C.sight core.old) (C.sight core.new) attempt.old attempt.new result }
+    ensures marks { MarksSeen (events.Gather ticket.now need) (C.sight core.old) (C.sight core.new) attempt.old attempt.new result }
     ensures same { attempt.new.crossings.caller ≡ attempt.old.crossings.caller }
     ensures moves { Moves attempt.old.crossings.caller (C.sight core.old) (C.sight core.new) }
     ensures still { (C.sight core.new).records ≡ (C.sight core.old).records }
@@ -131,8 +131,8 @@ fn finish<C: EventCore>(
     requires there { has attempt.old.pages 0 ≡ true }
     requires ready { Performs attempt.old.pages ticket.now.caller call.now ticket.now.moment (performed.Ready ready) }
     requires right { IsOrderly (C.sight core.old) }
-    ensures goes { GoesUnasked call.now (part_of (C.sight core.old) attempt.old.crossings.caller) (part_of (C.sight core.new) attempt.old.crossings.caller) attempt.old attempt.new result }
-    ensures marks { Marks (events.Finish ticket.now ready) ((C.sight core.old).seats attempt.old.crossings.caller) ((C.sight core.new).seats attempt.old.crossings.caller) attempt.old attempt.new result }
+    ensures goes { GoesUnaskedSeen call.now (C.sight core.old) (C.sight core.new) attempt.old attempt.new result }
+    ensures marks { MarksSeen (events.Finish ticket.now ready) (C.sight core.old) (C.sight core.new) attempt.old attempt.new result }
     ensures same { attempt.new.crossings.caller ≡ attempt.old.crossings.caller }
     ensures moves { Moves attempt.old.crossings.caller (C.sight core.old) (C.sight core.new) }
     ensures still { (C.sight core.new).records ≡ (C.sight core.old).records }
@@ -166,8 +166,8 @@ fn leave<C: EventCore>(core: &mut C, attempt: &mut Attempt, call: &Call, ticket:
     requires on { IsOn call.now (part_of (C.sight core.old) attempt.old.crossings.caller) attempt.old }
     requires logged { attempt.old.at ≡ at.Logged ticket.now }
     requires right { IsOrderly (C.sight core.old) }
-    ensures goes { GoesUnasked call.now (part_of (C.sight core.old) attempt.old.crossings.caller) (part_of (C.sight core.new) attempt.old.crossings.caller) attempt.old attempt.new result }
-    ensures marks { Marks (events.Leave ticket.now) ((C.sight core.old).seats attempt.old.crossings.caller) ((C.sight core.new).seats attempt.old.crossings.caller) attempt.old attempt.new result }
+    ensures goes { GoesUnaskedSeen call.now (C.sight core.old) (C.sight core.new) attempt.old attempt.new result }
+    ensures marks { MarksSeen (events.Leave ticket.now) (C.sight core.old) (C.sight core.new) attempt.old attempt.new result }
     ensures same { attempt.new.crossings.caller ≡ attempt.old.crossings.caller }
     ensures moves { Moves attempt.old.crossings.caller (C.sight core.old) (C.sight core.new) }
     ensures still { (C.sight core.new).records ≡ (C.sight core.old).records }
@@ -198,8 +198,8 @@ fn fault<C: EventCore, H: Hook>(
     requires holds { HoldsTicket attempt.old.at ticket.now }
     requires met { IsMet (H.test hook.now) (H.struck hook.now) attempt.old crossing.now passed.now }
     requires right { IsOrderly (C.sight core.old) }
-    ensures goes { Goes call.now (H.test hook.now) (part_of (C.sight core.old) attempt.old.crossings.caller) (part_of (C.sight core.new) attempt.old.crossings.caller) attempt.old attempt.new result }
-    ensures marks { Marks (events.Fault ticket.now crossing.now passed.now) ((C.sight core.old).seats attempt.old.crossings.caller) ((C.sight core.new).seats attempt.old.crossings.caller) attempt.old attempt.new result }
+    ensures goes { GoesSeen call.now (H.test hook.now) (C.sight core.old) (C.sight core.new) attempt.old attempt.new result }
+    ensures marks { MarksSeen (events.Fault ticket.now crossing.now passed.now) (C.sight core.old) (C.sight core.new) attempt.old attempt.new result }
     ensures same { attempt.new.crossings.caller ≡ attempt.old.crossings.caller }
     ensures moves { Moves attempt.old.crossings.caller (C.sight core.old) (C.sight core.new) }
     ensures rises { RisesAfter word.Fault (H.faults hook.now) (H.faults hook.now) (C.sight core.old).records (C.sight core.new).records }
@@ -236,8 +236,8 @@ fn recover<C: EventCore, H: Hook>(
     requires on { IsOn call.now (part_of (C.sight core.old) attempt.old.crossings.caller) attempt.old }
     requires waits { IsWaiting ((C.sight core.old).seats attempt.old.crossings.caller) }
     requires right { IsOrderly (C.sight core.old) }
-    ensures goes { Goes call.now (H.test hook.old) (part_of (C.sight core.old) attempt.old.crossings.caller) (part_of (C.sight core.new) attempt.old.crossings.caller) attempt.old attempt.new result }
-    ensures marks { Marks events.Recover ((C.sight core.old).seats attempt.old.crossings.caller) ((C.sight core.new).seats attempt.old.crossings.caller) attempt.old attempt.new result }
+    ensures goes { GoesSeen call.now (H.test hook.old) (C.sight core.old) (C.sight core.new) attempt.old attempt.new result }
+    ensures marks { MarksSeen events.Recover (C.sight core.old) (C.sight core.new) attempt.old attempt.new result }
     ensures same { attempt.new.crossings.caller ≡ attempt.old.crossings.caller }
     ensures moves { Moves attempt.old.crossings.caller (C.sight core.old) (C.sight core.new) }
     ensures rises { RisesWith (H.faults hook.old) (H.faults hook.new) (C.sight core.old).records (C.sight core.new).records }
@@ -272,8 +272,8 @@ pub(crate) fn act<C: EventCore, H: Hook>(
     requires may { MayCome call.now (H.test hook.old) (H.struck hook.old) ((C.sight core.old).seats attempt.old.crossings.caller) attempt.old event }
     requires right { IsOrderly (C.sight core.old) }
     ensures grown { GrowsAfter event attempt.old.pages attempt.new.pages }
-    ensures goes { Goes call.now (H.test hook.old) (part_of (C.sight core.old) attempt.old.crossings.caller) (part_of (C.sight core.new) attempt.old.crossings.caller) attempt.old attempt.new result }
-    ensures marks { Marks event ((C.sight core.old).seats attempt.old.crossings.caller) ((C.sight core.new).seats attempt.old.crossings.caller) attempt.old attempt.new result }
+    ensures goes { GoesSeen call.now (H.test hook.old) (C.sight core.old) (C.sight core.new) attempt.old attempt.new result }
+    ensures marks { MarksSeen event (C.sight core.old) (C.sight core.new) attempt.old attempt.new result }
     ensures same { attempt.new.crossings.caller ≡ attempt.old.crossings.caller }
     ensures moves { Moves attempt.old.crossings.caller (C.sight core.old) (C.sight core.new) }
     ensures rises { RisesAfter (word_for event) (H.faults hook.old) (H.faults hook.new) (C.sight core.old).records (C.sight core.new).records }

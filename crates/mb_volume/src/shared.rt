@@ -9,10 +9,10 @@ ghost use Rattle.mb_run.specs.Seals.{AreInTime};
 ghost use Rattle.mb_run.specs.Sights.{IsOrderly, undue_in};
 ghost use Rattle.mb_volume.specs.Attempts.{without_pages};
 ghost use Rattle.mb_volume.specs.Parts.{Moves, part_of, stand_in};
-ghost use Rattle.mb_volume.specs.Passed.{Marks};
+ghost use Rattle.mb_volume.specs.Passed.{MarksSeen};
 ghost use Rattle.mb_volume.specs.Rising.{RisesAfter, word_for};
 ghost use Rattle.mb_volume.specs.Shared.{origin_of};
-ghost use Rattle.mb_volume.specs.Underway.{Goes, GrowsAfter, IsOn, MayCome};
+ghost use Rattle.mb_volume.specs.Underway.{GrowsAfter, IsOn, MayCome, GoesSeen};
 
 use crate::attempt::Attempt;
 use crate::events::{Came, Event, act};
@@ -122,8 +122,8 @@ impl<F: FileSys, D: Disk> SharedCore<F, D> {
         requires on { IsOn call.now (part_of (sight_of self.old.core.core) attempt.old.crossings.caller) attempt.old }
         requires may { MayCome call.now (H.test hook.old) (H.struck hook.old) ((sight_of self.old.core.core).seats attempt.old.crossings.caller) attempt.old event }
         ensures grown { GrowsAfter event attempt.old.pages attempt.new.pages }
-        ensures goes { Goes call.now (H.test hook.old) (part_of (sight_of self.old.core.core) attempt.old.crossings.caller) (part_of (sight_of self.new.core.core) attempt.old.crossings.caller) attempt.old attempt.new result }
-        ensures marks { Marks event ((sight_of self.old.core.core).seats attempt.old.crossings.caller) ((sight_of self.new.core.core).seats attempt.old.crossings.caller) attempt.old attempt.new result }
+        ensures goes { GoesSeen call.now (H.test hook.old) (sight_of self.old.core.core) (sight_of self.new.core.core) attempt.old attempt.new result }
+        ensures marks { MarksSeen event (sight_of self.old.core.core) (sight_of self.new.core.core) attempt.old attempt.new result }
         ensures same { attempt.new.crossings.caller ≡ attempt.old.crossings.caller }
         ensures moves { Moves attempt.old.crossings.caller (sight_of self.old.core.core) (sight_of self.new.core.core) }
         ensures rises { RisesAfter (word_for event) (H.faults hook.old) (H.faults hook.new) self.old.core.core.journal.records self.new.core.core.journal.records }
