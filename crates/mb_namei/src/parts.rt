@@ -47,7 +47,8 @@ pub(crate) fn fetch_by<'a, V: View>(
     fetch(view, changes, ino, part, parts)
 }
 
-/// A part of a file that has so many parts.
+/// A part of a file that has so many parts. It stands in each of its callers, too.
+#[inline(always)]
 pub(crate) fn fetch<'a, V: View>(
     view: &'a V,
     changes: &'a Changes,

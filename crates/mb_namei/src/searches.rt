@@ -57,6 +57,26 @@ enum PartCounted {
     Need(Need),
 }
 
+/// From how many parts on a directory's addresses are looked up once for all of them. Of fewer each goes by the inode, which
+/// takes less where the first of them is lacking.
+const MANY: u32 = 5;
+
+/// The addresses of a directory of so many parts, where these are many.
+#[inline(always)]
+fn addresses_of<'a, V: View>(
+    view: &'a V,
+    changes: &'a Changes,
+    dir: u16,
+    parts: u32,
+) -> Option<Addresses<'a>>
+    ensures { IfSome result (AreOf (V.shown view.now) changes.now dir) }
+{
+    if parts < MANY {
+        return None;
+    }
+    Addresses::read(view, changes, dir)
+}
+
 /// Searches a directory of so many bytes for a name, slot after slot (V7 dir(5)), 32 of them in a
 /// block. What it answers is promised where each part below the size has a block, as in every
 /// directory of a volume; a hole ends the search as if no slot were there.
@@ -69,7 +89,7 @@ pub fn search<V: View>(view: &V, changes: &Changes, dir: u16, size: u32, name: &
     if let Some(need) = lacking_part(view, changes, dir, parts, name) {
         return Sought::Need(need);
     }
-    let addresses = Addresses::read(view, changes, dir);
+    let addresses = addresses_of(view, changes, dir, parts);
     let mut empty = count;
     for part in 0..parts {
         match search_part(view, changes, addresses, dir, part, count, empty, name) {
