@@ -8,7 +8,7 @@ use Rattle.mb_bmap.specs.Locating.{OnWay, address_on}
 use Rattle.mb_bmap.specs.Ways.{route_of}
 use Rattle.mb_bmap.specs.declared.routes.Route.{Route}
 use Rattle.mb_bmap.proofs.Locating.{HasFollowed, address_is, follow_first, follow_next, found_here}
-use Rattle.mb_namei.specs.Addresses.{AreBytes, AreOf, IsAddress, LeadsTo}
+use Rattle.mb_namei.specs.Addresses.{AreBlockBytes, AreOf, IsAddress, LeadsTo}
 use Rattle.mb_namei.specs.declared.addresses.Addresses.{Addresses}
 
 abbrev direct : ℕ → Route
@@ -45,7 +45,7 @@ direct_leads known part (Some block) low is = (
 
 -- an address in the first index block
 pub near_leads : (known : Addresses) (part address : ℕ) (bytes : List ℕ) (found : Option ℕ) → 10 ≤ part → part < 138
-    → ((shown : ℕ → Option (List ℕ)) (changes : ChangeList) (ino : ℕ) → AreOf shown changes ino known → (block : ℕ) × (IsAddress (address_of known.inode.now (inode_place ino) 10) block × AreBytes shown changes block bytes))
+    → ((shown : ℕ → Option (List ℕ)) (changes : ChangeList) (ino : ℕ) → AreOf shown changes ino known → (block : ℕ) × (IsAddress (address_of known.inode.now (inode_place ino) 10) block × AreBlockBytes shown changes block bytes))
     → address ≡ index_entry bytes (part - 10) → IfSome found (IsAddress address) → IfSome found (LeadsTo known part)
 near_leads known part address bytes None high low index reads is = tt
 near_leads known part address bytes (Some block) high low index reads is = (

@@ -13,14 +13,14 @@ abbrev pub IsAddress : ℕ → ℕ → Type 0
 IsAddress address block = (block ≡ address) × (0 < block) × (block < 262144)
 
 -- the bytes of a block under changes, of whatever blocks a view is a part
-abbrev pub AreBytes : (ℕ → Option (List ℕ)) → ChangeList → ℕ → List ℕ → Type 0
-AreBytes shown changes block bytes = (blocks : ℕ → List ℕ) → IsPart shown blocks → over blocks (changed changes) block ≡ bytes
+abbrev pub AreBlockBytes : (ℕ → Option (List ℕ)) → ChangeList → ℕ → List ℕ → Type 0
+AreBlockBytes shown changes block bytes = (blocks : ℕ → List ℕ) → IsPart shown blocks → over blocks (changed changes) block ≡ bytes
 
 -- what is at hand is of that file: the bytes of its inode, and those of the index block to which its eleventh address leads
 pub record AreOf (shown : ℕ → Option (List ℕ)) (changes : ChangeList) (ino : ℕ) (known : Addresses) : Type 0 where
   pub own : known.ino ≡ ino
-  pub inode : AreBytes shown changes (inode_block ino) known.inode.now
-  pub index : IfSome known.index (λ index. (block : ℕ) × (IsAddress (address_of known.inode.now (inode_place ino) 10) block × AreBytes shown changes block index.now))
+  pub inode : AreBlockBytes shown changes (inode_block ino) known.inode.now
+  pub index : IfSome known.index (λ index. (block : ℕ) × (IsAddress (address_of known.inode.now (inode_place ino) 10) block × AreBlockBytes shown changes block index.now))
 
 -- the addresses lead from a part of their file to a block
 abbrev pub LeadsTo : Addresses → ℕ → ℕ → Type 0

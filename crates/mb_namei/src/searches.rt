@@ -61,22 +61,6 @@ enum PartCounted {
 /// takes less where the first of them is lacking.
 const MANY: u32 = 5;
 
-/// The addresses of a directory of so many parts, where these are many.
-#[inline(always)]
-fn addresses_of<'a, V: View>(
-    view: &'a V,
-    changes: &'a Changes,
-    dir: u16,
-    parts: u32,
-) -> Option<Addresses<'a>>
-    ensures { IfSome result (AreOf (V.shown view.now) changes.now dir) }
-{
-    if parts < MANY {
-        return None;
-    }
-    Addresses::read(view, changes, dir)
-}
-
 /// Searches a directory of so many bytes for a name, slot after slot (V7 dir(5)), 32 of them in a
 /// block. What it answers is promised where each part below the size has a block, as in every
 /// directory of a volume; a hole ends the search as if no slot were there.
@@ -84,12 +68,39 @@ fn addresses_of<'a, V: View>(
 pub fn search<V: View>(view: &V, changes: &Changes, dir: u16, size: u32, name: &Name) -> Sought
     ensures { Seeks (V.shown view.now) changes.now dir size name.now result }
 {
-    let count = size / 16;
-    let parts = count.div_ceil(32).min(2_113_674);
+    let parts = (size / 16).div_ceil(32).min(2_113_674);
     if let Some(need) = lacking_part(view, changes, dir, parts, name) {
         return Sought::Need(need);
     }
-    let addresses = addresses_of(view, changes, dir, parts);
+    if parts < MANY {
+        return search_by(view, changes, None, dir, size, name);
+    }
+    search_by(
+        view,
+        changes,
+        Addresses::read(view, changes, dir),
+        dir,
+        size,
+        name,
+    )
+}
+
+/// Searches a directory part after part, whose addresses are at hand where there are any. It stands in its caller twice: where
+/// none are, each part goes by the inode.
+#[inline(always)]
+fn search_by<V: View>(
+    view: &V,
+    changes: &Changes,
+    addresses: Option<Addresses<'_>>,
+    dir: u16,
+    size: u32,
+    name: &Name,
+) -> Sought
+    requires known { IfSome addresses (AreOf (V.shown view.now) changes.now dir) }
+    ensures { Seeks (V.shown view.now) changes.now dir size name.now result }
+{
+    let count = size / 16;
+    let parts = count.div_ceil(32).min(2_113_674);
     let mut empty = count;
     for part in 0..parts {
         match search_part(view, changes, addresses, dir, part, count, empty, name) {

@@ -1,6 +1,6 @@
 use Rattle.std.proofs.Common.{◌≡◌, ◌+◌, ◌/◌, subst, refl, arith}
 use Rattle.mb_namei.proofs.Searching.{HasPassed, none_passed, pass_next, ends_empty, ends_full, ends_found}
-use Rattle.mb_namei.proofs.searches.search.Goals as goal
+use Rattle.mb_namei.proofs.searches.search_by.Goals as goal
 
 pub loop-part-init : goal.loop-part-init
 loop-part-init g c = none_passed (g.V.View.shown c.args.view.now) c.args.changes.now c.args.dir _ 0 c.args.name.now refl
