@@ -44,7 +44,8 @@ fn super_block<'a, V: View>(
     view: &'a V,
     changes: &'a Changes,
 ) -> Option<(&'a [u8; 512], Option<usize>)>
-    ensures { MatchOption result (shown_over (V.shown view.now) changes.now 1 ≡ None) (λ found. IsSuper (V.shown view.now) changes.now found.0.now found.1) }
+    ensures { MatchOption result (shown_over (V.shown view.now) changes.now 1 ≡ None) (λ found.
+        IsSuper (V.shown view.now) changes.now found.0.now found.1) }
 {
     match changes.place(1) {
         Some(place) => Some((changes.at(place).1, Some(place))),

@@ -4,7 +4,7 @@ use Rattle.indexmap.specs.IndexMap.{insert_all}
 use Rattle.mb_edge.specs.Damage.{wiped, page_replaced}
 use Rattle.mb_edge.specs.declared.strokes.Stroke.{Stroke}
 use Rattle.mb_edge.specs.declared.strokes.Stroke.TheVariants.{Wipe, Page, Count}
-pub use Rattle.mb_layers.specs.Pages.{PageList, page_at, under, count_covered}
+pub use Rattle.mb_layers.specs.Pages.{PageList, WritesAtMost, page_at, under, count_covered}
 
 -- pages installed one after another: each in the place of its block's page where it has one, else behind the others
 abbrev pub installed : PageList → PageList → PageList

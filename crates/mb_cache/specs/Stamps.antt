@@ -1,5 +1,5 @@
 -- How often each block was installed, and how many calls in flight pin it.
-use Rattle.std.specs.Prelude.{List, [], ◌∷◌, ℕ, ◌+◌, ◌-◌, ◌^◌, min, nat_eq, unwrap_or}
+use Rattle.std.specs.Prelude.{List, [], ◌∷◌, ℕ, ◌≡◌, ◌+◌, ◌-◌, ◌^◌, cond, min, nat_eq, unwrap_or}
 use Rattle.std.specs.Map.{lookup}
 use Rattle.indexmap.specs.IndexMap.{insert_entry}
 
@@ -19,3 +19,11 @@ raised stamps block = insert_entry nat_eq stamps block (min (stamp_of stamps blo
 abbrev pub raised_by : Stamps → List (ℕ × List ℕ) → Stamps
 raised_by stamps [] = stamps
 raised_by stamps (change ∷ changes) = raised_by (raised stamps change.0) changes
+
+-- one more for a block, and for each other one as before
+abbrev pub RaisesOne : Stamps → Stamps → ℕ → Type 0
+RaisesOne old new block = (other : ℕ) → stamp_of new other ≡ cond (nat_eq block other) (stamp_of old other + 1) (stamp_of old other)
+
+-- one less for a block, and for each other one as before
+abbrev pub LowersOne : Stamps → Stamps → ℕ → Type 0
+LowersOne old new block = (other : ℕ) → stamp_of new other ≡ cond (nat_eq block other) (stamp_of old other - 1) (stamp_of old other)

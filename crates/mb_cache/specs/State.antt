@@ -31,6 +31,10 @@ pub record CacheState (D : Type 0) : Type 0 where
   pub pins : Stamps
   pub room : CacheRoom
 
+-- a disk with no page and no pin, of which nothing was installed
+abbrev pub fresh_cache : {D : Type 0} → D → CacheRoom → CacheState D
+fresh_cache disk room = record { disk = disk; sealed = []; current = []; stamps = []; pins = []; room = room }
+
 -- what is seen: the disk under the checkpointed and the current pages
 abbrev pub seen : {D : Type 0} → (D → Option Image) → CacheState D → Option Image
 seen told cache = option_map (λ image. under (under image cache.sealed) cache.current) (told cache.disk)
@@ -39,6 +43,26 @@ seen told cache = option_map (λ image. under (under image cache.sealed) cache.c
 abbrev pub ReadsThrough : {D : Type 0} → CacheState D → CacheState D → ℕ → Result (List ℕ) ReadFault → Type 0
 ReadsThrough old new block result =
     Rereads (option_or (page_at old.current block) (page_at old.sealed block)) (page_at old.room.clean block) block old.disk old.room.clean new.disk new.room.clean result
+
+-- what a read of a block leaves of a cache, where the block has no checkpointed page and no current one
+abbrev pub ReadsBelow : {D : Type 0} → CacheState D → CacheState D → ℕ → Result (List ℕ) ReadFault → Type 0
+ReadsBelow old new block result = Rereads None (page_at old.room.clean block) block old.disk old.room.clean new.disk new.room.clean result
+
+-- a cache after blocks were read: clean pages come and go
+abbrev pub after_reads : {D : Type 0} → CacheState D → CacheState D → CacheState D
+after_reads old new = record old { disk = new.disk; room = record old.room { clean = new.room.clean } }
+
+-- a cache after pins were taken or given back
+abbrev pub with_pins : {D : Type 0} → CacheState D → CacheState D → CacheState D
+with_pins old new = record old { pins = new.pins; room = record old.room { pins = new.room.pins } }
+
+-- a cache after blocks were read and pinned
+abbrev pub after_pinning : {D : Type 0} → CacheState D → CacheState D → CacheState D
+after_pinning old new = record old { disk = new.disk; pins = new.pins; room = record old.room { pins = new.room.pins; clean = new.room.clean } }
+
+-- the room after pages were moved, which takes no pin and no clean page
+abbrev pub moved_room : CacheRoom → CacheRoom → CacheRoom
+moved_room old new = record new { pins = old.pins; clean = old.clean }
 
 -- a read blames the device only where its count of faults rose
 abbrev pub IsBlamed : ℕ → ℕ → ReadFault → Type 0

@@ -1,10 +1,10 @@
-ghost use Rattle.std.specs.Prelude.{◌≡◌, ◌≤◌, ◌<◌, ◌+◌, ◌-◌, ◌*◌, [], ℕ, None, cond, nat_eq, length, OnOk, OnErr, IfOk, IfErr, IfSome, IsOk};
+ghost use Rattle.std.specs.Prelude.{◌≡◌, ◌≤◌, ◌<◌, ◌+◌, ◌*◌, [], None, length, OnOk, OnErr, IfOk, IfErr, IfSome, IsOk};
 ghost use Rattle.mb_edge.specs.Blocks.{GivesBlock};
 ghost use Rattle.mb_kinds.specs.Image.{Image};
 ghost use Rattle.mb_cache.specs.Clean.{AreClean, Rereads, read_as};
-ghost use Rattle.mb_cache.specs.Pages.{page_at, under, count_covered, installed, page_stroke, pages_damaged};
-ghost use Rattle.mb_cache.specs.Stamps.{stamp_of, raised_by};
-ghost use Rattle.mb_cache.specs.State.{seen, Flushes, ReadHasCause, ReadsThrough};
+ghost use Rattle.mb_cache.specs.Pages.{WritesAtMost, page_at, under, count_covered, installed, page_stroke, pages_damaged};
+ghost use Rattle.mb_cache.specs.Stamps.{LowersOne, RaisesOne, stamp_of, raised_by};
+ghost use Rattle.mb_cache.specs.State.{after_reads, fresh_cache, moved_room, seen, Flushes, ReadHasCause, ReadsBelow, ReadsThrough, with_pins};
 
 use crate::answers::{Flushed, ReadFault};
 use crate::clean::CleanPages;
@@ -52,7 +52,7 @@ impl<D: Disk> Model for Cache<D> {
 impl<D: Disk> Cache<D> {
     /// No page and no pin, no clean page, and every stamp 0. The only error is want of memory, with the disk back.
     pub fn new(alloc: Global, disk: D) -> Result<Cache<D>, D>
-        ensures begun { IfOk result (λ cache. cache ≡ record { disk = disk; sealed = []; current = []; stamps = []; pins = []; room = cache.room }) }
+        ensures begun { IfOk result (λ cache. cache ≡ fresh_cache disk cache.room) }
         ensures clean { IfOk result (λ cache. cache.room.clean ≡ []) }
         ensures back { IfErr result (λ same. same ≡ disk) }
     {
@@ -90,7 +90,7 @@ impl<D: Disk> Cache<D> {
     /// the disk's count of faults rose; `bytes` may then hold anything.
     pub fn read(&mut self, block: u32, bytes: &mut [u8; 512]) -> Result<(), ReadFault>
         ensures bytes { OnOk result (IfSome (seen D.told self.old) (λ view. bytes.new ≡ view.at block)) }
-        ensures rest { self.new ≡ record self.old { disk = self.new.disk; room = record self.old.room { clean = self.new.room.clean } } }
+        ensures rest { self.new ≡ after_reads self.old self.new }
         ensures told { D.told self.new.disk ≡ D.told self.old.disk }
         ensures cause { ReadHasCause (D.faults self.old.disk) (D.faults self.new.disk) result }
         ensures clean { ReadsThrough self.old self.new block (read_as result bytes.new) }
@@ -106,10 +106,10 @@ impl<D: Disk> Cache<D> {
     /// The disk's block, by its clean page where it has one.
     fn read_below(&mut self, block: u32, bytes: &mut [u8; 512]) -> Result<(), ReadFault>
         ensures bytes { OnOk result (GivesBlock (D.told self.old.disk) block bytes.new) }
-        ensures rest { self.new ≡ record self.old { disk = self.new.disk; room = record self.old.room { clean = self.new.room.clean } } }
+        ensures rest { self.new ≡ after_reads self.old self.new }
         ensures told { D.told self.new.disk ≡ D.told self.old.disk }
         ensures cause { ReadHasCause (D.faults self.old.disk) (D.faults self.new.disk) result }
-        ensures clean { Rereads None (page_at self.old.room.clean block) block self.old.disk self.old.room.clean self.new.disk self.new.room.clean (read_as result bytes.new) }
+        ensures clean { ReadsBelow self.old self.new block (read_as result bytes.new) }
         ensures held { AreClean (D.told self.new.disk) self.new.room.clean }
     {
         if self.clean.read(block, bytes) {
@@ -122,7 +122,7 @@ impl<D: Disk> Cache<D> {
     fn read_disk(&mut self, block: u32, bytes: &mut [u8; 512]) -> Result<(), ReadFault>
         requires { page_at self.old.room.clean block ≡ None }
         ensures bytes { OnOk result (GivesBlock (D.told self.old.disk) block bytes.new) }
-        ensures rest { self.new ≡ record self.old { disk = self.new.disk; room = record self.old.room { clean = self.new.room.clean } } }
+        ensures rest { self.new ≡ after_reads self.old self.new }
         ensures told { D.told self.new.disk ≡ D.told self.old.disk }
         ensures cause { ReadHasCause (D.faults self.old.disk) (D.faults self.new.disk) result }
         ensures clean { Rereads None None block self.old.disk self.old.room.clean self.new.disk self.new.room.clean (read_as result bytes.new) }
@@ -138,7 +138,7 @@ impl<D: Disk> Cache<D> {
     /// Makes room for an install of so many blocks and for the checkpoint after it. The only error is want of memory,
     /// and it does not come where there is room already.
     pub fn reserve(&mut self, blocks: usize) -> Result<(), NoMemory>
-        ensures same { self.new ≡ record self.old { room = record self.new.room { pins = self.old.room.pins; clean = self.old.room.clean } } }
+        ensures same { self.new ≡ record self.old { room = moved_room self.old.room self.new.room } }
         ensures ok { OnOk result (blocks ≤ self.new.room.pages) }
         ensures kept { self.old.room.pages ≤ self.new.room.pages }
         ensures sure { blocks ≤ self.old.room.pages → IsOk result }
@@ -152,7 +152,11 @@ impl<D: Disk> Cache<D> {
     /// current keeps its place in the list, and another one is appended, in the order of `changes`. Needs no memory.
     pub fn install(&mut self, changes: &Changes)
         requires { length changes.now ≤ self.old.room.pages }
-        ensures installed { self.new ≡ record self.old { current = installed self.old.current changes.now; stamps = raised_by self.old.stamps changes.now; room = self.new.room } }
+        ensures installed { self.new ≡ record self.old {
+          current = installed self.old.current changes.now;
+          stamps = raised_by self.old.stamps changes.now;
+          room = self.new.room;
+        } }
         ensures pages { self.old.room.pages ≤ self.new.room.pages + length changes.now }
         ensures pins { self.new.room.pins ≡ self.old.room.pins }
         ensures clean { self.new.room.clean ≡ self.old.room.clean }
@@ -182,8 +186,8 @@ impl<D: Disk> Cache<D> {
     /// One pin more on a block. The only error is want of memory, which does not come where there is room; the pins are
     /// then as before.
     pub fn pin(&mut self, block: u32) -> Result<(), NoMemory>
-        ensures same { self.new ≡ record self.old { pins = self.new.pins; room = record self.old.room { pins = self.new.room.pins } } }
-        ensures ok { OnOk result ((other : ℕ) → stamp_of self.new.pins other ≡ cond (nat_eq block other) (stamp_of self.old.pins other + 1) (stamp_of self.old.pins other)) }
+        ensures same { self.new ≡ with_pins self.old self.new }
+        ensures ok { OnOk result (RaisesOne self.old.pins self.new.pins block) }
         ensures err { OnErr result (self.new.pins ≡ self.old.pins) }
         ensures sure { 0 < self.old.room.pins → IsOk result }
         ensures spare { self.old.room.pins ≤ self.new.room.pins + 1 }
@@ -194,8 +198,8 @@ impl<D: Disk> Cache<D> {
     /// One pin less on a block that is pinned; needs no memory.
     pub fn unpin(&mut self, block: u32)
         requires { 0 < stamp_of self.old.pins block }
-        ensures same { self.new ≡ record self.old { pins = self.new.pins; room = record self.old.room { pins = self.new.room.pins } } }
-        ensures pins { (other : ℕ) → stamp_of self.new.pins other ≡ cond (nat_eq block other) (stamp_of self.old.pins other - 1) (stamp_of self.old.pins other) }
+        ensures same { self.new ≡ with_pins self.old self.new }
+        ensures pins { LowersOne self.old.pins self.new.pins block }
         ensures spare { self.old.room.pins ≤ self.new.room.pins }
     {
         self.pins.unpin(block);
@@ -204,19 +208,23 @@ impl<D: Disk> Cache<D> {
     /// Makes all current pages checkpointed ones, in the place of a block's older page where it has one, in at most eight
     /// link writes, and eight more for each block that has an older page; needs no memory.
     pub fn seal(&mut self)
-        ensures rest { self.new ≡ record self.old { sealed = self.new.sealed; current = []; room = record self.new.room { pins = self.old.room.pins; clean = self.old.room.clean } } }
+        ensures rest { self.new ≡ record self.old {
+          sealed = self.new.sealed;
+          current = [];
+          room = moved_room self.old.room self.new.room;
+        } }
         ensures view { (image : Image) → under image self.new.sealed ≡ under (under image self.old.sealed) self.old.current }
         ensures kept { self.old.room.pages ≤ self.new.room.pages }
-        ensures writes { (self.old.room.writes ≤ self.new.room.writes) × (self.new.room.writes ≤ self.old.room.writes + 8 * (1 + count_covered self.old.sealed self.old.current)) }
+        ensures writes { WritesAtMost self.old.room.writes self.new.room.writes (8 * (1 + count_covered self.old.sealed self.old.current)) }
     {
         self.layers.seal();
     }
 
     /// Drops all current pages, in at most eight link writes; needs no memory.
     pub fn drop_current(&mut self)
-        ensures dropped { self.new ≡ record self.old { current = []; room = record self.new.room { pins = self.old.room.pins; clean = self.old.room.clean } } }
+        ensures dropped { self.new ≡ record self.old { current = []; room = moved_room self.old.room self.new.room } }
         ensures kept { self.old.room.pages ≤ self.new.room.pages }
-        ensures writes { (self.old.room.writes ≤ self.new.room.writes) × (self.new.room.writes ≤ self.old.room.writes + 8) }
+        ensures writes { WritesAtMost self.old.room.writes self.new.room.writes 8 }
     {
         self.layers.drop_current();
     }

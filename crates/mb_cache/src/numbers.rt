@@ -1,6 +1,6 @@
-ghost use Rattle.std.specs.Prelude.{◌≡◌, ◌≤◌, ◌<◌, ◌+◌, ◌-◌, [], ℕ, Some, None, IfSome, IfNone, cond, nat_eq, unwrap_or, option_copied, slice_get, OnOk, OnErr, IsOk};
+ghost use Rattle.std.specs.Prelude.{◌≡◌, ◌≤◌, ◌<◌, ◌+◌, [], ℕ, Some, None, IfSome, IfNone, nat_eq, unwrap_or, option_copied, slice_get, OnOk, OnErr, IsOk};
 ghost use Rattle.std.specs.Map.{lookup};
-ghost use Rattle.mb_cache.specs.Stamps.{stamp_of, raised};
+ghost use Rattle.mb_cache.specs.Stamps.{LowersOne, stamp_of, raised};
 
 use indexmap::IndexMap;
 use mb_edge::NoMemory;
@@ -133,7 +133,7 @@ impl Numbers {
 
     /// One less for a block; a number of 0 stays. Needs no memory.
     pub fn lower(&mut self, block: u32)
-        ensures numbers { (other : ℕ) → stamp_of self.new.items other ≡ cond (nat_eq block other) (stamp_of self.old.items other - 1) (stamp_of self.old.items other) }
+        ensures numbers { LowersOne self.old.items self.new.items block }
         ensures spare { self.old.spare ≤ self.new.spare }
     {
         let guess = &mut self.guesses[guess_of(block)];

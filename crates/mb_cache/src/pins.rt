@@ -1,5 +1,5 @@
-ghost use Rattle.std.specs.Prelude.{◌≡◌, ◌≤◌, ◌<◌, ◌+◌, ◌-◌, [], ℕ, cond, nat_eq, OnOk, OnErr, IsOk};
-ghost use Rattle.mb_cache.specs.Stamps.{stamp_of};
+ghost use Rattle.std.specs.Prelude.{◌≡◌, ◌≤◌, ◌<◌, ◌+◌, [], OnOk, OnErr, IsOk};
+ghost use Rattle.mb_cache.specs.Stamps.{LowersOne, RaisesOne, stamp_of};
 
 use crate::numbers::Numbers;
 use mb_edge::NoMemory;
@@ -59,7 +59,7 @@ impl PinMap {
 
     /// One pin more on a block.
     pub fn pin(&mut self, block: u32) -> Result<(), NoMemory>
-        ensures ok { OnOk result ((other : ℕ) → stamp_of self.new.items other ≡ cond (nat_eq block other) (stamp_of self.old.items other + 1) (stamp_of self.old.items other)) }
+        ensures ok { OnOk result (RaisesOne self.old.items self.new.items block) }
         ensures err { OnErr result (self.new.items ≡ self.old.items) }
         ensures sure { 0 < self.old.spare → IsOk result }
         ensures spare { self.old.spare ≤ self.new.spare + 1 }
@@ -75,7 +75,7 @@ impl PinMap {
     /// One pin less on a block; needs no memory.
     pub fn unpin(&mut self, block: u32)
         requires { 0 < stamp_of self.old.items block }
-        ensures pins { (other : ℕ) → stamp_of self.new.items other ≡ cond (nat_eq block other) (stamp_of self.old.items other - 1) (stamp_of self.old.items other) }
+        ensures pins { LowersOne self.old.items self.new.items block }
         ensures spare { self.old.spare ≤ self.new.spare }
     {
         self.counts.lower(block);

@@ -1,5 +1,5 @@
 -- Copies of the sessions and of the table of open files.
-use Rattle.std.specs.Prelude.{List, ℕ, ◌≡◌, Bool, true, false, Option, None, Some, length}
+use Rattle.std.specs.Prelude.{List, ℕ, ◌≡◌, Bool, true, false, Option, None, Some, Decides, length}
 use Rattle.mb_edge.specs.Damage.{OpenCounts}
 use Rattle.mb_tree.specs.declared.seats.Seat.{Seat}
 use Rattle.mb_core_spec.specs.Copies.{LiveTables, TableCopy, TablesAreFresh}
@@ -37,3 +37,7 @@ abbrev pub AreTablesFresh : Bool → ℕ → LiveTables → Option TableCopy →
 AreTablesFresh shared caller live kept None = Unit {0}
 AreTablesFresh shared caller live None (Some given) = ⊥
 AreTablesFresh shared caller live (Some kept) (Some given) = TablesAreFresh shared caller live kept given
+
+-- whatever the live tables of the present stamp are
+abbrev pub DecidesTables : Bool → Bool → ℕ → ℕ → Option TableCopy → Option TableCopy → Type 0
+DecidesTables result shared caller stamp kept given = (live : LiveTables) → live.stamp ≡ stamp → Decides result (AreTablesFresh shared caller live kept given)

@@ -1,14 +1,14 @@
 ghost use Rattle.std.specs.Prelude.{◌≡◌, ◌≤◌, ◌<◌, ◌+◌, [], ℕ, Some, None, false, true, OnOk, OnErr, IfNone, IfSome, IsSome, min, option_copied};
 ghost use Rattle.mb_kinds.specs.declared.entries.Flight.{Flight};
 ghost use Rattle.mb_cache.specs.Stamps.{stamp_of};
-ghost use Rattle.mb_cache.specs.State.{ReadHasCause};
+ghost use Rattle.mb_cache.specs.State.{ReadHasCause, after_pinning, with_pins};
 ghost use Rattle.mb_callers.specs.Gathering.{GathersBlocks, GathersTables};
 ghost use Rattle.mb_callers.specs.Stale.{AllFresh, IsLeastStale};
 ghost use Rattle.mb_callers.specs.Tables.{as_copy};
 ghost use Rattle.mb_core_spec.specs.Begun.{idle};
 ghost use Rattle.mb_core_spec.specs.Callers.{total};
 ghost use Rattle.mb_core_spec.specs.Copies.{LiveTables};
-ghost use Rattle.mb_core_spec.specs.Events.{GivesBack, gathers_anew, goes_in, taken_back};
+ghost use Rattle.mb_core_spec.specs.Events.{GivesBack, begins_at, first_flight, gathers_anew, goes_in, taken_back, with_entry};
 ghost use Rattle.mb_core_spec.specs.Flights.{is_pin};
 
 use crate::gathering::{keep_blocks, keep_tables};
@@ -129,7 +129,7 @@ impl CallerState {
     /// Begins a call, which has the next ordinal and waits to enter; needs no memory.
     pub fn begin(&mut self, call: Call, moment: u32)
         requires { self.old.begun < 4294967295 }
-        ensures { self.new ≡ record self.old { begun = self.old.begun + 1; flight = Some (record { call = call; ordinal = self.old.begun + 1; moment = moment; ticket = None; answered = false }) } }
+        ensures { self.new ≡ begins_at self.old call moment }
     {
         self.begun += 1;
         self.flight = Some(Flight {
@@ -146,7 +146,8 @@ impl CallerState {
     pub fn go_in(&mut self, ticket: Ticket, reserved: Option<u16>) -> Result<(), NoMemory>
         requires flight { IsSome self.old.flight }
         requires empty { self.old.undo ≡ [] }
-        ensures ok { OnOk result ((flight : Flight) → self.old.flight ≡ Some flight → self.new ≡ goes_in self.old flight ticket reserved) }
+        ensures ok { OnOk result ((flight : Flight) → self.old.flight ≡ Some flight
+            → self.new ≡ goes_in self.old flight ticket reserved) }
         ensures err { OnErr result (self.new ≡ self.old) }
     {
         self.undo.reserve(3)?;
@@ -175,7 +176,8 @@ impl CallerState {
     ) -> Result<(), NoMemory>
         requires few { self.old.begun < 4294967295 }
         requires empty { self.old.undo ≡ [] }
-        ensures ok { OnOk result (self.new ≡ goes_in (record self.old { begun = self.old.begun + 1 }) (record { call = call; ordinal = self.old.begun + 1; moment = moment; ticket = None; answered = false }) ticket reserved) }
+        ensures ok { OnOk result (self.new
+            ≡ goes_in (record self.old { begun = self.old.begun + 1 }) (first_flight call (self.old.begun + 1) moment) ticket reserved) }
         ensures err { OnErr result (self.new ≡ self.old) }
     {
         self.undo.reserve(3)?;
@@ -207,10 +209,12 @@ impl CallerState {
     ) -> Result<(), ReadFault>
         requires first { need.first < 262144 }
         requires count { need.count ≤ 32 }
-        ensures tables { need.first ≡ 0 → OnOk result (GathersTables cache.old cache.new (as_copy tables.now) self.old self.new pages.old pages.new) }
-        ensures blocks { 1 ≤ need.first → OnOk result (GathersBlocks D.told cache.old cache.new need self.old self.new pages.old pages.new) }
+        ensures tables { need.first ≡ 0
+            → OnOk result (GathersTables cache.old cache.new (as_copy tables.now) self.old self.new pages.old pages.new) }
+        ensures blocks { 1 ≤ need.first
+            → OnOk result (GathersBlocks D.told cache.old cache.new need self.old self.new pages.old pages.new) }
         ensures err { OnErr result ((self.new ≡ self.old) × (pages.new ≡ pages.old) × (cache.new.pins ≡ cache.old.pins)) }
-        ensures rest { cache.new ≡ record cache.old { disk = cache.new.disk; pins = cache.new.pins; room = record cache.old.room { pins = cache.new.room.pins; clean = cache.new.room.clean } } }
+        ensures rest { cache.new ≡ after_pinning cache.old cache.new }
         ensures told { D.told cache.new.disk ≡ D.told cache.old.disk }
         ensures cause { ReadHasCause (D.faults cache.old.disk) (D.faults cache.new.disk) result }
     {
@@ -231,7 +235,7 @@ impl CallerState {
     ) -> Result<(), NoMemory>
         ensures ok { OnOk result (GathersTables cache.old cache.new (as_copy tables.now) self.old self.new pages.old pages.new) }
         ensures err { OnErr result ((self.new ≡ self.old) × (pages.new ≡ pages.old) × (cache.new.pins ≡ cache.old.pins)) }
-        ensures rest { cache.new ≡ record cache.old { pins = cache.new.pins; room = record cache.old.room { pins = cache.new.room.pins } } }
+        ensures rest { cache.new ≡ with_pins cache.old cache.new }
     {
         keep_tables(
             alloc,
@@ -253,7 +257,7 @@ impl CallerState {
         requires count { need.count ≤ 32 }
         ensures ok { OnOk result (GathersBlocks D.told cache.old cache.new need self.old self.new pages.old pages.new) }
         ensures err { OnErr result ((self.new ≡ self.old) × (pages.new ≡ pages.old) × (cache.new.pins ≡ cache.old.pins)) }
-        ensures rest { cache.new ≡ record cache.old { disk = cache.new.disk; pins = cache.new.pins; room = record cache.old.room { pins = cache.new.room.pins; clean = cache.new.room.clean } } }
+        ensures rest { cache.new ≡ after_pinning cache.old cache.new }
         ensures told { D.told cache.new.disk ≡ D.told cache.old.disk }
         ensures cause { ReadHasCause (D.faults cache.old.disk) (D.faults cache.new.disk) result }
     {
@@ -279,8 +283,10 @@ impl CallerState {
         shared: bool,
         pages: &Pages,
     ) -> Option<u32>
-        ensures none { (live : LiveTables) → live.stamp ≡ stamp → IfNone result (AllFresh shared caller cache.now.stamps live self.now.pages pages.now) }
-        ensures some { (live : LiveTables) → live.stamp ≡ stamp → IfSome result (IsLeastStale shared caller cache.now.stamps live self.now.pages pages.now) }
+        ensures none { (live : LiveTables) → live.stamp ≡ stamp
+            → IfNone result (AllFresh shared caller cache.now.stamps live self.now.pages pages.now) }
+        ensures some { (live : LiveTables) → live.stamp ≡ stamp
+            → IfSome result (IsLeastStale shared caller cache.now.stamps live self.now.pages pages.now) }
     {
         self.pages.stale_block(cache, stamp, caller, shared, pages)
     }
@@ -291,7 +297,7 @@ impl CallerState {
         requires inside { self.old.inside ≡ true }
         requires pins { (block : ℕ) → total (is_pin block) self.old.undo ≤ stamp_of cache.old.pins block }
         ensures anew { self.new ≡ gathers_anew self.old caller floor }
-        ensures rest { cache.new ≡ record cache.old { pins = cache.new.pins; room = record cache.old.room { pins = cache.new.room.pins } } }
+        ensures rest { cache.new ≡ with_pins cache.old cache.new }
         ensures back { GivesBack cache.old.pins cache.new.pins self.old.undo }
     {
         give_back(&mut self.undo, cache);
@@ -305,7 +311,7 @@ impl CallerState {
     fn take_back<D: Disk>(&mut self, cache: &mut Cache<D>)
         requires pins { (block : ℕ) → total (is_pin block) self.old.undo ≤ stamp_of cache.old.pins block }
         ensures taken { self.new ≡ taken_back self.old }
-        ensures rest { cache.new ≡ record cache.old { pins = cache.new.pins; room = record cache.old.room { pins = cache.new.room.pins } } }
+        ensures rest { cache.new ≡ with_pins cache.old cache.new }
         ensures back { GivesBack cache.old.pins cache.new.pins self.old.undo }
     {
         give_back(&mut self.undo, cache);
@@ -318,7 +324,7 @@ impl CallerState {
     pub fn unwind<D: Disk>(&mut self, cache: &mut Cache<D>)
         requires pins { (block : ℕ) → total (is_pin block) self.old.undo ≤ stamp_of cache.old.pins block }
         ensures unwound { self.new ≡ taken_back (record self.old { inside = false }) }
-        ensures rest { cache.new ≡ record cache.old { pins = cache.new.pins; room = record cache.old.room { pins = cache.new.room.pins } } }
+        ensures rest { cache.new ≡ with_pins cache.old cache.new }
         ensures back { GivesBack cache.old.pins cache.new.pins self.old.undo }
     {
         self.take_back(cache);
@@ -330,8 +336,8 @@ impl CallerState {
     pub fn log<D: Disk>(&mut self, cache: &mut Cache<D>, reply: Reply)
         requires flight { IsSome self.old.flight }
         requires pins { (block : ℕ) → total (is_pin block) self.old.undo ≤ stamp_of cache.old.pins block }
-        ensures logged { (flight : Flight) → self.old.flight ≡ Some flight → self.new ≡ record (taken_back self.old) { flight = Some (record flight { answered = true }); answer = Some reply } }
-        ensures rest { cache.new ≡ record cache.old { pins = cache.new.pins; room = record cache.old.room { pins = cache.new.room.pins } } }
+        ensures logged { (flight : Flight) → self.old.flight ≡ Some flight → self.new ≡ with_entry self.old flight reply }
+        ensures rest { cache.new ≡ with_pins cache.old cache.new }
         ensures back { GivesBack cache.old.pins cache.new.pins self.old.undo }
     {
         let Some(flight) = self.flight.take() else {
@@ -351,7 +357,7 @@ impl CallerState {
         requires pins { (block : ℕ) → total (is_pin block) self.old.undo ≤ stamp_of cache.old.pins block }
         ensures out { result ≡ (self.old.flight, self.old.answer) }
         ensures ended { self.new ≡ taken_back (record self.old { flight = None; inside = false; answer = None }) }
-        ensures rest { cache.new ≡ record cache.old { pins = cache.new.pins; room = record cache.old.room { pins = cache.new.room.pins } } }
+        ensures rest { cache.new ≡ with_pins cache.old cache.new }
         ensures back { GivesBack cache.old.pins cache.new.pins self.old.undo }
     {
         let out = (self.flight.take(), self.answer.take());

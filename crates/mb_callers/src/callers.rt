@@ -107,7 +107,8 @@ impl Callers {
     /// The caller inside with the least number; `None` exactly where nobody is inside.
     pub fn first_inside(&self) -> Option<u8>
         requires { length self.now ≤ 8 }
-        ensures inside { IfSome result (λ at. option_map (λ (mine : CallerState). mine.inside) (slice_get self.now at) ≡ Some true) }
+        ensures inside { IfSome result (λ at.
+            option_map (λ (mine : CallerState). mine.inside) (slice_get self.now at) ≡ Some true) }
         ensures least { IfSome result (λ at. EachCaller (λ other one. one.inside ≡ true → at ≤ other) self.now) }
         ensures none { IfNone result (EachCaller (λ caller mine. mine.inside ≡ false) self.now) }
     {

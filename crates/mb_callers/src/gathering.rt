@@ -1,4 +1,5 @@
 ghost use Rattle.std.specs.Prelude.{◌≡◌, ◌≤◌, ◌+◌, ◌++◌, ◌∷◌, [], Some, length, OnOk, OnErr, IsErrOf};
+ghost use Rattle.mb_cache.specs.State.{with_pins};
 ghost use Rattle.mb_callers.specs.Pins.{pin_steps};
 ghost use Rattle.mb_copies.specs.Reads.{stored};
 ghost use Rattle.mb_callers.specs.Tables.{as_copy, held_if};
@@ -22,10 +23,13 @@ pub(crate) fn keep_blocks<D: Disk>(
     cache: &mut Cache<D>,
     reads: &mut Reads,
 ) -> Result<(), NoMemory>
-    ensures ok { OnOk result ((undo.new.items ≡ undo.old.items ++ pin_steps reads.old) × (mine.new.items ≡ stored mine.old.items reads.old) × (pages.new.items ≡ stored pages.old.items reads.old)) }
+    ensures ok { OnOk result ((undo.new.items ≡ undo.old.items ++ pin_steps reads.old)
+        × (mine.new.items ≡ stored mine.old.items reads.old)
+        × (pages.new.items ≡ stored pages.old.items reads.old)) }
     ensures pins { OnOk result (GivesBack cache.new.pins cache.old.pins (pin_steps reads.old)) }
-    ensures err { OnErr result ((undo.new.items ≡ undo.old.items) × (mine.new.items ≡ mine.old.items) × (pages.new.items ≡ pages.old.items) × (cache.new.pins ≡ cache.old.pins)) }
-    ensures rest { cache.new ≡ record cache.old { pins = cache.new.pins; room = record cache.old.room { pins = cache.new.room.pins } } }
+    ensures err { OnErr result ((undo.new.items ≡ undo.old.items) × (mine.new.items ≡ mine.old.items)
+        × (pages.new.items ≡ pages.old.items) × (cache.new.pins ≡ cache.old.pins)) }
+    ensures rest { cache.new ≡ with_pins cache.old cache.new }
     ensures room { length undo.old.items + undo.old.spare ≤ length undo.new.items + undo.new.spare }
 {
     let more = reads.len();
@@ -48,10 +52,13 @@ pub(crate) fn keep_tables<D: Disk>(
     cache: &mut Cache<D>,
     now: &TablesNow<'_>,
 ) -> Result<(), NoMemory>
-    ensures ok { OnOk result ((undo.new.items ≡ undo.old.items ++ undo_step.Pinned 0 ∷ []) × (held_if mine.new.there mine.new.held ≡ Some (as_copy now.now)) × (held_if pages.new.there pages.new.held ≡ Some (as_copy now.now))) }
+    ensures ok { OnOk result ((undo.new.items ≡ undo.old.items ++ undo_step.Pinned 0 ∷ [])
+        × (held_if mine.new.there mine.new.held ≡ Some (as_copy now.now))
+        × (held_if pages.new.there pages.new.held ≡ Some (as_copy now.now))) }
     ensures pins { OnOk result (GivesBack cache.new.pins cache.old.pins (undo_step.Pinned 0 ∷ [])) }
-    ensures err { OnErr result ((undo.new.items ≡ undo.old.items) × (mine.new ≡ mine.old) × (pages.new ≡ pages.old) × (cache.new.pins ≡ cache.old.pins)) }
-    ensures rest { cache.new ≡ record cache.old { pins = cache.new.pins; room = record cache.old.room { pins = cache.new.room.pins } } }
+    ensures err { OnErr result ((undo.new.items ≡ undo.old.items) × (mine.new ≡ mine.old)
+        × (pages.new ≡ pages.old) × (cache.new.pins ≡ cache.old.pins)) }
+    ensures rest { cache.new ≡ with_pins cache.old cache.new }
     ensures room { length undo.old.items + undo.old.spare ≤ length undo.new.items + undo.new.spare }
 {
     let fresh_pages = pages.prepare(alloc, now)?;
@@ -68,7 +75,7 @@ fn pin_tables<D: Disk>(undo: &mut Ulog, cache: &mut Cache<D>)
     requires log { 1 ≤ undo.old.spare }
     requires room { 1 ≤ cache.old.room.pins }
     ensures log { undo.new.items ≡ undo.old.items ++ undo_step.Pinned 0 ∷ [] }
-    ensures rest { cache.new ≡ record cache.old { pins = cache.new.pins; room = record cache.old.room { pins = cache.new.room.pins } } }
+    ensures rest { cache.new ≡ with_pins cache.old cache.new }
     ensures pins { GivesBack cache.new.pins cache.old.pins (undo_step.Pinned 0 ∷ []) }
     ensures room { length undo.old.items + undo.old.spare ≤ length undo.new.items + undo.new.spare }
 {

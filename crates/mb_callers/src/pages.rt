@@ -162,8 +162,10 @@ impl Pages {
         shared: bool,
         pages: &Pages,
     ) -> Option<u32>
-        ensures none { (live : LiveTables) → live.stamp ≡ stamp → IfNone result (AllFresh shared caller cache.now.stamps live self.now pages.now) }
-        ensures some { (live : LiveTables) → live.stamp ≡ stamp → IfSome result (IsLeastStale shared caller cache.now.stamps live self.now pages.now) }
+        ensures none { (live : LiveTables) → live.stamp ≡ stamp
+            → IfNone result (AllFresh shared caller cache.now.stamps live self.now pages.now) }
+        ensures some { (live : LiveTables) → live.stamp ≡ stamp
+            → IfSome result (IsLeastStale shared caller cache.now.stamps live self.now pages.now) }
     {
         if !self.tables.is_fresh(shared, caller, &pages.tables, stamp) {
             return Some(0);

@@ -1,6 +1,6 @@
 ghost use Rattle.std.specs.Prelude.{◌≡◌, Option, Some, true, false, length, IfOk, Decides, option_copied};
 ghost use Rattle.mb_core_spec.specs.Copies.{LiveTables, TablesAreFresh};
-ghost use Rattle.mb_callers.specs.Tables.{AreTablesFresh, IsMadeFor, as_copy, held_if};
+ghost use Rattle.mb_callers.specs.Tables.{DecidesTables, IsMadeFor, as_copy, held_if};
 
 use mb_edge::NoMemory;
 use mb_iface::Opens;
@@ -81,7 +81,8 @@ impl KeptTables {
     }
 
     fn is_fresh(&self, shared: bool, caller: u8, given: &KeptTables, stamp: u64) -> bool
-        ensures { (live : LiveTables) → live.stamp ≡ stamp → Decides result (TablesAreFresh shared caller live self.now given.now) }
+        ensures { (live : LiveTables) → live.stamp ≡ stamp
+            → Decides result (TablesAreFresh shared caller live self.now given.now) }
     {
         if shared {
             self.is_same(given, stamp)
@@ -166,7 +167,7 @@ impl TablePlace {
     /// Whether tables that were handed out did not change since, for a call that may depend on other callers' sessions
     /// or not. `stamp` is the tables' present one.
     pub fn is_fresh(&self, shared: bool, caller: u8, given: &TablePlace, stamp: u64) -> bool
-        ensures { (live : LiveTables) → live.stamp ≡ stamp → Decides result (AreTablesFresh shared caller live (held_if self.now.there self.now.held) (held_if given.now.there given.now.held)) }
+        ensures { DecidesTables result shared caller stamp (held_if self.now.there self.now.held) (held_if given.now.there given.now.held) }
     {
         let Some(given) = given.get() else {
             return true;

@@ -1,4 +1,5 @@
 ghost use Rattle.std.specs.Prelude.{◌≡◌, ◌≤◌, ◌+◌, ◌++◌, [], ℕ, length};
+ghost use Rattle.mb_cache.specs.State.{with_pins};
 ghost use Rattle.mb_cache.specs.Stamps.{stamp_of};
 ghost use Rattle.mb_callers.specs.Pins.{pin_steps};
 ghost use Rattle.mb_core_spec.specs.Callers.{total};
@@ -15,7 +16,7 @@ pub(crate) fn note_pins<D: Disk>(undo: &mut Ulog, cache: &mut Cache<D>, reads: &
     requires log { length reads.now ≤ undo.old.spare }
     requires room { length reads.now ≤ cache.old.room.pins }
     ensures log { undo.new.items ≡ undo.old.items ++ pin_steps reads.now }
-    ensures rest { cache.new ≡ record cache.old { pins = cache.new.pins; room = record cache.old.room { pins = cache.new.room.pins } } }
+    ensures rest { cache.new ≡ with_pins cache.old cache.new }
     ensures pins { GivesBack cache.new.pins cache.old.pins (pin_steps reads.now) }
     ensures room { length undo.old.items + undo.old.spare ≤ length undo.new.items + undo.new.spare }
 {
@@ -34,7 +35,7 @@ pub(crate) fn note_pins<D: Disk>(undo: &mut Ulog, cache: &mut Cache<D>, reads: &
 pub(crate) fn give_back<D: Disk>(undo: &mut Ulog, cache: &mut Cache<D>)
     requires { (block : ℕ) → total (is_pin block) undo.old.items ≤ stamp_of cache.old.pins block }
     ensures log { undo.new.items ≡ [] }
-    ensures rest { cache.new ≡ record cache.old { pins = cache.new.pins; room = record cache.old.room { pins = cache.new.room.pins } } }
+    ensures rest { cache.new ≡ with_pins cache.old cache.new }
     ensures pins { GivesBack cache.old.pins cache.new.pins undo.old.items }
     ensures room { length undo.old.items + undo.old.spare ≤ undo.new.spare }
 {

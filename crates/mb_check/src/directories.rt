@@ -23,8 +23,11 @@ pub fn slot(
     found: &PlainSlot,
     block: u32,
 ) -> Result<(), Stop>
-    ensures walk { (blocks : ℕ → List ℕ) (met : List ℕ) → KeepsInodes blocks table.now (last_inode blocks) → found.now ≡ slot_in blocks ino at → block ≡ part_address blocks ino (at / 32) → KnowsNames blocks ino at names.old → Tests result met (slot_items blocks ino at) }
-    ensures names { OnOk result ((blocks : ℕ → List ℕ) → found.now ≡ slot_in blocks ino at → KnowsNames blocks ino at names.old → KnowsNames blocks ino (at + 1) names.new) }
+    ensures walk { (blocks : ℕ → List ℕ) (met : List ℕ) → KeepsInodes blocks table.now (last_inode blocks)
+        → found.now ≡ slot_in blocks ino at → block ≡ part_address blocks ino (at / 32)
+        → KnowsNames blocks ino at names.old → Tests result met (slot_items blocks ino at) }
+    ensures names { OnOk result ((blocks : ℕ → List ℕ) → found.now ≡ slot_in blocks ino at
+        → KnowsNames blocks ino at names.old → KnowsNames blocks ino (at + 1) names.new) }
     ensures cause { IsDevice result → ⊥ }
 {
     if !has_dots(ino, at, found) {
@@ -52,8 +55,12 @@ pub fn block_slots(
 ) -> Result<(), Stop>
     requires count { count ≤ 32 }
     requires part { part < 8388608 }
-    ensures walk { (blocks : ℕ → List ℕ) (met : List ℕ) → KeepsInodes blocks table.now (last_inode blocks) → block.now ≡ part_bytes blocks ino part → number ≡ part_address blocks ino part → KnowsNames blocks ino (32 * part) names.old → Tests result met (each_from (slot_items blocks ino) (32 * part) count) }
-    ensures names { OnOk result ((blocks : ℕ → List ℕ) → block.now ≡ part_bytes blocks ino part → KnowsNames blocks ino (32 * part) names.old → KnowsNames blocks ino (32 * part + count) names.new) }
+    ensures walk { (blocks : ℕ → List ℕ) (met : List ℕ) → KeepsInodes blocks table.now (last_inode blocks)
+        → block.now ≡ part_bytes blocks ino part → number ≡ part_address blocks ino part
+        → KnowsNames blocks ino (32 * part) names.old
+        → Tests result met (each_from (slot_items blocks ino) (32 * part) count) }
+    ensures names { OnOk result ((blocks : ℕ → List ℕ) → block.now ≡ part_bytes blocks ino part
+        → KnowsNames blocks ino (32 * part) names.old → KnowsNames blocks ino (32 * part + count) names.new) }
     ensures cause { IsDevice result → ⊥ }
 {
     for place in 0..count {

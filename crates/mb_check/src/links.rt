@@ -22,7 +22,8 @@ use mb_tree::is_directory;
 
 /// What is counted of an inode.
 fn tally_of(counts: &SlotCounts, ino: u16) -> Tally
-    ensures { (blocks : ℕ → List ℕ) → KeepsCounts blocks (last_inode blocks + 1) 0 counts.now → ino ≤ last_inode blocks → KeepsTally blocks (last_inode blocks + 1) 0 ino result }
+    ensures { (blocks : ℕ → List ℕ) → KeepsCounts blocks (last_inode blocks + 1) 0 counts.now
+        → ino ≤ last_inode blocks → KeepsTally blocks (last_inode blocks + 1) 0 ino result }
 {
     match counts.tallies.as_slice().get(usize::from(ino)) {
         Some(tally) => *tally,
@@ -35,7 +36,9 @@ fn tally_of(counts: &SlotCounts, ino: u16) -> Tally
 
 /// The inode to which the second slot of a directory leads.
 fn parent_of(counts: &SlotCounts, dir: u16) -> u16
-    ensures { (blocks : ℕ → List ℕ) → KeepsCounts blocks (last_inode blocks + 1) 0 counts.now → dir ≤ last_inode blocks → inodes.is_directory (mode_at blocks dir) ≡ true → result ≡ (slot_in blocks dir 1).ino }
+    ensures { (blocks : ℕ → List ℕ) → KeepsCounts blocks (last_inode blocks + 1) 0 counts.now
+        → dir ≤ last_inode blocks → inodes.is_directory (mode_at blocks dir) ≡ true
+        → result ≡ (slot_in blocks dir 1).ino }
 {
     match counts.parents.as_slice().get(usize::from(dir)) {
         Some(up) => *up,
@@ -45,7 +48,8 @@ fn parent_of(counts: &SlotCounts, dir: u16) -> u16
 
 /// Whether the root reaches an inode.
 fn is_flagged(reached: &[bool], ino: u16) -> bool
-    ensures { (blocks : ℕ → List ℕ) → AreReached blocks reached.now → ino ≤ last_inode blocks → result ≡ is_reached blocks (last_inode blocks) ino }
+    ensures { (blocks : ℕ → List ℕ) → AreReached blocks reached.now → ino ≤ last_inode blocks
+        → result ≡ is_reached blocks (last_inode blocks) ino }
 {
     match reached.get(usize::from(ino)) {
         Some(flag) => *flag,
@@ -68,7 +72,8 @@ fn is_parent(late: Late, dir: u16, up: u16, reached: bool) -> bool
 /// Whether a directory keeps rule 13. The root is its own parent, and no slot after the second leads to it; to another
 /// directory one such slot leads, in the directory that its second slot names, and the root reaches it.
 fn keeps_parent(counts: &SlotCounts, reached: &[bool], dir: u16) -> bool
-    ensures { (blocks : ℕ → List ℕ) → KnowsLinks blocks counts.now reached.now → 1 ≤ dir → dir ≤ last_inode blocks → inodes.is_directory (mode_at blocks dir) ≡ true
+    ensures { (blocks : ℕ → List ℕ) → KnowsLinks blocks counts.now reached.now → 1 ≤ dir
+        → dir ≤ last_inode blocks → inodes.is_directory (mode_at blocks dir) ≡ true
         → result ≡ (if nat_eq dir 2 then rules.is_top blocks else rules.has_parent blocks dir) }
 {
     is_parent(
@@ -81,7 +86,9 @@ fn keeps_parent(counts: &SlotCounts, reached: &[bool], dir: u16) -> bool
 
 /// Rule 13 of an inode, where it is a directory.
 fn parent(table: &InodeTable, counts: &SlotCounts, reached: &[bool], ino: u16) -> Result<(), Stop>
-    ensures walk { (blocks : ℕ → List ℕ) (met : List ℕ) → KeepsAll blocks table.now → KnowsLinks blocks counts.now reached.now → 1 ≤ ino → ino ≤ last_inode blocks → Tests result met (parent_items blocks ino) }
+    ensures walk { (blocks : ℕ → List ℕ) (met : List ℕ) → KeepsAll blocks table.now
+        → KnowsLinks blocks counts.now reached.now → 1 ≤ ino → ino ≤ last_inode blocks
+        → Tests result met (parent_items blocks ino) }
     ensures cause { IsDevice result → ⊥ }
 {
     if !is_directory(kept_of(table, ino).mode) {
@@ -105,7 +112,9 @@ fn is_link_count(nlink: u16, tally: &Tally) -> bool
 
 /// Rule 14 of an inode other than 1, where it is in use.
 fn link(table: &InodeTable, counts: &SlotCounts, ino: u16) -> Result<(), Stop>
-    ensures walk { (blocks : ℕ → List ℕ) (met : List ℕ) → KeepsAll blocks table.now → KeepsCounts blocks (last_inode blocks + 1) 0 counts.now → 1 ≤ ino → ino ≤ last_inode blocks → Tests result met (link_items blocks ino) }
+    ensures walk { (blocks : ℕ → List ℕ) (met : List ℕ) → KeepsAll blocks table.now
+        → KeepsCounts blocks (last_inode blocks + 1) 0 counts.now → 1 ≤ ino → ino ≤ last_inode blocks
+        → Tests result met (link_items blocks ino) }
     ensures cause { IsDevice result → ⊥ }
 {
     let kept = kept_of(table, ino);
@@ -128,7 +137,9 @@ fn each_parent(
     reached: &[bool],
     last: u16,
 ) -> Result<(), Stop>
-    ensures walk { (blocks : ℕ → List ℕ) (met : List ℕ) → KeepsAll blocks table.now → KnowsLinks blocks counts.now reached.now → last ≡ last_inode blocks → Tests result met (each_from (parent_items blocks) 1 (last_inode blocks)) }
+    ensures walk { (blocks : ℕ → List ℕ) (met : List ℕ) → KeepsAll blocks table.now
+        → KnowsLinks blocks counts.now reached.now → last ≡ last_inode blocks
+        → Tests result met (each_from (parent_items blocks) 1 (last_inode blocks)) }
     ensures cause { IsDevice result → ⊥ }
 {
     for before in 0..last {
@@ -139,7 +150,9 @@ fn each_parent(
 
 /// Rule 14 of all inodes, in the order of their numbers.
 fn each_link(table: &InodeTable, counts: &SlotCounts, last: u16) -> Result<(), Stop>
-    ensures walk { (blocks : ℕ → List ℕ) (met : List ℕ) → KeepsAll blocks table.now → KeepsCounts blocks (last_inode blocks + 1) 0 counts.now → last ≡ last_inode blocks → Tests result met (each_from (link_items blocks) 1 (last_inode blocks)) }
+    ensures walk { (blocks : ℕ → List ℕ) (met : List ℕ) → KeepsAll blocks table.now
+        → KeepsCounts blocks (last_inode blocks + 1) 0 counts.now → last ≡ last_inode blocks
+        → Tests result met (each_from (link_items blocks) 1 (last_inode blocks)) }
     ensures cause { IsDevice result → ⊥ }
 {
     for before in 0..last {
@@ -155,7 +168,9 @@ pub fn parents(
     reached: &[bool],
     last: u16,
 ) -> Result<(), Stop>
-    ensures walk { (blocks : ℕ → List ℕ) (met : List ℕ) → KeepsAll blocks table.now → KnowsLinks blocks counts.now reached.now → last ≡ last_inode blocks → Tests result met (parents_items blocks) }
+    ensures walk { (blocks : ℕ → List ℕ) (met : List ℕ) → KeepsAll blocks table.now
+        → KnowsLinks blocks counts.now reached.now → last ≡ last_inode blocks
+        → Tests result met (parents_items blocks) }
     ensures cause { IsDevice result → ⊥ }
 {
     each_parent(table, counts, reached, last)?;

@@ -31,7 +31,8 @@ impl NameSet {
     /// Adds a name, and says whether it was new.
     pub fn add(&mut self, name: &Name) -> Result<bool, NoMemory>
         ensures added { IfOk result (λ added. added ≡ not (has_name self.old name.now)) }
-        ensures names { OnOk result ((other : List ℕ) → has_name self.new other ≡ (bytes_eq name.now other || has_name self.old other)) }
+        ensures names { OnOk result ((other : List ℕ)
+            → has_name self.new other ≡ (bytes_eq name.now other || has_name self.old other)) }
     {
         Ok(self.names.insert(*name)?)
     }

@@ -9,7 +9,8 @@ use mb_edge::{Disk, Failed};
 
 /// What is kept of an inode; of a number past the last one, what is kept of a free inode.
 pub fn kept_of(table: &InodeTable, ino: u16) -> InodeKept
-    ensures keeps { (blocks : ℕ → List ℕ) (last : ℕ) → KeepsInodes blocks table.now last → 1 ≤ ino → ino ≤ last → KeepsInode blocks table.now.parts.addresses.items ino result }
+    ensures keeps { (blocks : ℕ → List ℕ) (last : ℕ) → KeepsInodes blocks table.now last → 1 ≤ ino
+        → ino ≤ last → KeepsInode blocks table.now.parts.addresses.items ino result }
     ensures none { (blocks : ℕ → List ℕ) (last : ℕ) → KeepsInodes blocks table.now last → ino ≡ 0 → result.mode ≡ 0 }
 {
     match table.inodes.as_slice().get(usize::from(ino)) {
@@ -40,7 +41,8 @@ pub fn slots_of_part(size: u32, part: u32) -> u8
 
 /// The number of the block of a directory's part; 0 where the part is not listed.
 fn part_block(table: &InodeTable, kept: &InodeKept, part: u32) -> u32
-    ensures { (blocks : ℕ → List ℕ) (dir : ℕ) → KeepsDirectory blocks table.now dir kept.now → 512 * part < kept.now.size → (0 < result) × (result ≡ part_address blocks dir part) }
+    ensures { (blocks : ℕ → List ℕ) (dir : ℕ) → KeepsDirectory blocks table.now dir kept.now
+        → 512 * part < kept.now.size → (0 < result) × (result ≡ part_address blocks dir part) }
 {
     match table
         .parts
@@ -61,7 +63,9 @@ pub fn read_part<D: Disk>(
     part: u32,
     block: &mut [u8; 512],
 ) -> Result<u32, Failed>
-    ensures part { IfOk result (λ number. IfSome (D.told disk.old) (λ image. (dir : ℕ) → KeepsDirectory image.at table.now dir kept.now → 512 * part < kept.now.size → IsPartRead image.at dir part number block.new)) }
+    ensures part { IfOk result (λ number.
+        IfSome (D.told disk.old) (λ image. (dir : ℕ) → KeepsDirectory image.at table.now dir kept.now
+        → 512 * part < kept.now.size → IsPartRead image.at dir part number block.new)) }
     ensures told { D.told disk.new ≡ D.told disk.old }
     ensures cause { HasCause (D.faults disk.old) (D.faults disk.new) result }
 {

@@ -43,7 +43,9 @@ impl Reach {
 
     /// One inode more, if it was not reached before. Empty slots lead to number 0, which has no slots itself.
     fn mark(&mut self, ino: u16) -> Result<(), NoMemory>
-        ensures { OnOk result ((blocks : ℕ → List ℕ) → (ino ≤ last_inode blocks → is_reached blocks (last_inode blocks) ino ≡ true) → Reaching blocks self.old → Marks blocks ino self.old self.new) }
+        ensures { OnOk result ((blocks : ℕ → List ℕ)
+            → (ino ≤ last_inode blocks → is_reached blocks (last_inode blocks) ino ≡ true)
+            → Reaching blocks self.old → Marks blocks ino self.old self.new) }
     {
         let at = usize::from(ino);
         if at < self.flags.as_slice().len() && !self.flags[at] {
@@ -56,7 +58,8 @@ impl Reach {
     /// All to which so many slots of one block of a directory lead; it is the part of that number, from 0.
     fn mark_block(&mut self, part: u32, count: u8, block: &[u8; 512]) -> Result<(), NoMemory>
         requires { count ≤ 32 }
-        ensures { OnOk result ((blocks : ℕ → List ℕ) (dir : ℕ) → block.now ≡ part_bytes blocks dir part → IsReachedDirectory blocks dir → 32 * part + count ≤ size_at blocks dir / 16
+        ensures { OnOk result ((blocks : ℕ → List ℕ) (dir : ℕ) → block.now ≡ part_bytes blocks dir part
+            → IsReachedDirectory blocks dir → 32 * part + count ≤ size_at blocks dir / 16
             → Reaching blocks self.old → ReachesSlots blocks dir (32 * part) self.old → Advances blocks dir (32 * part + count) self.old self.new) }
     {
         for place in first_late(part)..count {
@@ -82,7 +85,9 @@ fn part_targets<D: Disk>(
     part: u32,
 ) -> Result<(), Stop>
     requires { 512 * part < kept.now.size }
-    ensures reach { OnOk result (IfSome (D.told disk.old) (λ image. (dir : ℕ) → KeepsDirectory image.at table.now dir kept.now → IsReachedDirectory image.at dir → Reaching image.at reach.old
+    ensures reach { OnOk result (IfSome (D.told disk.old) (λ image.
+        (dir : ℕ) → KeepsDirectory image.at table.now dir kept.now → IsReachedDirectory image.at dir
+        → Reaching image.at reach.old
         → ReachesSlots image.at dir (32 * part) reach.old → Advances image.at dir (32 * part + slots_in_part kept.now.size part) reach.old reach.new)) }
     ensures unbroken { IsBroken result → ⊥ }
     ensures told { D.told disk.new ≡ D.told disk.old }
@@ -101,7 +106,9 @@ fn directory_targets<D: Disk>(
     reach: &mut Reach,
     dir: u16,
 ) -> Result<(), Stop>
-    ensures reach { OnOk result (IfSome (D.told disk.old) (λ image. KeepsAll image.at table.now → 2 ≤ last_inode image.at → dir ≤ last_inode image.at → is_reached image.at (last_inode image.at) dir ≡ true
+    ensures reach { OnOk result (IfSome (D.told disk.old) (λ image.
+        KeepsAll image.at table.now → 2 ≤ last_inode image.at → dir ≤ last_inode image.at
+        → is_reached image.at (last_inode image.at) dir ≡ true
         → Reaching image.at reach.old → AdvancesOver image.at dir reach.old reach.new)) }
     ensures unbroken { IsBroken result → ⊥ }
     ensures told { D.told disk.new ≡ D.told disk.old }
@@ -124,7 +131,9 @@ pub fn reached<D: Disk>(
     table: &InodeTable,
     last: u16,
 ) -> Result<Vec<bool>, Stop>
-    ensures reached { IfOk result (λ flags. IfSome (D.told disk.old) (λ image. KeepsAll image.at table.now → last ≡ last_inode image.at → 2 ≤ last → AreReached image.at flags.items)) }
+    ensures reached { IfOk result (λ flags.
+        IfSome (D.told disk.old) (λ image. KeepsAll image.at table.now → last ≡ last_inode image.at → 2 ≤ last
+        → AreReached image.at flags.items)) }
     ensures unbroken { IsBroken result → ⊥ }
     ensures told { D.told disk.new ≡ D.told disk.old }
     ensures cause { DeviceCause (D.faults disk.old) (D.faults disk.new) result }

@@ -72,7 +72,8 @@ pub struct Scan {
 
 /// The root is a directory (rule 9).
 fn root(table: &InodeTable) -> Result<(), Stop>
-    ensures walk { (blocks : ℕ → List ℕ) (met : List ℕ) → KeepsAll blocks table.now → 2 ≤ last_inode blocks → Tests result met (root_items blocks) }
+    ensures walk { (blocks : ℕ → List ℕ) (met : List ℕ) → KeepsAll blocks table.now → 2 ≤ last_inode blocks
+        → Tests result met (root_items blocks) }
     ensures cause { IsDevice result → ⊥ }
 {
     if !is_directory(kept_of(table, 2).mode) {
@@ -88,7 +89,8 @@ fn late_parts<D: Disk>(
     table: &InodeTable,
     last: u16,
 ) -> Result<(), Stop>
-    ensures walk { IfSome (D.told disk.old) (λ image. (met : List ℕ) → KeepsAll image.at table.now → last ≡ last_inode image.at → 2 ≤ last → Tests result met (late_items image.at)) }
+    ensures walk { IfSome (D.told disk.old) (λ image. (met : List ℕ) → KeepsAll image.at table.now
+        → last ≡ last_inode image.at → 2 ≤ last → Tests result met (late_items image.at)) }
     ensures told { D.told disk.new ≡ D.told disk.old }
     ensures cause { DeviceCause (D.faults disk.old) (D.faults disk.new) result }
 {
@@ -132,7 +134,8 @@ fn add_nameless(inos: &mut Inos, ino: u16, kept: &InodeKept) -> Result<(), NoMem
 
 /// The numbers of the files that no slot leads to, in rising order.
 fn nameless(alloc: Global, table: &InodeTable, last: u16) -> Result<Inos, NoMemory>
-    ensures { IfOk result (λ inos. (image : Image) → KeepsAll image.at table.now → last ≡ last_inode image.at → inos ≡ nameless_in (tree_of image)) }
+    ensures { IfOk result (λ inos. (image : Image) → KeepsAll image.at table.now → last ≡ last_inode image.at
+        → inos ≡ nameless_in (tree_of image)) }
 {
     let mut inos = Inos::new(alloc);
     for before in 0..last {
@@ -161,7 +164,8 @@ fn nodes(table: &InodeTable, last: u16) -> u32
 
 /// What the scan tells, once it found nothing.
 fn scan_of(alloc: Global, files: &VolumeFiles) -> Result<Scan, NoMemory>
-    ensures { IfOk result (λ told. (image : Image) → TellsFiles image files.now → Tells (tree_of image) (length (chain_of image.at)) told) }
+    ensures { IfOk result (λ told. (image : Image) → TellsFiles image files.now
+        → Tells (tree_of image) (length (chain_of image.at)) told) }
 {
     Ok(Scan {
         nodes: nodes(&files.table, files.last),

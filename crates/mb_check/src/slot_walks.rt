@@ -27,10 +27,16 @@ fn part_slots<D: Disk>(
     part: u32,
 ) -> Result<(), Stop>
     requires { 512 * part < kept.now.size }
-    ensures walk { IfSome (D.told disk.old) (λ image. (met : List ℕ) → KeepsInodes image.at table.now (last_inode image.at) → KeepsDirectory image.at table.now dir kept.now → KnowsNames image.at dir (32 * part) names.old
+    ensures walk { IfSome (D.told disk.old) (λ image.
+        (met : List ℕ) → KeepsInodes image.at table.now (last_inode image.at)
+        → KeepsDirectory image.at table.now dir kept.now → KnowsNames image.at dir (32 * part) names.old
         → Tests result met (each_from (slot_items image.at dir) (32 * part) (slots_in_part kept.now.size part))) }
-    ensures names { OnOk result (IfSome (D.told disk.old) (λ image. KeepsDirectory image.at table.now dir kept.now → KnowsNames image.at dir (32 * part) names.old → KnowsNames image.at dir (32 * part + slots_in_part kept.now.size part) names.new)) }
-    ensures counts { OnOk result (IfSome (D.told disk.old) (λ image. KeepsDirectory image.at table.now dir kept.now → KeepsCounts image.at dir (32 * part) counts.old → KeepsCounts image.at dir (32 * part + slots_in_part kept.now.size part) counts.new)) }
+    ensures names { OnOk result (IfSome (D.told disk.old) (λ image.
+        KeepsDirectory image.at table.now dir kept.now → KnowsNames image.at dir (32 * part) names.old
+        → KnowsNames image.at dir (32 * part + slots_in_part kept.now.size part) names.new)) }
+    ensures counts { OnOk result (IfSome (D.told disk.old) (λ image.
+        KeepsDirectory image.at table.now dir kept.now → KeepsCounts image.at dir (32 * part) counts.old
+        → KeepsCounts image.at dir (32 * part + slots_in_part kept.now.size part) counts.new)) }
     ensures told { D.told disk.new ≡ D.told disk.old }
     ensures cause { DeviceCause (D.faults disk.old) (D.faults disk.new) result }
 {
@@ -50,8 +56,11 @@ fn directory_slots<D: Disk>(
     counts: &mut SlotCounts,
     dir: u16,
 ) -> Result<(), Stop>
-    ensures walk { IfSome (D.told disk.old) (λ image. (met : List ℕ) → KeepsAll image.at table.now → 1 ≤ dir → dir ≤ last_inode image.at → Tests result met (directory_items image.at dir)) }
-    ensures counts { OnOk result (IfSome (D.told disk.old) (λ image. KeepsAll image.at table.now → 1 ≤ dir → dir ≤ last_inode image.at → KeepsCounts image.at dir 0 counts.old → KeepsCounts image.at (dir + 1) 0 counts.new)) }
+    ensures walk { IfSome (D.told disk.old) (λ image. (met : List ℕ) → KeepsAll image.at table.now → 1 ≤ dir
+        → dir ≤ last_inode image.at → Tests result met (directory_items image.at dir)) }
+    ensures counts { OnOk result (IfSome (D.told disk.old) (λ image. KeepsAll image.at table.now → 1 ≤ dir
+        → dir ≤ last_inode image.at → KeepsCounts image.at dir 0 counts.old
+        → KeepsCounts image.at (dir + 1) 0 counts.new)) }
     ensures told { D.told disk.new ≡ D.told disk.old }
     ensures cause { DeviceCause (D.faults disk.old) (D.faults disk.new) result }
 {
@@ -74,8 +83,11 @@ pub fn each_directory<D: Disk>(
     counts: &mut SlotCounts,
     last: u16,
 ) -> Result<(), Stop>
-    ensures walk { IfSome (D.told disk.old) (λ image. (met : List ℕ) → KeepsAll image.at table.now → last ≡ last_inode image.at → Tests result met (slots_items image.at)) }
-    ensures counts { OnOk result (IfSome (D.told disk.old) (λ image. KeepsAll image.at table.now → last ≡ last_inode image.at → KeepsCounts image.at 1 0 counts.old → KeepsCounts image.at (last + 1) 0 counts.new)) }
+    ensures walk { IfSome (D.told disk.old) (λ image. (met : List ℕ) → KeepsAll image.at table.now
+        → last ≡ last_inode image.at → Tests result met (slots_items image.at)) }
+    ensures counts { OnOk result (IfSome (D.told disk.old) (λ image.
+        KeepsAll image.at table.now → last ≡ last_inode image.at → KeepsCounts image.at 1 0 counts.old
+        → KeepsCounts image.at (last + 1) 0 counts.new)) }
     ensures told { D.told disk.new ≡ D.told disk.old }
     ensures cause { DeviceCause (D.faults disk.old) (D.faults disk.new) result }
 {

@@ -25,7 +25,8 @@ pub fn has_dots(ino: u16, at: u32, slot: &PlainSlot) -> bool
 
 /// Whether a slot keeps rule 10: where it is used, it leads to an inode in use other than inode 1.
 pub fn leads_there(table: &InodeTable, slot: &PlainSlot) -> bool
-    ensures { (blocks : ℕ → List ℕ) → KeepsInodes blocks table.now (last_inode blocks) → result ≡ rules.leads_there blocks slot.now }
+    ensures { (blocks : ℕ → List ℕ) → KeepsInodes blocks table.now (last_inode blocks)
+        → result ≡ rules.leads_there blocks slot.now }
 {
     if !is_used(slot) {
         return true;
@@ -65,8 +66,10 @@ fn is_proper(name: &Name) -> bool
 /// Whether a slot keeps rule 12: where it is used, its name is a proper one and that of no earlier used slot. It is then one
 /// of the names.
 pub fn is_named_once(names: &mut NameSet, slot: &PlainSlot) -> Result<bool, NoMemory>
-    ensures named { IfOk result (λ named. named ≡ (not (is_used slot.now) || not (nat_eq (slice_index slot.now.name 0) 0) && not (list_any (nat_eq slash) slot.now.name) && rules.is_padded slot.now.name && not (has_name names.old slot.now.name))) }
-    ensures names { IfOk result (λ named. named ≡ true → (other : List ℕ) → has_name names.new other ≡ (is_named other slot.now || has_name names.old other)) }
+    ensures named { IfOk result (λ named.
+        named ≡ (not (is_used slot.now) || not (nat_eq (slice_index slot.now.name 0) 0) && not (list_any (nat_eq slash) slot.now.name) && rules.is_padded slot.now.name && not (has_name names.old slot.now.name))) }
+    ensures names { IfOk result (λ named. named ≡ true → (other : List ℕ)
+        → has_name names.new other ≡ (is_named other slot.now || has_name names.old other)) }
 {
     if !is_used(slot) {
         return Ok(true);

@@ -54,7 +54,8 @@ impl Tally {
 
 /// One slot more, of a directory at a place, which leads to that inode.
 fn add_tally(tallies: &mut [Tally], dir: u16, at: u32, ino: u16)
-    ensures { (blocks : ℕ → List ℕ) → ino ≡ (slot_in blocks dir at).ino → KeepsTallies blocks dir at tallies.old → KeepsTallies blocks dir (at + 1) tallies.new }
+    ensures { (blocks : ℕ → List ℕ) → ino ≡ (slot_in blocks dir at).ino
+        → KeepsTallies blocks dir at tallies.old → KeepsTallies blocks dir (at + 1) tallies.new }
 {
     let place = usize::from(ino);
     if place < tallies.len() {
@@ -65,7 +66,8 @@ fn add_tally(tallies: &mut [Tally], dir: u16, at: u32, ino: u16)
 
 /// The same slot: where it is the second of the directory, it leads to the directory's parent.
 fn add_parent(parents: &mut [u16], dir: u16, at: u32, ino: u16)
-    ensures { (blocks : ℕ → List ℕ) → ino ≡ (slot_in blocks dir at).ino → KeepsParents blocks dir at parents.old → KeepsParents blocks dir (at + 1) parents.new }
+    ensures { (blocks : ℕ → List ℕ) → ino ≡ (slot_in blocks dir at).ino
+        → KeepsParents blocks dir at parents.old → KeepsParents blocks dir (at + 1) parents.new }
 {
     let place = usize::from(dir);
     if at == 1 && place < parents.len() {
@@ -99,7 +101,8 @@ impl SlotCounts {
 
     /// One slot more, of a directory at a place, which leads to that inode.
     fn add(&mut self, dir: u16, at: u32, ino: u16)
-        ensures { (blocks : ℕ → List ℕ) → ino ≡ (slot_in blocks dir at).ino → KeepsCounts blocks dir at self.old → KeepsCounts blocks dir (at + 1) self.new }
+        ensures { (blocks : ℕ → List ℕ) → ino ≡ (slot_in blocks dir at).ino
+            → KeepsCounts blocks dir at self.old → KeepsCounts blocks dir (at + 1) self.new }
     {
         add_tally(&mut self.tallies, dir, at, ino);
         add_parent(&mut self.parents, dir, at, ino);
@@ -109,7 +112,9 @@ impl SlotCounts {
     pub fn add_block(&mut self, dir: u16, part: u32, count: u8, block: &[u8; 512])
         requires count { count ≤ 32 }
         requires part { part < 8388608 }
-        ensures { (blocks : ℕ → List ℕ) → block.now ≡ part_bytes blocks dir part → KeepsCounts blocks dir (32 * part) self.old → KeepsCounts blocks dir (32 * part + count) self.new }
+        ensures { (blocks : ℕ → List ℕ) → block.now ≡ part_bytes blocks dir part
+            → KeepsCounts blocks dir (32 * part) self.old
+            → KeepsCounts blocks dir (32 * part + count) self.new }
     {
         for place in 0..count {
             self.add(

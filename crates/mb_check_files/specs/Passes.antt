@@ -9,6 +9,8 @@ use Rattle.mb_tree.specs.Chain.{Listed}
 use Rattle.mb_rules.specs.declared.findings.Finding.{Finding}
 use Rattle.mb_rules.specs.Items.{Item, is_met, walked}
 use Rattle.mb_rules.specs.FreeChain.{list_items, chain_items}
+use Rattle.mb_layout.specs.declared.dinodes.Dinode.{Dinode}
+use Rattle.mb_check_files.specs.InodeTables.{ReadsInode}
 use Rattle.mb_check_files.specs.declared.bounds.Bounds.{Bounds}
 use Rattle.mb_check_files.specs.declared.stops.Stop.{Stop}
 use Rattle.mb_check_files.specs.declared.stops.Stop.TheVariants.{Broken, Device, NoMemory}
@@ -38,6 +40,19 @@ Passes (Ok _) flags met items = (after : List ℕ) × (walked met items ≡ Ok a
 Passes (Err (Broken broken)) flags met items = walked met items ≡ Err broken
 Passes (Err Device) flags met items = Unit {0}
 Passes (Err NoMemory) flags met items = Unit {0}
+
+-- the flags stood for the blocks that were met before, whichever they are: the items were gone through from there
+abbrev pub PassesOver : (ℕ → List ℕ) → Bounds → List Bool → List Bool → Result Unit Stop → List Item → Type 0
+PassesOver blocks bounds old new result items = (met : List ℕ) → AreBounds blocks bounds → Stands old met → Passes result new met items
+
+-- the same of the image that a disk tells
+abbrev pub PassesOn : Option Image → Bounds → List Bool → List Bool → Result Unit Stop → ((ℕ → List ℕ) → List Item) → Type 0
+PassesOn told bounds old new result items = IfSome told (λ (image : Image). PassesOver image.at bounds old new result (items image.at))
+
+-- the same of the items of an inode, which stands in that block
+abbrev pub PassesInode : (ℕ → List ℕ) → ℕ → Dinode → Bounds → List Bool → List Bool → Result Unit Stop → (ℕ → List Item) → Type 0
+PassesInode blocks holder inode bounds old new result items = (ino : ℕ) (met : List ℕ) → ReadsInode blocks ino holder inode
+    → AreBounds blocks bounds → Stands old met → Passes result new met (items ino)
 
 -- the list of addresses whose count stands at base
 abbrev pub listed_at : List ℕ → ℕ → Listed

@@ -5,7 +5,7 @@ ghost use Rattle.mb_tree.specs.Counting.{any_from};
 ghost use Rattle.mb_rules.specs.Items.{each_from, Holds, Held};
 ghost use Rattle.mb_rules.specs.Files.{address_items, leads_on};
 ghost use Rattle.mb_rules.specs.FreeChain.{is_open};
-ghost use Rattle.mb_check_files.specs.Passes.{Stands, AreBounds, Passes, IsDevice, DeviceCause, count_met};
+ghost use Rattle.mb_check_files.specs.Passes.{PassesOn, PassesOver, IsDevice, DeviceCause, count_met};
 ghost use Rattle.mb_check_files.specs.PartLists.{Notes, Extends, IsPaid};
 ghost use Rattle.mb_check_files.specs.Indexes.{head_items, under_single, under_double, under_triple};
 
@@ -26,7 +26,8 @@ pub fn part(
     address: u32,
 ) -> Result<(), Stop>
     requires { bounds.now.high ≤ length met.old }
-    ensures walk { (blocks : ℕ → List ℕ) (list : List ℕ) → AreBounds blocks bounds.now → Stands met.old list → Passes result met.new list (address_items blocks 0 holder address) }
+    ensures walk { (blocks : ℕ → List ℕ)
+        → PassesOver blocks bounds.now met.old met.new result (address_items blocks 0 holder address) }
     ensures notes { OnOk result (Notes parts.old parts.new (λ _. address) 1) }
     ensures kept { OnOk result (Extends parts.old.addresses.items parts.new.addresses.items) }
     ensures few { OnOk result (IsPaid parts.old parts.new met.old met.new) }
@@ -64,7 +65,7 @@ fn index<D: Disk>(
     address: u32,
 ) -> Result<(), Stop>
     requires { bounds.now.high ≤ length met.old }
-    ensures walk { IfSome (D.told disk.old) (λ image. (list : List ℕ) → AreBounds image.at bounds.now → Stands met.old list → Passes result met.new list (head_items image.at holder address)) }
+    ensures walk { PassesOn (D.told disk.old) bounds.now met.old met.new result (λ blocks. head_items blocks holder address) }
     ensures count { OnOk result (count_met met.new ≡ count_met met.old + 1) }
     ensures bytes { OnOk result (GivesBlock (D.told disk.old) address block.new) }
     ensures told { D.told disk.new ≡ D.told disk.old }
@@ -91,8 +92,10 @@ pub fn single<D: Disk>(
     address: u32,
 ) -> Result<(), Stop>
     requires { bounds.now.high ≤ length met.old }
-    ensures walk { IfSome (D.told disk.old) (λ image. (list : List ℕ) → AreBounds image.at bounds.now → Stands met.old list → Passes result met.new list (address_items image.at 1 holder address)) }
-    ensures notes { OnOk result (IfSome (D.told disk.old) (λ image. Notes parts.old parts.new (under_single image.at address) 128)) }
+    ensures walk { PassesOn (D.told disk.old) bounds.now met.old met.new result (λ blocks.
+        address_items blocks 1 holder address) }
+    ensures notes { OnOk result (IfSome (D.told disk.old) (λ image.
+        Notes parts.old parts.new (under_single image.at address) 128)) }
     ensures kept { OnOk result (Extends parts.old.addresses.items parts.new.addresses.items) }
     ensures few { OnOk result (IsPaid parts.old parts.new met.old met.new) }
     ensures told { D.told disk.new ≡ D.told disk.old }
@@ -120,8 +123,10 @@ pub fn double<D: Disk>(
     address: u32,
 ) -> Result<(), Stop>
     requires { bounds.now.high ≤ length met.old }
-    ensures walk { IfSome (D.told disk.old) (λ image. (list : List ℕ) → AreBounds image.at bounds.now → Stands met.old list → Passes result met.new list (address_items image.at 2 holder address)) }
-    ensures notes { OnOk result (IfSome (D.told disk.old) (λ image. Notes parts.old parts.new (under_double image.at address) 16384)) }
+    ensures walk { PassesOn (D.told disk.old) bounds.now met.old met.new result (λ blocks.
+        address_items blocks 2 holder address) }
+    ensures notes { OnOk result (IfSome (D.told disk.old) (λ image.
+        Notes parts.old parts.new (under_double image.at address) 16384)) }
     ensures kept { OnOk result (Extends parts.old.addresses.items parts.new.addresses.items) }
     ensures few { OnOk result (IsPaid parts.old parts.new met.old met.new) }
     ensures told { D.told disk.new ≡ D.told disk.old }
@@ -149,8 +154,10 @@ pub fn triple<D: Disk>(
     address: u32,
 ) -> Result<(), Stop>
     requires { bounds.now.high ≤ length met.old }
-    ensures walk { IfSome (D.told disk.old) (λ image. (list : List ℕ) → AreBounds image.at bounds.now → Stands met.old list → Passes result met.new list (address_items image.at 3 holder address)) }
-    ensures notes { OnOk result (IfSome (D.told disk.old) (λ image. Notes parts.old parts.new (under_triple image.at address) 2097152)) }
+    ensures walk { PassesOn (D.told disk.old) bounds.now met.old met.new result (λ blocks.
+        address_items blocks 3 holder address) }
+    ensures notes { OnOk result (IfSome (D.told disk.old) (λ image.
+        Notes parts.old parts.new (under_triple image.at address) 2097152)) }
     ensures kept { OnOk result (Extends parts.old.addresses.items parts.new.addresses.items) }
     ensures few { OnOk result (IsPaid parts.old parts.new met.old met.new) }
     ensures told { D.told disk.new ≡ D.told disk.old }

@@ -6,7 +6,7 @@ ghost use Rattle.mb_rules.specs.Items.{each_from};
 ghost use Rattle.mb_rules.specs.Files.{address_items, area_items};
 ghost use Rattle.mb_check_files.specs.InodeTables.{ReadsInode};
 ghost use Rattle.mb_check_files.specs.PartLists.{Notes, Extends, IsPaid};
-ghost use Rattle.mb_check_files.specs.Passes.{Stands, AreBounds, Passes, IsDevice, DeviceCause};
+ghost use Rattle.mb_check_files.specs.Passes.{PassesInode, PassesOver, IsDevice, DeviceCause};
 
 use crate::addresses::{double, part, single, triple};
 use crate::bounds::Bounds;
@@ -24,7 +24,8 @@ fn direct(
     holder: u32,
 ) -> Result<(), Stop>
     requires { bounds.now.high ≤ length met.old }
-    ensures walk { (blocks : ℕ → List ℕ) (list : List ℕ) → AreBounds blocks bounds.now → Stands met.old list → Passes result met.new list (each_from (λ place. address_items blocks 0 holder (address_in inode.now place)) 0 10) }
+    ensures walk { (blocks : ℕ → List ℕ) → PassesOver blocks bounds.now met.old met.new result
+        (each_from (λ place. address_items blocks 0 holder (address_in inode.now place)) 0 10) }
     ensures notes { OnOk result (Notes parts.old parts.new (address_in inode.now) 10) }
     ensures kept { OnOk result (Extends parts.old.addresses.items parts.new.addresses.items) }
     ensures few { OnOk result (IsPaid parts.old parts.new met.old met.new) }
@@ -46,8 +47,11 @@ pub fn area<D: Disk>(
     holder: u32,
 ) -> Result<(), Stop>
     requires { bounds.now.high ≤ length met.old }
-    ensures walk { IfSome (D.told disk.old) (λ image. (ino : ℕ) (list : List ℕ) → ReadsInode image.at ino holder inode.now → AreBounds image.at bounds.now → Stands met.old list → Passes result met.new list (area_items image.at ino)) }
-    ensures notes { OnOk result (IfSome (D.told disk.old) (λ image. (ino : ℕ) → ReadsInode image.at ino holder inode.now → Notes parts.old parts.new (part_address image.at ino) most_parts)) }
+    ensures walk { IfSome (D.told disk.old) (λ image.
+        PassesInode image.at holder inode.now bounds.now met.old met.new result (area_items image.at)) }
+    ensures notes { OnOk result (IfSome (D.told disk.old) (λ image.
+        (ino : ℕ) → ReadsInode image.at ino holder inode.now
+        → Notes parts.old parts.new (part_address image.at ino) most_parts)) }
     ensures kept { OnOk result (Extends parts.old.addresses.items parts.new.addresses.items) }
     ensures few { OnOk result (IsPaid parts.old parts.new met.old met.new) }
     ensures told { D.told disk.new ≡ D.told disk.old }

@@ -48,7 +48,8 @@ fn list<D: Disk>(
     requires high { bounds.now.high ≤ length met.old }
     requires base { base ≤ 6 }
     requires few { word_at bytes.old base ≤ 50 }
-    ensures list { IfSome (D.told disk.old) (λ image. (list : List ℕ) → AreBounds image.at bounds.now → Stands met.old list → Lists result met.new bytes.new image.at holder (listed_at bytes.old base) list) }
+    ensures list { IfSome (D.told disk.old) (λ image. (list : List ℕ) → AreBounds image.at bounds.now
+        → Stands met.old list → Lists result met.new bytes.new image.at holder (listed_at bytes.old base) list) }
     ensures few { IfOk result (λ next. IfSome next (λ _. word_at bytes.new 0 ≤ 50)) }
     ensures told { D.told disk.new ≡ D.told disk.old }
     ensures cause { DeviceCause (D.faults disk.old) (D.faults disk.new) result }
@@ -91,7 +92,8 @@ pub fn chain<D: Disk>(
     requires high { bounds.now.high ≤ length met.old }
     requires small { bounds.now.high ≤ 262144 }
     requires few { word_at first.now 6 ≤ 50 }
-    ensures chain { IfSome (D.told disk.old) (λ image. first.now ≡ image.at 1 → AreBounds image.at bounds.now → Stands met.old [] → Passes result met.new [] (chain_items image.at)) }
+    ensures chain { IfSome (D.told disk.old) (λ image. first.now ≡ image.at 1 → AreBounds image.at bounds.now
+        → Stands met.old [] → Passes result met.new [] (chain_items image.at)) }
     ensures told { D.told disk.new ≡ D.told disk.old }
     ensures cause { DeviceCause (D.faults disk.old) (D.faults disk.new) result }
 {

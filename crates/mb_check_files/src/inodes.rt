@@ -6,7 +6,7 @@ ghost use Rattle.mb_rules.specs.Files as files;
 ghost use Rattle.mb_rules.specs.Files.{inode_items, files_items};
 ghost use Rattle.mb_check_files.specs.InodeTables.{ReadsInode, HasParts, KeepsInodes};
 ghost use Rattle.mb_check_files.specs.PartLists.{Extends, IsPaid};
-ghost use Rattle.mb_check_files.specs.Passes.{Stands, AreBounds, Passes, DeviceCause, count_met};
+ghost use Rattle.mb_check_files.specs.Passes.{Stands, AreBounds, Passes, PassesInode, PassesOn, DeviceCause, count_met};
 
 use crate::areas::area;
 use crate::bounds::Bounds;
@@ -95,8 +95,11 @@ fn inode<D: Disk>(
 ) -> Result<(), Stop>
     requires high { bounds.now.high ≤ length met.old }
     requires small { length met.old ≤ 262144 }
-    ensures walk { IfSome (D.told disk.old) (λ image. (ino : ℕ) (list : List ℕ) → ReadsInode image.at ino holder inode.now → AreBounds image.at bounds.now → Stands met.old list → Passes result met.new list (inode_items image.at ino)) }
-    ensures listed { OnOk result (IfSome (D.told disk.old) (λ image. (ino : ℕ) → ReadsInode image.at ino holder inode.now → is_directory inode.now.mode ≡ true → HasParts parts.new.addresses.items (part_address image.at ino) (length parts.old.addresses.items) inode.now.size)) }
+    ensures walk { IfSome (D.told disk.old) (λ image.
+        PassesInode image.at holder inode.now bounds.now met.old met.new result (inode_items image.at)) }
+    ensures listed { OnOk result (IfSome (D.told disk.old) (λ image.
+        (ino : ℕ) → ReadsInode image.at ino holder inode.now → is_directory inode.now.mode ≡ true
+        → HasParts parts.new.addresses.items (part_address image.at ino) (length parts.old.addresses.items) inode.now.size)) }
     ensures kept { OnOk result (Extends parts.old.addresses.items parts.new.addresses.items) }
     ensures few { OnOk result (IsPaid parts.old parts.new met.old met.new) }
     ensures told { D.told disk.new ≡ D.told disk.old }
@@ -149,8 +152,12 @@ fn block_inodes<D: Disk>(
     requires small { length met.old ≤ 262144 }
     requires number { 2 ≤ number }
     requires paid { length table.old.parts.addresses.items ≤ count_met met.old }
-    ensures walk { IfSome (D.told disk.old) (λ image. (list : List ℕ) → block.now ≡ image.at number → AreBounds image.at bounds.now → Stands met.old list → Passes result met.new list (each_from (inode_items image.at) (8 * (number - 2) + 1) 8)) }
-    ensures kept { OnOk result (IfSome (D.told disk.old) (λ image. block.now ≡ image.at number → KeepsInodes image.at table.old (8 * (number - 2)) → KeepsInodes image.at table.new (8 * (number - 2) + 8))) }
+    ensures walk { IfSome (D.told disk.old) (λ image. (list : List ℕ) → block.now ≡ image.at number
+        → AreBounds image.at bounds.now → Stands met.old list
+        → Passes result met.new list (each_from (inode_items image.at) (8 * (number - 2) + 1) 8)) }
+    ensures kept { OnOk result (IfSome (D.told disk.old) (λ image.
+        block.now ≡ image.at number → KeepsInodes image.at table.old (8 * (number - 2))
+        → KeepsInodes image.at table.new (8 * (number - 2) + 8))) }
     ensures few { OnOk result (length table.new.parts.addresses.items ≤ count_met met.new) }
     ensures told { D.told disk.new ≡ D.told disk.old }
     ensures cause { DeviceCause (D.faults disk.old) (D.faults disk.new) result }
@@ -180,8 +187,9 @@ pub fn each_inode<D: Disk>(
     requires high { bounds.now.high ≤ length met.old }
     requires small { length met.old ≤ 262144 }
     requires paid { length table.old.parts.addresses.items ≤ count_met met.old }
-    ensures walk { IfSome (D.told disk.old) (λ image. (list : List ℕ) → AreBounds image.at bounds.now → Stands met.old list → Passes result met.new list (files_items image.at)) }
-    ensures kept { OnOk result (IfSome (D.told disk.old) (λ image. KeepsInodes image.at table.old 0 → KeepsInodes image.at table.new (8 * (bounds.now.low - 2)))) }
+    ensures walk { PassesOn (D.told disk.old) bounds.now met.old met.new result (λ blocks. files_items blocks) }
+    ensures kept { OnOk result (IfSome (D.told disk.old) (λ image. KeepsInodes image.at table.old 0
+        → KeepsInodes image.at table.new (8 * (bounds.now.low - 2)))) }
     ensures few { OnOk result (length table.new.parts.addresses.items ≤ count_met met.new) }
     ensures told { D.told disk.new ≡ D.told disk.old }
     ensures cause { DeviceCause (D.faults disk.old) (D.faults disk.new) result }

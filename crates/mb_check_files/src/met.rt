@@ -15,7 +15,8 @@ pub fn claim(
     address: u32,
 ) -> Result<(), Finding>
     requires { bounds.now.high ≤ length met.old }
-    ensures walk { (blocks : ℕ → List ℕ) (list : List ℕ) → AreBounds blocks bounds.now → Stands met.old list → Walks result met.new list (Holds (is_open blocks address) holder rule ∷ Held address ∷ []) }
+    ensures walk { (blocks : ℕ → List ℕ) (list : List ℕ) → AreBounds blocks bounds.now → Stands met.old list
+        → Walks result met.new list (Holds (is_open blocks address) holder rule ∷ Held address ∷ []) }
     ensures count { OnOk result (count_met met.new ≡ count_met met.old + 1) }
 {
     if address < bounds.low {

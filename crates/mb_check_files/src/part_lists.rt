@@ -66,7 +66,10 @@ impl PartList {
     /// the list of them begins at a place (rule 8).
     pub fn covers(&self, from: usize, size: u32) -> bool
         requires { from ≤ length self.now.addresses.items }
-        ensures { (blocks : ℕ → List ℕ) (ino : ℕ) → ListsParts (part_address blocks ino) from most_parts self.now → length self.now.addresses.items < from + most_parts → size_at blocks ino ≡ size → result ≡ are_parts blocks ino }
+        ensures { (blocks : ℕ → List ℕ) (ino : ℕ)
+            → ListsParts (part_address blocks ino) from most_parts self.now
+            → length self.now.addresses.items < from + most_parts → size_at blocks ino ≡ size
+            → result ≡ are_parts blocks ino }
     {
         if let Run::Torn = self.run {
             return false;

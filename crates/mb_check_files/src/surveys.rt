@@ -47,9 +47,15 @@ fn chain_and_files<D: Disk>(
     requires sized { AreSized first.now bounds.now }
     requires high { length met.old ≡ bounds.now.high }
     requires empty { table.old.parts.addresses.items ≡ [] }
-    ensures walk { IfSome (D.told disk.old) (λ image. first.now ≡ image.at 1 → walked [] (super_block_items image) ≡ Ok [] → Stands met.old [] → Finds result [] (first_items image)) }
-    ensures tells { IfOk result (λ space. IfSome (D.told disk.old) (λ image. first.now ≡ image.at 1 → walked [] (super_block_items image) ≡ Ok [] → Stands met.old [] → TellsSpace image space.held space.free)) }
-    ensures kept { OnOk result (IfSome (D.told disk.old) (λ image. KeepsInodes image.at table.old 0 → KeepsInodes image.at table.new (8 * (bounds.now.low - 2)))) }
+    ensures walk { IfSome (D.told disk.old) (λ image.
+        first.now ≡ image.at 1 → walked [] (super_block_items image) ≡ Ok [] → Stands met.old []
+        → Finds result [] (first_items image)) }
+    ensures tells { IfOk result (λ space.
+        IfSome (D.told disk.old) (λ image.
+        first.now ≡ image.at 1 → walked [] (super_block_items image) ≡ Ok [] → Stands met.old []
+        → TellsSpace image space.held space.free)) }
+    ensures kept { OnOk result (IfSome (D.told disk.old) (λ image. KeepsInodes image.at table.old 0
+        → KeepsInodes image.at table.new (8 * (bounds.now.low - 2)))) }
     ensures few { OnOk result (length table.new.parts.addresses.items ≤ 262144) }
     ensures told { D.told disk.new ≡ D.told disk.old }
     ensures cause { DeviceCause (D.faults disk.old) (D.faults disk.new) result }

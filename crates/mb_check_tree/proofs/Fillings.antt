@@ -10,7 +10,7 @@ use Rattle.mb_tree.specs.Blocks.{bytes_at, entry_in}
 use Rattle.mb_tree.specs.Maps.{Numbered}
 use Rattle.mb_tree.proofs.FiniteMaps.{get_here, get_there}
 use Rattle.mb_check_files.specs.Indexes.{under_double, under_single, under_triple}
-use Rattle.mb_check_tree.specs.Filling.{Fills, HasBelow}
+use Rattle.mb_check_tree.specs.Filling.{FillsParts, HasBelow}
 
 module _ {X : Type 0} where
   pub holes : (m : Numbered X) (number size : ℕ) (value : ℕ → Option X) → HasBelow m number value → ((k : ℕ) → k < size → value (number + k) ≡ None) → HasBelow m (number + size) value
@@ -41,10 +41,10 @@ bytes_real blocks zero real = absurd (real refl)
 bytes_real blocks (suc before) real = refl
 
 module _ (blocks : ℕ → List ℕ) where
-  pub hole_fills : (m : Numbered (List ℕ)) (number size : ℕ) (address : ℕ → ℕ) → ((k : ℕ) → k < size → address k ≡ 0) → Fills blocks m m number size address
+  pub hole_fills : (m : Numbered (List ℕ)) (number size : ℕ) (address : ℕ → ℕ) → ((k : ℕ) → k < size → address k ≡ 0) → FillsParts blocks m m number size address
   hole_fills m number size address none value has is = holes m number size value has (λ k low. is k low ∙ bytes_hole blocks (address k) (none k low))
 
-  pub part_fills : (m new : Numbered (List ℕ)) (number address : ℕ) (bytes : List ℕ) → (address ≡ 0 → ⊥) → bytes ≡ blocks address → new ≡ fin.insert m number bytes → Fills blocks m new number 1 (λ k. address)
+  pub part_fills : (m new : Numbered (List ℕ)) (number address : ℕ) (bytes : List ℕ) → (address ≡ 0 → ⊥) → bytes ≡ blocks address → new ≡ fin.insert m number bytes → FillsParts blocks m new number 1 (λ k. address)
   part_fills m new number address bytes real same is value has each =
       let e : number + 0 ≡ number = omega arith in
       let here : value number ≡ Some bytes = ap value (sym e) ∙ each 0 (omega arith) ∙ bytes_real blocks address real ∙ ap (λ b. Some b) (sym same) in
@@ -60,7 +60,7 @@ module _ (blocks : ℕ → List ℕ) where
 
   -- one address more of an index block
   pub level_more : (m mid new : Numbered (List ℕ)) (number here next width size : ℕ) (inner outer : ℕ → ℕ) (value : ℕ → Option (List ℕ)) → here + width ≡ next → number ≤ here → next ≤ number + size
-      → HasBelow mid here value → Fills blocks mid new here width inner → ((k : ℕ) → k < width → inner k ≡ outer (here - number + k)) → ((k : ℕ) → k < size → value (number + k) ≡ bytes_at blocks (outer k))
+      → HasBelow mid here value → FillsParts blocks mid new here width inner → ((k : ℕ) → k < width → inner k ≡ outer (here - number + k)) → ((k : ℕ) → k < size → value (number + k) ≡ bytes_at blocks (outer k))
       → HasBelow new next value
   level_more m mid new number here next width size inner outer value step from room has fills same each =
       subst (λ n. HasBelow new n value) step (fills value has (λ k low.

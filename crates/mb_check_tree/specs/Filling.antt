@@ -10,5 +10,5 @@ pub record HasBelow {X : Type 0} (m : Numbered X) (n : ℕ) (value : ℕ → Opt
   pub past : (p : ℕ) → n ≤ p → fin.get m p ≡ None
 
 -- the next parts of a file are those at these addresses
-abbrev pub Fills : (ℕ → List ℕ) → Numbered (List ℕ) → Numbered (List ℕ) → ℕ → ℕ → (ℕ → ℕ) → Type 0
-Fills blocks old new number size address = (value : ℕ → Option (List ℕ)) → HasBelow old number value → ((k : ℕ) → k < size → value (number + k) ≡ bytes_at blocks (address k)) → HasBelow new (number + size) value
+abbrev pub FillsParts : (ℕ → List ℕ) → Numbered (List ℕ) → Numbered (List ℕ) → ℕ → ℕ → (ℕ → ℕ) → Type 0
+FillsParts blocks old new number size address = (value : ℕ → Option (List ℕ)) → HasBelow old number value → ((k : ℕ) → k < size → value (number + k) ≡ bytes_at blocks (address k)) → HasBelow new (number + size) value

@@ -41,12 +41,12 @@ AreOpened image (Err Device) = Unit {0}
 AreOpened image (Err NoMemory) = Unit {0}
 
 -- the count of faults never falls, and Device comes only where it rose
-abbrev pub IsDiskFault : {T : Type 0} → Result T OpenFault → Type 0
-IsDiskFault (Ok made) = ⊥
-IsDiskFault (Err (Unsound block rule)) = ⊥
-IsDiskFault (Err Device) = Unit {0}
-IsDiskFault (Err NoMemory) = ⊥
+abbrev pub IsDeviceFault : {T : Type 0} → Result T OpenFault → Type 0
+IsDeviceFault (Ok made) = ⊥
+IsDeviceFault (Err (Unsound block rule)) = ⊥
+IsDeviceFault (Err Device) = Unit {0}
+IsDeviceFault (Err NoMemory) = ⊥
 
 pub record OpenCause {T : Type 0} (before now : ℕ) (result : Result T OpenFault) : Type 0 where
   pub later : before ≤ now
-  pub failed : IsDiskFault result → Rose before now
+  pub failed : IsDeviceFault result → Rose before now

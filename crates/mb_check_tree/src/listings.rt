@@ -17,7 +17,9 @@ use std::alloc::Global;
 /// So many slots of one block of a directory, behind those of the blocks before it; it is the part of that number, from 0.
 fn add_slots(slots: &mut PlainSlots, count: u8, block: &[u8; 512]) -> Result<(), NoMemory>
     requires { count ≤ 32 }
-    ensures { OnOk result ((blocks : ℕ → List ℕ) (dir part : ℕ) → block.now ≡ part_bytes blocks dir part → slots.old ≡ first_slots blocks dir (32 * part) → slots.new ≡ first_slots blocks dir (32 * part + count)) }
+    ensures { OnOk result ((blocks : ℕ → List ℕ) (dir part : ℕ) → block.now ≡ part_bytes blocks dir part
+        → slots.old ≡ first_slots blocks dir (32 * part)
+        → slots.new ≡ first_slots blocks dir (32 * part + count)) }
 {
     for place in 0..count {
         let entry = Slot::read(block, place);
@@ -39,7 +41,9 @@ fn add_part<D: Disk>(
     part: u32,
 ) -> Result<(), Stop>
     requires { 512 * part < kept.now.size }
-    ensures slots { OnOk result (IfSome (D.told disk.old) (λ image. (dir : ℕ) → KeepsDirectory image.at table.now dir kept.now → slots.old ≡ first_slots image.at dir (32 * part)
+    ensures slots { OnOk result (IfSome (D.told disk.old) (λ image.
+        (dir : ℕ) → KeepsDirectory image.at table.now dir kept.now
+        → slots.old ≡ first_slots image.at dir (32 * part)
         → slots.new ≡ first_slots image.at dir (32 * part + slots_in_part kept.now.size part))) }
     ensures unbroken { IsBroken result → ⊥ }
     ensures told { D.told disk.new ≡ D.told disk.old }
@@ -58,7 +62,9 @@ pub fn directory_slots<D: Disk>(
     table: &InodeTable,
     kept: &InodeKept,
 ) -> Result<PlainSlots, Stop>
-    ensures slots { IfOk result (λ slots. IfSome (D.told disk.old) (λ image. (dir : ℕ) → KeepsDirectory image.at table.now dir kept.now → slots ≡ slots_at image.at dir)) }
+    ensures slots { IfOk result (λ slots.
+        IfSome (D.told disk.old) (λ image. (dir : ℕ) → KeepsDirectory image.at table.now dir kept.now
+        → slots ≡ slots_at image.at dir)) }
     ensures unbroken { IsBroken result → ⊥ }
     ensures told { D.told disk.new ≡ D.told disk.old }
     ensures cause { DeviceCause (D.faults disk.old) (D.faults disk.new) result }

@@ -26,7 +26,9 @@ fn opened_files<D: Disk>(alloc: Global, disk: &mut D) -> Result<VolumeFiles, Ope
 
 /// The tree of a volume without the files that have no name.
 fn swept_tree<D: Disk>(alloc: Global, disk: &mut D, files: &VolumeFiles) -> Result<Tree, Stop>
-    ensures tree { IfOk result (λ tree. IfSome (D.told disk.old) (λ image. AreFilesOf image files.now → tree ≡ record (tree_of image) { nodes = swept (tree_of image).nodes })) }
+    ensures tree { IfOk result (λ tree.
+        IfSome (D.told disk.old) (λ image.
+        AreFilesOf image files.now → tree ≡ record (tree_of image) { nodes = swept (tree_of image).nodes })) }
     ensures unbroken { IsBroken result → ⊥ }
     ensures told { D.told disk.new ≡ D.told disk.old }
     ensures cause { DeviceCause (D.faults disk.old) (D.faults disk.new) result }

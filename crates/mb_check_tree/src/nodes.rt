@@ -30,7 +30,10 @@ fn body<D: Disk>(
     ino: u16,
     inode: &Dinode,
 ) -> Result<Body, Stop>
-    ensures body { IfOk result (λ body. IfSome (D.told disk.old) (λ image. KeepsAll image.at table.now → 1 ≤ ino → ino ≤ last_inode image.at → inode.now ≡ dinode_at (image.at (fields.inode_block ino)) (fields.inode_place ino) → body ≡ body_at image.at ino)) }
+    ensures body { IfOk result (λ body.
+        IfSome (D.told disk.old) (λ image. KeepsAll image.at table.now → 1 ≤ ino → ino ≤ last_inode image.at
+        → inode.now ≡ dinode_at (image.at (fields.inode_block ino)) (fields.inode_place ino)
+        → body ≡ body_at image.at ino)) }
     ensures unbroken { IsBroken result → ⊥ }
     ensures told { D.told disk.new ≡ D.told disk.old }
     ensures cause { DeviceCause (D.faults disk.old) (D.faults disk.new) result }
@@ -55,7 +58,9 @@ pub fn node<D: Disk>(
     table: &InodeTable,
     ino: u16,
 ) -> Result<Option<Node>, Stop>
-    ensures node { IfOk result (λ node. IfSome (D.told disk.old) (λ image. KeepsAll image.at table.now → 1 ≤ ino → ino ≤ last_inode image.at → node ≡ node_at image.at ino)) }
+    ensures node { IfOk result (λ node.
+        IfSome (D.told disk.old) (λ image. KeepsAll image.at table.now → 1 ≤ ino → ino ≤ last_inode image.at
+        → node ≡ node_at image.at ino)) }
     ensures unbroken { IsBroken result → ⊥ }
     ensures told { D.told disk.new ≡ D.told disk.old }
     ensures cause { DeviceCause (D.faults disk.old) (D.faults disk.new) result }
@@ -88,7 +93,8 @@ fn is_nameless(ino: u16, node: &Node) -> bool
 
 /// An inode behind those of lower numbers, where it is in use and a slot leads to it.
 fn add_node(nodes: &mut Nodes, ino: u16, node: Option<Node>) -> Result<(), NoMemory>
-    ensures { OnOk result ((value : ℕ → Option NodeValue) → HasBelow nodes.old ino value → value ino ≡ kept_node ino node → HasBelow nodes.new (ino + 1) value) }
+    ensures { OnOk result ((value : ℕ → Option NodeValue) → HasBelow nodes.old ino value
+        → value ino ≡ kept_node ino node → HasBelow nodes.new (ino + 1) value) }
 {
     let Some(node) = node else {
         return Ok(());
@@ -107,7 +113,9 @@ pub fn swept_nodes<D: Disk>(
     table: &InodeTable,
     last: u16,
 ) -> Result<Nodes, Stop>
-    ensures nodes { IfOk result (λ nodes. IfSome (D.told disk.old) (λ image. KeepsAll image.at table.now → last ≡ last_inode image.at → nodes ≡ swept (tree_of image).nodes)) }
+    ensures nodes { IfOk result (λ nodes.
+        IfSome (D.told disk.old) (λ image. KeepsAll image.at table.now → last ≡ last_inode image.at
+        → nodes ≡ swept (tree_of image).nodes)) }
     ensures unbroken { IsBroken result → ⊥ }
     ensures told { D.told disk.new ≡ D.told disk.old }
     ensures cause { DeviceCause (D.faults disk.old) (D.faults disk.new) result }

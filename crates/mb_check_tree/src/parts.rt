@@ -5,7 +5,7 @@ ghost use Rattle.mb_check.specs.SlotTests.{IsBroken};
 ghost use Rattle.mb_check_files.specs.Indexes.{under_double, under_single, under_triple};
 ghost use Rattle.mb_check_files.specs.InodeTables.{ReadsInode};
 ghost use Rattle.mb_check_files.specs.Passes.{DeviceCause};
-ghost use Rattle.mb_check_tree.specs.Filling.{Fills};
+ghost use Rattle.mb_check_tree.specs.Filling.{FillsParts};
 
 use mb_check_files::Stop;
 use mb_edge::Disk;
@@ -15,7 +15,7 @@ use std::alloc::Global;
 
 /// The part of that number, at an address; address 0 is a hole.
 fn part<D: Disk>(disk: &mut D, parts: &mut Parts, number: u32, address: u32) -> Result<(), Stop>
-    ensures fills { OnOk result (IfSome (D.told disk.old) (λ image. Fills image.at parts.old parts.new number 1 (λ _. address))) }
+    ensures fills { OnOk result (IfSome (D.told disk.old) (λ image. FillsParts image.at parts.old parts.new number 1 (λ _. address))) }
     ensures unbroken { IsBroken result → ⊥ }
     ensures told { D.told disk.new ≡ D.told disk.old }
     ensures cause { DeviceCause (D.faults disk.old) (D.faults disk.new) result }
@@ -32,7 +32,8 @@ fn part<D: Disk>(disk: &mut D, parts: &mut Parts, number: u32, address: u32) -> 
 /// The parts from that number on under the address of a single index block, which may be a hole.
 fn single<D: Disk>(disk: &mut D, parts: &mut Parts, number: u32, address: u32) -> Result<(), Stop>
     requires { number ≤ 4000000 }
-    ensures fills { OnOk result (IfSome (D.told disk.old) (λ image. Fills image.at parts.old parts.new number 128 (under_single image.at address))) }
+    ensures fills { OnOk result (IfSome (D.told disk.old) (λ image.
+        FillsParts image.at parts.old parts.new number 128 (under_single image.at address))) }
     ensures unbroken { IsBroken result → ⊥ }
     ensures told { D.told disk.new ≡ D.told disk.old }
     ensures cause { DeviceCause (D.faults disk.old) (D.faults disk.new) result }
@@ -56,7 +57,8 @@ fn single<D: Disk>(disk: &mut D, parts: &mut Parts, number: u32, address: u32) -
 /// The parts from that number on under the address of a double index block, which may be a hole.
 fn double<D: Disk>(disk: &mut D, parts: &mut Parts, number: u32, address: u32) -> Result<(), Stop>
     requires { number ≤ 2113674 }
-    ensures fills { OnOk result (IfSome (D.told disk.old) (λ image. Fills image.at parts.old parts.new number 16384 (under_double image.at address))) }
+    ensures fills { OnOk result (IfSome (D.told disk.old) (λ image.
+        FillsParts image.at parts.old parts.new number 16384 (under_double image.at address))) }
     ensures unbroken { IsBroken result → ⊥ }
     ensures told { D.told disk.new ≡ D.told disk.old }
     ensures cause { DeviceCause (D.faults disk.old) (D.faults disk.new) result }
@@ -80,7 +82,8 @@ fn double<D: Disk>(disk: &mut D, parts: &mut Parts, number: u32, address: u32) -
 /// The parts from that number on under the address of a triple index block, which may be a hole.
 fn triple<D: Disk>(disk: &mut D, parts: &mut Parts, number: u32, address: u32) -> Result<(), Stop>
     requires { number ≤ 16522 }
-    ensures fills { OnOk result (IfSome (D.told disk.old) (λ image. Fills image.at parts.old parts.new number 2097152 (under_triple image.at address))) }
+    ensures fills { OnOk result (IfSome (D.told disk.old) (λ image.
+        FillsParts image.at parts.old parts.new number 2097152 (under_triple image.at address))) }
     ensures unbroken { IsBroken result → ⊥ }
     ensures told { D.told disk.new ≡ D.told disk.old }
     ensures cause { DeviceCause (D.faults disk.old) (D.faults disk.new) result }
@@ -103,7 +106,9 @@ fn triple<D: Disk>(disk: &mut D, parts: &mut Parts, number: u32, address: u32) -
 
 /// The parts of the file of an inode, which stands in the block `holder`.
 pub fn file_parts<D: Disk>(alloc: Global, disk: &mut D, inode: &Dinode) -> Result<Parts, Stop>
-    ensures parts { IfOk result (λ parts. IfSome (D.told disk.old) (λ image. (ino holder : ℕ) → ReadsInode image.at ino holder inode.now → parts ≡ parts_at image.at ino)) }
+    ensures parts { IfOk result (λ parts.
+        IfSome (D.told disk.old) (λ image. (ino holder : ℕ) → ReadsInode image.at ino holder inode.now
+        → parts ≡ parts_at image.at ino)) }
     ensures unbroken { IsBroken result → ⊥ }
     ensures told { D.told disk.new ≡ D.told disk.old }
     ensures cause { DeviceCause (D.faults disk.old) (D.faults disk.new) result }

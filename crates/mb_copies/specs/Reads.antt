@@ -1,7 +1,7 @@
 -- What a read of blocks gives, and what is kept of it.
-use Rattle.std.specs.Prelude.{List, ℕ, ◌≡◌, Option, Some, IfSome, IsSome, map, nat_eq, option_map, unwrap_or}
+use Rattle.std.specs.Prelude.{List, ℕ, ◌≡◌, Option, Some, IfSome, IsSome, map, nat_eq, option_map, slice_get, unwrap_or}
 use Rattle.std.specs.List.{AllByRecursion}
-use Rattle.indexmap.specs.IndexMap.{insert_all}
+use Rattle.indexmap.specs.IndexMap.{insert_all, insert_entry}
 use Rattle.mb_kinds.specs.Changed.{ChangeList, changed}
 use Rattle.mb_iface.specs.Needs.{blocks_of}
 use Rattle.mb_iface.specs.declared.replies.Need.{Need}
@@ -32,6 +32,10 @@ pub record GathersSeen (view : Option Image) (need : Need) (old new : CopyList) 
 -- copies with those of a list, each in the place of its block's copy where it has one, else behind the others
 abbrev pub stored : CopyList → CopyList → CopyList
 stored copies reads = insert_all nat_eq copies reads
+
+-- copies with the one that stands at a place of a list, in the place of its block's copy, else behind the others
+abbrev pub TakesFrom : CopyList → ℕ → CopyList → CopyList → Type 0
+TakesFrom reads at old new = (block : ℕ) (kept : KeptBlock) → slice_get reads at ≡ Some (block, kept) → new ≡ insert_entry nat_eq old block kept
 
 -- a view whose blocks have the new bytes, where they are changed; no other block comes
 abbrev pub renewed : ChangeList → (ℕ → Option (List ℕ)) → ℕ → Option (List ℕ)

@@ -1,5 +1,5 @@
 ghost use Rattle.std.specs.Prelude.{◌≡◌, ◌≤◌, ◌<◌, ◌+◌, [], ℕ, List, Some, length, OnOk, OnErr, option_copied};
-ghost use Rattle.mb_cache.specs.State.{ReadHasCause, seen};
+ghost use Rattle.mb_cache.specs.State.{ReadHasCause, after_reads, seen};
 ghost use Rattle.mb_cache.specs.Kept.{shown};
 ghost use Rattle.mb_kinds.specs.Changed.{changed};
 ghost use Rattle.mb_tree.specs.Views.{IsPart, over};
@@ -56,7 +56,7 @@ impl Blocks {
         requires count { need.count ≤ 32 }
         ensures ok { OnOk result (GathersSeen (seen D.told cache.old) need self.old self.new) }
         ensures err { OnErr result (self.new ≡ self.old) }
-        ensures rest { cache.new ≡ record cache.old { disk = cache.new.disk; room = record cache.old.room { clean = cache.new.room.clean } } }
+        ensures rest { cache.new ≡ after_reads cache.old cache.new }
         ensures told { D.told cache.new.disk ≡ D.told cache.old.disk }
         ensures cause { ReadHasCause (D.faults cache.old.disk) (D.faults cache.new.disk) result }
     {
@@ -69,7 +69,8 @@ impl Blocks {
     /// Goes with an install: the changed ones of the blocks have their new bytes. At most 128 blocks stay; where there are
     /// more, none does. Needs no memory.
     pub fn follow(&mut self, changes: &Changes)
-        ensures part { (blocks : ℕ → List ℕ) → IsPart (shown self.old) blocks → IsPart (shown self.new) (over blocks (changed changes.now)) }
+        ensures part { (blocks : ℕ → List ℕ) → IsPart (shown self.old) blocks
+            → IsPart (shown self.new) (over blocks (changed changes.now)) }
         ensures few { length self.new ≤ 128 }
     {
         self.copies.renew(changes);

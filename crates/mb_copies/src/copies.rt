@@ -1,10 +1,10 @@
-ghost use Rattle.std.specs.Prelude.{◌≡◌, ◌≤◌, ◌<◌, ◌+◌, ◌-◌, ◌∷◌, ◌++◌, [], ℕ, List, length, drop, slice_get, OnOk, IsOk, IfSome, IfNone, Some, None, option_copied, nat_eq};
+ghost use Rattle.std.specs.Prelude.{◌≡◌, ◌≤◌, ◌<◌, ◌+◌, ◌-◌, ◌∷◌, ◌++◌, [], ℕ, List, length, drop, OnOk, IsOk, IfSome, IfNone, Some, None, option_copied, nat_eq};
 ghost use Rattle.std.specs.List.{IsDistinct};
 ghost use Rattle.std.specs.Map.{keys_of};
 ghost use Rattle.indexmap.specs.IndexMap.{insert_entry};
 ghost use Rattle.mb_cache.specs.Kept as copy;
 ghost use Rattle.mb_cache.specs.Kept.{kept_at, shown};
-ghost use Rattle.mb_copies.specs.Reads.{renewed, stored};
+ghost use Rattle.mb_copies.specs.Reads.{TakesFrom, renewed, stored};
 ghost use Rattle.mb_copies.specs.Stale.{is_fresh, is_same, least_stale, lesser, stale_step};
 
 use crate::kept_blocks::KeptBlock;
@@ -130,7 +130,7 @@ impl Copies {
     fn put_from(&mut self, reads: &mut Reads, at: usize)
         requires room { 0 < self.old.spare }
         requires at { at < length reads.old }
-        ensures items { (block : ℕ) (kept : copy.KeptBlock) → slice_get reads.old at ≡ Some (block, kept) → self.new.items ≡ insert_entry nat_eq self.old.items block kept }
+        ensures items { TakesFrom reads.old at self.old.items self.new.items }
         ensures spare { self.old.spare ≤ self.new.spare + 1 }
         ensures behind { drop (at + 1) reads.new ≡ drop (at + 1) reads.old }
         ensures count { length reads.new ≡ length reads.old }

@@ -1,5 +1,5 @@
 ghost use Rattle.std.specs.Prelude.{◌≡◌, Some, OnOk, bytes_eq};
-ghost use Rattle.mb_cache.specs.State.{ReadHasCause, seen};
+ghost use Rattle.mb_cache.specs.State.{ReadHasCause, after_reads, seen};
 ghost use Rattle.mb_copies.specs.Reads.{IsRead};
 ghost use Rattle.mb_copies.specs.Stale.{is_same};
 
@@ -77,7 +77,7 @@ impl KeptBlock {
         cache: &mut Cache<D>,
         block: u32,
     ) -> Result<(), ReadFault>
-        ensures rest { cache.new ≡ record cache.old { disk = cache.new.disk; room = record cache.old.room { clean = cache.new.room.clean } } }
+        ensures rest { cache.new ≡ after_reads cache.old cache.new }
         ensures told { D.told cache.new.disk ≡ D.told cache.old.disk }
         ensures cause { ReadHasCause (D.faults cache.old.disk) (D.faults cache.new.disk) result }
         ensures ok { OnOk result (IsRead (seen D.told cache.old) cache.old.stamps (block, self.new)) }

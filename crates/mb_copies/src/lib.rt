@@ -2,9 +2,10 @@
 //!
 //! A contract sees `Copies` as a list of blocks with their copies, each block once, and the room (`Roomy`). A block's copy is
 //! found by chains of blocks (`specs/Chains.antt`). `Reads` are what one gathering reads, in order, the run that is needed and
-//! then the others (`specs/Reads.antt`); `Copies::store` puts them in, and `Copies::least_stale` names the least block of
-//! others' copies that is not kept with the same bytes and the present stamp (`specs/Stale.antt`). `Blocks` are those that an
-//! operation wants which is done again in a recovery: read as they are seen, and kept for no call.
+//! then the others (`specs/Reads.antt`); `Copies::store` puts them in, `Copies::take` does so without a copy of the bytes, and
+//! `Copies::least_stale` names the least block of others' copies that is not kept with the same bytes and the present stamp
+//! (`specs/Stale.antt`). `Blocks` are those that an operation wants which is done again in a recovery: read as they are seen,
+//! and kept for no call.
 //!
 //! What a call looks at is much like what the calls before it looked at, so `Foresight` remembers that. Its answers are guesses:
 //! no contract sees them.

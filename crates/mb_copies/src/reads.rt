@@ -1,6 +1,6 @@
 ghost use Rattle.std.specs.Prelude.{◌≡◌, ◌≤◌, ◌<◌, ◌+◌, ◌++◌, ◌∷◌, [], ℕ, Some, length, drop, take, OnOk, slice_get};
 ghost use Rattle.mb_cache.specs.Kept as copy;
-ghost use Rattle.mb_cache.specs.State.{ReadHasCause, seen};
+ghost use Rattle.mb_cache.specs.State.{ReadHasCause, after_reads, seen};
 ghost use Rattle.mb_copies.specs.Reads.{AreRead, numbers};
 ghost use Rattle.mb_iface.specs.Needs.{blocks_of};
 
@@ -94,10 +94,11 @@ impl Reads {
     /// Reads a block as it is seen, behind the others. It stands in its caller, who reads run and others by it.
     #[inline(always)]
     fn read<D: Disk>(&mut self, cache: &mut Cache<D>, block: u32) -> Result<(), ReadFault>
-        ensures rest { cache.new ≡ record cache.old { disk = cache.new.disk; room = record cache.old.room { clean = cache.new.room.clean } } }
+        ensures rest { cache.new ≡ after_reads cache.old cache.new }
         ensures told { D.told cache.new.disk ≡ D.told cache.old.disk }
         ensures cause { ReadHasCause (D.faults cache.old.disk) (D.faults cache.new.disk) result }
-        ensures ok { OnOk result (AreRead (seen D.told cache.old) cache.old.stamps self.old → AreRead (seen D.told cache.old) cache.old.stamps self.new) }
+        ensures ok { OnOk result (AreRead (seen D.told cache.old) cache.old.stamps self.old
+            → AreRead (seen D.told cache.old) cache.old.stamps self.new) }
         ensures numbers { OnOk result (numbers self.new ≡ numbers self.old ++ block ∷ []) }
     {
         reserve_one(&mut self.items, self.count)?;
@@ -111,7 +112,7 @@ impl Reads {
     /// Reads the blocks that are needed as they are seen, the run and then the others, in the place of those before.
     pub fn fetch<D: Disk>(&mut self, cache: &mut Cache<D>, need: Need) -> Result<(), ReadFault>
         requires { need.first + need.count ≤ 4294967295 }
-        ensures rest { cache.new ≡ record cache.old { disk = cache.new.disk; room = record cache.old.room { clean = cache.new.room.clean } } }
+        ensures rest { cache.new ≡ after_reads cache.old cache.new }
         ensures told { D.told cache.new.disk ≡ D.told cache.old.disk }
         ensures cause { ReadHasCause (D.faults cache.old.disk) (D.faults cache.new.disk) result }
         ensures ok { OnOk result (AreRead (seen D.told cache.old) cache.old.stamps self.new) }

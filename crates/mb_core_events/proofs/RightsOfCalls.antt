@@ -16,7 +16,7 @@ use Rattle.mb_core_state.specs.declared.answers.Fault.{Fault}
 use Rattle.mb_core_state.specs.declared.answers.Fault.TheVariants as fault
 use Rattle.mb_core_state.specs.declared.answers.Left.{Left}
 use Rattle.mb_core_state.specs.declared.answers.Left.TheVariants as left
-use Rattle.mb_core_events.specs.Callings.{HasEntry, HasOpenCall, HoldsTicket}
+use Rattle.mb_core_events.specs.Callings.{CallHasEntry, HasOpenCall, HoldsTicket}
 use Rattle.mb_core_events.proofs.Kept.{carries}
 use Rattle.mb_core_events.proofs.Knowing.{is_declared, marks_now, runs_now, some_insider, ticket_is, within}
 
@@ -25,7 +25,7 @@ module _ {F D : Type 0} (told : D → Option Image) (faults : D → ℕ) (core :
   pub has_fault_room : (ticket : Ticket) → HoldsTicket core ticket → IsPresent core ticket → (1 ≤ core.journal.room.records) × (1 ≤ core.journal.room.trail)
   has_fault_room ticket of present = let marks = marks_now told faults core r ticket of present in let t = marks.0 in (marks.1, omega (arith, t))
 
-  pub left_right : (new : CoreState F D) (ticket : Ticket) (answer : Left) → HasEntry core ticket → ((mine : CallerState) → slice_get core.callers ticket.caller ≡ Some mine → Leaving core new ticket mine answer)
+  pub left_right : (new : CoreState F D) (ticket : Ticket) (answer : Left) → CallHasEntry core ticket → ((mine : CallerState) → slice_get core.callers ticket.caller ≡ Some mine → Leaving core new ticket mine answer)
       → Leaves core.journal.room new.journal.room 1 0 → Right told faults new
   left_right new ticket (left.Skip was now) has by room = subst (Right told faults) (sym (by has.0.mine has.0.here).same) r
   left_right new ticket (left.Left reply) has by room =

@@ -35,8 +35,8 @@ abbrev pub IsUnanswered : {F D : Type 0} → CoreState F D → Ticket → Type 0
 IsUnanswered core ticket = (of : HoldsTicket core ticket) × (of.flight.answered ≡ false)
 
 -- and the call has its entry
-abbrev pub HasEntry : {F D : Type 0} → CoreState F D → Ticket → Type 0
-HasEntry core ticket = (of : HoldsTicket core ticket) × (of.flight.answered ≡ true)
+abbrev pub CallHasEntry : {F D : Type 0} → CoreState F D → Ticket → Type 0
+CallHasEntry core ticket = (of : HoldsTicket core ticket) × (of.flight.answered ≡ true)
 
 -- a caller's call is in flight
 pub record HasCall {F D : Type 0} (core : CoreState F D) (caller : ℕ) : Type 0 where

@@ -5,7 +5,7 @@ ghost use Rattle.mb_core_state.specs.Answers.{Strikes, GathersFor, LeavesFor};
 ghost use Rattle.mb_core_state.specs.Entering.{EntersFor};
 ghost use Rattle.mb_core_state.specs.Finishing.{FinishesFor};
 ghost use Rattle.mb_core_state.specs.Mine.{GivesBackBy, OfMine};
-ghost use Rattle.mb_core_events.specs.Callings.{HasEntry, HasOpenCall, HoldsTicket, IsAsked, IsUnanswered, MayCall, MayFinish};
+ghost use Rattle.mb_core_events.specs.Callings.{CallHasEntry, HasOpenCall, HoldsTicket, IsAsked, IsUnanswered, MayCall, MayFinish};
 
 use mb_callers::Pages;
 use mb_core_spec::Ready;
@@ -98,7 +98,7 @@ impl<F: FileSys, D: Disk> Core<F, D> {
     /// A call that has its entry leaves with the entry's reply, and its flight ends. `Skip` exactly where the ticket is of an
     /// earlier incarnation. Needs no memory.
     pub fn leave(&mut self, ticket: &Ticket) -> Left
-        requires { HasEntry self.old ticket.now }
+        requires { CallHasEntry self.old ticket.now }
         ensures leaves { LeavesFor self.old self.new ticket.now result }
         ensures right { Right D.told D.faults self.new }
     {
@@ -119,7 +119,8 @@ impl<F: FileSys, D: Disk> Core<F, D> {
     /// Needs no memory.
     pub fn fault<H: Hook>(&mut self, ticket: &Ticket, kind: Kind, nth: u32, hook: &H) -> Fault
         requires holder { HoldsTicket self.old ticket.now }
-        requires struck { H.struck hook.now ≡ Some (record { caller = ticket.now.caller; ordinal = ticket.now.ordinal; kind = kind; nth = nth }) }
+        requires struck { H.struck hook.now
+            ≡ Some (record { caller = ticket.now.caller; ordinal = ticket.now.ordinal; kind = kind; nth = nth }) }
         ensures strikes { Strikes self.old self.new ticket.now kind nth (H.strokes hook.now) result }
         ensures right { Right D.told D.faults self.new }
     {

@@ -1,10 +1,9 @@
-ghost use Rattle.std.specs.Prelude.{◌≡◌, ◌<◌, ◌≤◌, ◌+◌, ℕ, length, Some, slice_get, IfErr, IfOk, IfSome, OnOk, OnErr, IsOk};
+ghost use Rattle.std.specs.Prelude.{◌≡◌, ◌<◌, ◌≤◌, ◌+◌, length, Some, IfErr, IfOk, IfSome, OnOk, OnErr, IsOk};
 ghost use Rattle.mb_cache.specs.State.{Flushes};
 ghost use Rattle.mb_core_spec.specs.Events.{with_room};
 ghost use Rattle.mb_core_spec.specs.Recovery.{dropping, failing, flushing, resuming, striking_again};
 ghost use Rattle.mb_core_spec.specs.Right.{Right};
-ghost use Rattle.mb_core_state.specs.Redoing.{FailsStep, IsRemounted, IsReplayed, Reopens, SealsAll};
-ghost use Rattle.mb_oplog.specs.declared.oplogs.Logged.{Logged};
+ghost use Rattle.mb_core_state.specs.Redoing.{FailsStep, IsRemounted, Reopens, ReplaysNext, SealsAll};
 ghost use Rattle.mb_core_state.specs.Mine.{OfFlight};
 ghost use Rattle.mb_core_events.specs.Callings.{HasCall, MayMeetFault, MayReplayNow, Unwinds, phase_now};
 
@@ -102,7 +101,7 @@ impl<F: FileSys, D: Disk> Core<F, D> {
     pub fn replay_one(&mut self, alloc: Global, by: Option<u8>) -> Result<(), ReadFault>
         requires phase { MayReplayNow (phase_now self.old) }
         requires by { IfSome by (λ caller. caller < length self.old.config.callers) }
-        ensures ok { OnOk result ((done : ℕ) (logged : Logged) → self.old.stage ≡ Stage.Restored done → slice_get self.old.journal.oplog done ≡ Some logged → IsReplayed D.told self.old self.new done logged) }
+        ensures ok { OnOk result (ReplaysNext D.told self.old self.new) }
         ensures err { IfErr result (FailsStep D.faults self.old self.new by) }
         ensures told { D.told self.new.cache.disk ≡ D.told self.old.cache.disk }
         ensures later { D.faults self.old.cache.disk ≤ D.faults self.new.cache.disk }
@@ -144,8 +143,10 @@ impl<F: FileSys, D: Disk> Core<F, D> {
         hook: &H,
     ) -> Result<u32, NoMemory>
         requires phase { MayMeetFault (phase_now self.old) }
-        requires struck { (of : HasCall self.old caller) × (H.struck hook.now ≡ Some (record { caller = caller; ordinal = of.flight.ordinal; kind = kind; nth = nth })) }
-        ensures ok { OnOk result (OfFlight self.old caller (λ mine flight. self.new ≡ with_room (striking_again self.old caller flight.ordinal kind nth (H.strokes hook.now)) self.new)) }
+        requires struck { (of : HasCall self.old caller)
+            × (H.struck hook.now ≡ Some (record { caller = caller; ordinal = of.flight.ordinal; kind = kind; nth = nth })) }
+        ensures ok { OnOk result (OfFlight self.old caller (λ mine flight.
+            self.new ≡ with_room (striking_again self.old caller flight.ordinal kind nth (H.strokes hook.now)) self.new)) }
         ensures number { IfOk result (λ number. number ≡ length self.old.journal.records + 1) }
         ensures err { OnErr result (self.new ≡ with_room self.old self.new) }
         ensures right { Right D.told D.faults self.new }

@@ -47,12 +47,16 @@ pub record Leaves (old left : JournalRoom) (steps entries : ℕ) : Type 0 where
 
 -- ---- a call begins, enters, and gathers
 
+-- a call that began and did not enter yet
+abbrev pub first_flight : Call → ℕ → ℕ → Flight
+first_flight call ordinal moment = record { call = call; ordinal = ordinal; moment = moment; ticket = None; answered = false }
+
 -- a call begins: it has its ordinal and its moment, and waits
+abbrev pub begins_at : CallerState → Call → ℕ → CallerState
+begins_at mine call moment = record mine { begun = mine.begun + 1; flight = Some (first_flight call (mine.begun + 1) moment) }
+
 abbrev pub begins : ℕ → List CallerState → CallerState → Call → CallerState
-begins start callers mine call = record mine {
-  begun = mine.begun + 1;
-  flight = Some (record { call = call; ordinal = mine.begun + 1; moment = start + (begun callers + 1); ticket = None; answered = false });
-}
+begins start callers mine call = begins_at mine call (start + (begun callers + 1))
 
 abbrev pub beginning : {F D : Type 0} → CoreState F D → ℕ → CallerState → Call → CoreState F D
 beginning core caller mine call = at_caller core caller (begins core.config.start core.callers mine call)
@@ -113,13 +117,17 @@ logged_op (Some op) pick = (record { op = op; pick = pick }) ∷ []
 abbrev pub booked : JournalState → Entry → List Logged → Ticket → JournalState
 booked journal entry ops ticket = record journal { history = journal.history ++ entry ∷ []; oplog = journal.oplog ++ ops; trail = journal.trail ++ step.Logged ticket ∷ [] }
 
+-- the call in flight has its entry, whose reply is to be handed out; what it took is given back
+abbrev pub with_entry : CallerState → Flight → Reply → CallerState
+with_entry mine flight reply = record (taken_back mine) { flight = Some (record flight { answered = true }); answer = Some reply }
+
 -- the call has its entry; what it took is given back; the cache and the table of open files are those after the install
 abbrev pub logging : {F D : Type 0} → CoreState F D → CoreState F D → ℕ → CallerState → Flight → Ticket → Ready → CoreState F D
 logging core new caller mine flight ticket ready = record core {
   cache = record core.cache { current = new.cache.current; stamps = new.cache.stamps; pins = new.cache.pins; room = new.cache.room };
   tables = record core.tables { sessions = with_change core.tables.sessions caller ready.session; opens = new.tables.opens; stamp = new.tables.stamp };
   journal = booked core.journal (entry_for caller flight ready.pick ready.reply) (logged_op ready.op ready.pick) ticket;
-  callers = slice_set core.callers caller (record (taken_back mine) { flight = Some (record flight { answered = true }); answer = Some ready.reply });
+  callers = slice_set core.callers caller (with_entry mine flight ready.reply);
   floor = without caller core.floor;
 }
 

@@ -1,5 +1,6 @@
 -- What a checkpoint, a fault and each step of a recovery make of a core.
 use Rattle.std.specs.Prelude.{List, [], ◌∷◌, ◌++◌, ℕ, ◌+◌, false, length}
+use Rattle.mb_kinds.specs.declared.faults.FaultRecord.{FaultRecord}
 use Rattle.mb_kinds.specs.declared.faults.Kind.{Kind}
 use Rattle.mb_kinds.specs.declared.faults.Ticket.{Ticket}
 use Rattle.mb_edge.specs.Damage.{OpenCounts, damaged}
@@ -15,12 +16,16 @@ use Rattle.mb_core_spec.specs.declared.steps.Step.TheVariants as step
 
 -- ---- a checkpoint
 
+-- the log is empty after it, and says at how many entries it was taken
+abbrev pub checkpointed : JournalState → JournalState
+checkpointed journal = record (marked journal (step.Sealed (length journal.history))) { oplog = []; sealed_at = length journal.history }
+
 -- the current pages lie over the checkpointed ones, the sessions are saved, and the log is empty
 abbrev pub sealing : {F D : Type 0} → CoreState F D → PageList → CoreState F D
 sealing core sealed = record core {
   cache = record core.cache { sealed = sealed; current = [] };
   tables = record core.tables { saved = core.tables.sessions };
-  journal = record (marked core.journal (step.Sealed (length core.journal.history))) { oplog = []; sealed_at = length core.journal.history };
+  journal = checkpointed core.journal;
 }
 
 -- a checkpointed page is written back, or was tried
@@ -30,11 +35,11 @@ flushing core disk sealed = record core { cache = record core.cache { disk = dis
 -- ---- a fault
 
 -- its record, and the step of the trace
+abbrev pub with_fault : JournalState → FaultRecord → JournalState
+with_fault journal fault = record journal { records = journal.records ++ fault ∷ []; trail = journal.trail ++ step.Struck (length journal.records + 1) ∷ [] }
+
 abbrev pub recorded : JournalState → ℕ → ℕ → Kind → ℕ → JournalState
-recorded journal caller ordinal kind nth = record journal {
-  records = journal.records ++ (record { caller = caller; ordinal = ordinal; kind = kind; nth = nth }) ∷ [];
-  trail = journal.trail ++ step.Struck (length journal.records + 1) ∷ [];
-}
+recorded journal caller ordinal kind nth = with_fault journal (record { caller = caller; ordinal = ordinal; kind = kind; nth = nth })
 
 -- a fault on a running volume: it damages current pages and counts of open files
 abbrev pub striking : {F D : Type 0} → CoreState F D → Ticket → Kind → ℕ → List Stroke → CoreState F D

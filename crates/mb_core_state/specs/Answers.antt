@@ -45,6 +45,10 @@ with_disk core disk = record core { cache = record core.cache { disk = disk } }
 abbrev pub with_read : {F D : Type 0} → CoreState F D → CacheState D → CoreState F D
 with_read core cache = record core { cache = record core.cache { disk = cache.disk; room = cache.room } }
 
+-- the core after a caller gathered: other states, another cache's disk, pins and room
+abbrev pub after_gathering : {F D : Type 0} → CoreState F D → CoreState F D → CoreState F D
+after_gathering old new = record old { cache = record old.cache { disk = new.cache.disk; pins = new.cache.pins; room = new.cache.room }; callers = new.callers }
+
 -- a copy of the tables as they are
 abbrev pub live_copy : LiveTables → TableCopy
 live_copy live = record { sessions = live.sessions; opens = live.opens; stamp = live.stamp }

@@ -11,7 +11,7 @@ use Rattle.mb_tree.specs.declared.seats.Seat.{Seat}
 use Rattle.mb_journal.specs.Faults.{TellsTwice}
 use Rattle.mb_journal.specs.Room.{KeepsRoom}
 use Rattle.mb_core_spec.specs.Callers.{begun}
-use Rattle.mb_core_spec.specs.Events.{GivesBack, Leaves, answered_by, beginning, begins, ended, entering, with_room}
+use Rattle.mb_core_spec.specs.Events.{GivesBack, Leaves, answered_by, beginning, begins, ended, entering, first_flight, with_room}
 use Rattle.mb_core_spec.specs.State.{CallerState, CoreState, JournalRoom}
 use Rattle.mb_core_spec.specs.declared.stages.Stage.{Stage}
 use Rattle.mb_core_spec.specs.declared.stages.Stage.TheVariants as stage
@@ -26,7 +26,7 @@ begun_if start callers mine given None = begins start callers mine given
 begun_if start callers mine given (Some flight) = mine
 
 abbrev pub flight_if : ℕ → List CallerState → CallerState → Call → Option Flight → Flight
-flight_if start callers mine given None = record { call = given; ordinal = mine.begun + 1; moment = start + (begun callers + 1); ticket = None; answered = false }
+flight_if start callers mine given None = first_flight given (mine.begun + 1) (start + (begun callers + 1))
 flight_if start callers mine given (Some flight) = flight
 
 -- the caller with its call in flight
@@ -118,6 +118,11 @@ abbrev pub IsCause : {F D : Type 0} → CoreState F D → ℕ → ℕ → Reply 
 IsCause core caller ordinal (reply.Failed faults) = (core.stage ≡ stage.Failed) × (faults ≡ length core.journal.records)
 IsCause core caller ordinal (reply.Restart first second) = (core.stage ≡ stage.Running) × TellsTwice core.journal.records caller ordinal (Some (first, second))
 IsCause core caller ordinal _ = ⊥
+
+-- the first two faults of the call that a caller has in flight, or would begin
+abbrev pub TellsOwnFaults : {F D : Type 0} → CoreState F D → ℕ → Option (ℕ × ℕ) → Type 0
+TellsOwnFaults core caller found = (mine : CallerState) (given : Call) → slice_get core.callers caller ≡ Some mine
+    → TellsTwice core.journal.records caller (flight_of core mine given).ordinal found
 
 -- there is room for the entries of all calls in flight, and none is lost
 pub record HasAnswerRoom (old left : JournalRoom) : Type 0 where

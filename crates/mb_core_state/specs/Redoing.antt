@@ -29,6 +29,7 @@ use Rattle.mb_core_spec.specs.Histories.{picked_ops}
 use Rattle.mb_core_spec.specs.Numbers.{open_flight}
 use Rattle.mb_core_spec.specs.Recovery.{remounting, reopening, replaying, sealing}
 use Rattle.mb_core_spec.specs.State.{CallerState, CoreState}
+use Rattle.mb_core_spec.specs.declared.stages.Stage.TheVariants as stage
 use Rattle.mb_core_state.specs.Answers.{with_disk}
 
 -- ---- the disk fails in a step
@@ -47,9 +48,13 @@ abbrev pub EndsByDevice : {F D : Type 0} → CoreState F D → CoreState F D →
 EndsByDevice old new None = (new ≡ with_room old new) × KeepsRoom old.journal.room new.journal.room
 EndsByDevice old new (Some caller) = (mine : CallerState) → slice_get old.callers caller ≡ Some mine → EndsIf old new caller mine (open_flight mine.flight)
 
+-- nothing changed but the disk and room
+abbrev pub StaysBut : {F D : Type 0} → CoreState F D → CoreState F D → Type 0
+StaysBut old new = (new ≡ with_room (with_disk old new.cache.disk) new) × KeepsRoom old.journal.room new.journal.room
+
 -- the recovery stands where it stood; where the disk failed its count of faults rose
 abbrev pub FailsStep : {F D : Type 0} → (D → ℕ) → CoreState F D → CoreState F D → Option ℕ → ReadFault → Type 0
-FailsStep faults old new by fault.NoMemory = (new ≡ with_room (with_disk old new.cache.disk) new) × KeepsRoom old.journal.room new.journal.room
+FailsStep faults old new by fault.NoMemory = StaysBut old new
 FailsStep faults old new by fault.Device = Rose (faults old.cache.disk) (faults new.cache.disk) × EndsByDevice (with_disk old new.cache.disk) new by
 
 -- ---- the file system is started anew
@@ -86,6 +91,10 @@ pub record IsReplayed {F D : Type 0} (told : D → Option Image) (old new : Core
 -- of whichever operation of the log stands there
 abbrev pub IsReplayedFor : {F D : Type 0} → (D → Option Image) → CoreState F D → CoreState F D → ℕ → Type 0
 IsReplayedFor told old new done = (logged : Logged) → slice_get old.journal.oplog done ≡ Some logged → IsReplayed told old new done logged
+
+-- of the operation at which the recovery stands
+abbrev pub ReplaysNext : {F D : Type 0} → (D → Option Image) → CoreState F D → CoreState F D → Type 0
+ReplaysNext told old new = (done : ℕ) (logged : Logged) → old.stage ≡ stage.Restored done → slice_get old.journal.oplog done ≡ Some logged → IsReplayed told old new done logged
 
 abbrev pub IsRedoneFor : {F D : Type 0} → CoreState F D → CoreState F D → ℕ → ChangeList → Type 0
 IsRedoneFor old new done changes = (logged : Logged) → slice_get old.journal.oplog done ≡ Some logged → new ≡ with_room (redoing old logged changes done) new

@@ -3,17 +3,13 @@ use Rattle.std.specs.Prelude.{List, [], ℕ, ◌+◌, ◌≡◌, ◌≤◌, Some
 use Rattle.mb_edge.specs.Damage.{Volatile, damaged}
 use Rattle.mb_edge.specs.declared.strokes.Stroke.{Stroke}
 use Rattle.mb_cache.specs.Stamps.{stamp_of}
-use Rattle.mb_cache.specs.State.{CacheRoom, CacheState}
+pub use Rattle.mb_cache.specs.State.{fresh_cache}
 use Rattle.mb_core_spec.specs.Callers.{total}
 use Rattle.mb_core_spec.specs.Flights.{is_pin}
 use Rattle.mb_core_spec.specs.State.{CallerState, CoreState, JournalRoom}
 use Rattle.mb_journal.specs.Room.{KeepsRoom}
 use Rattle.mb_core_state.specs.declared.answers.Finished.{Finished}
 use Rattle.mb_core_state.specs.declared.answers.Finished.TheVariants as finished
-
--- a disk with no page and no pin, of which nothing was installed
-abbrev pub fresh_cache : {D : Type 0} → D → CacheRoom → CacheState D
-fresh_cache disk room = record { disk = disk; sealed = []; current = []; stamps = []; pins = []; room = room }
 
 -- the pins that a caller's steps took are there to be given back
 abbrev pub HasPins : {F D : Type 0} → CoreState F D → ℕ → Type 0
@@ -22,6 +18,13 @@ HasPins core caller = (mine : CallerState) (block : ℕ) → slice_get core.call
 -- what the strokes of a fault leave of the current pages and of the counts of open files
 abbrev pub damaged_both : {F D : Type 0} → CoreState F D → List Stroke → Volatile
 damaged_both core strokes = damaged (record { pages = core.cache.current; opens = core.tables.opens }) strokes
+
+-- a core after the strokes of a fault
+abbrev pub damaged_core : {F D : Type 0} → CoreState F D → List Stroke → CoreState F D
+damaged_core core strokes = record core {
+  cache = record core.cache { current = (damaged_both core strokes).pages };
+  tables = record core.tables { opens = (damaged_both core strokes).opens };
+}
 
 -- a call that is logged leaves the steps that the calls inside may come to, with a checkpoint's, and a fault record
 pub record LeavesEntry (old left : JournalRoom) : Type 0 where

@@ -1,5 +1,5 @@
 ghost use Rattle.std.specs.Prelude.{◌≡◌, IfOk};
-ghost use Rattle.mb_cache.specs.State.{ReadHasCause};
+ghost use Rattle.mb_cache.specs.State.{ReadHasCause, after_reads};
 ghost use Rattle.mb_core_state.specs.KeptBlocks.{AreSeen};
 ghost use Rattle.mb_core_state.specs.Redoing.{ActsSeen};
 
@@ -24,7 +24,7 @@ pub(crate) fn act_seen<F: FileSys, D: Disk>(
 ) -> Result<Changes, ReadFault>
     requires { AreSeen D.told cache.old blocks.old }
     ensures ok { IfOk result (λ changes. ActsSeen D.told cache.old opens.now op.now pick changes) }
-    ensures rest { cache.new ≡ record cache.old { disk = cache.new.disk; room = record cache.old.room { clean = cache.new.room.clean } } }
+    ensures rest { cache.new ≡ after_reads cache.old cache.new }
     ensures told { D.told cache.new.disk ≡ D.told cache.old.disk }
     ensures cause { ReadHasCause (D.faults cache.old.disk) (D.faults cache.new.disk) result }
     ensures seen { AreSeen D.told cache.new blocks.new }

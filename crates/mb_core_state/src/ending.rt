@@ -78,7 +78,8 @@ impl<F: FileSys, D: Disk> Fields<F, D> {
         requires caller { ticket.caller < length self.old.callers }
         requires pins { HasPins self.old ticket.caller }
         requires room { 0 < self.old.journal.room.trail }
-        ensures unwound { OfMine self.old ticket.caller (λ mine. GivesBackBy (unwinding self.old ticket.caller mine ticket) self.old self.new mine) }
+        ensures unwound { OfMine self.old ticket.caller (λ mine.
+            GivesBackBy (unwinding self.old ticket.caller mine ticket) self.old self.new mine) }
         ensures room { Leaves self.old.journal.room self.new.journal.room 1 0 }
     {
         self.callers.get_mut(ticket.caller).unwind(&mut self.cache);
@@ -92,7 +93,8 @@ impl<F: FileSys, D: Disk> Fields<F, D> {
         requires flight { HasMine self.old caller (λ mine. IsSome mine.flight) }
         requires pins { HasPins self.old caller }
         requires room { 0 < self.old.journal.room.history }
-        ensures answered { OfFlight self.old caller (λ mine flight. GivesBackBy (answered_by self.old caller mine flight answer) self.old self.new mine) }
+        ensures answered { OfFlight self.old caller (λ mine flight.
+            GivesBackBy (answered_by self.old caller mine flight answer) self.old self.new mine) }
         ensures disk { self.new.cache.disk ≡ self.old.cache.disk }
         ensures room { Leaves self.old.journal.room self.new.journal.room 0 1 }
     {

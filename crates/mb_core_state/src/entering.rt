@@ -3,10 +3,9 @@ ghost use Rattle.mb_kinds.specs.declared.calls.Call.{Call};
 ghost use Rattle.mb_core_spec.specs.Callers.{begun};
 ghost use Rattle.mb_core_spec.specs.Events.{Leaves, beginning, begins, with_room};
 ghost use Rattle.mb_core_spec.specs.State.{CallerState};
-ghost use Rattle.mb_journal.specs.Faults.{TellsTwice};
 ghost use Rattle.mb_journal.specs.Room.{HasEntryRoom, KeepsRoom};
 ghost use Rattle.mb_core_state.specs.Mine.{HasMine, OfFlight, OfMine};
-ghost use Rattle.mb_core_state.specs.Entering.{BeginsInside, ComesInside, GoesIn, GoesInside, HasEntry, HasTicketNow, IsGivenUp, IsShut, LacksEntry, LacksTicket, MayComeIn, flight_of, reserved_by, reserves, waiting, EntersFor};
+ghost use Rattle.mb_core_state.specs.Entering.{BeginsInside, ComesInside, GoesIn, GoesInside, HasEntry, HasTicketNow, IsGivenUp, IsShut, LacksEntry, LacksTicket, MayComeIn, TellsOwnFaults, flight_of, reserved_by, reserves, waiting, EntersFor};
 ghost use Rattle.mb_core_state.specs.Rooms.{HasPins};
 
 use crate::answers::Enter;
@@ -97,7 +96,8 @@ impl<F: FileSys, D: Disk> Fields<F, D> {
         requires few { length self.old.callers ≤ 8 }
         requires caller { HasMine self.old caller (λ mine. mine.begun < 4294967295) }
         requires moments { self.old.config.start + begun self.old.callers < 4294967295 }
-        ensures ok { OnOk result (OfMine self.old caller (λ mine. self.new ≡ with_room (beginning self.old caller mine call.now) self.new)) }
+        ensures ok { OnOk result (OfMine self.old caller (λ mine.
+            self.new ≡ with_room (beginning self.old caller mine call.now) self.new)) }
         ensures err { OnErr result (self.new ≡ with_room self.old self.new) }
         ensures room { OnOk result (8 ≤ self.new.journal.room.history) }
         ensures kept { KeepsRoom self.old.journal.room self.new.journal.room }
@@ -113,7 +113,8 @@ impl<F: FileSys, D: Disk> Fields<F, D> {
     fn wait(&mut self, alloc: Global, caller: u8, call: &Call) -> Result<(), NoMemory>
         requires few { length self.old.callers ≤ 8 }
         requires ready { HasMine self.old caller (λ mine. MayComeIn self.old mine) }
-        ensures ok { OnOk result (OfMine self.old caller (λ mine. self.new ≡ with_room (waiting self.old caller mine call.now) self.new)) }
+        ensures ok { OnOk result (OfMine self.old caller (λ mine.
+            self.new ≡ with_room (waiting self.old caller mine call.now) self.new)) }
         ensures err { OnErr result (self.new ≡ with_room self.old self.new) }
         ensures room { OnOk result (8 ≤ self.new.journal.room.history) }
         ensures kept { KeepsRoom self.old.journal.room self.new.journal.room }
@@ -138,7 +139,8 @@ impl<F: FileSys, D: Disk> Fields<F, D> {
         requires ready { HasMine self.old caller (λ mine. MayComeIn self.old mine) }
         requires pins { HasPins self.old caller }
         ensures ok { OnOk result (OfMine self.old caller (λ mine. IsGivenUp self.old self.new caller mine call.now answer)) }
-        ensures err { OnErr result ((self.new ≡ with_room self.old self.new) × KeepsRoom self.old.journal.room self.new.journal.room) }
+        ensures err { OnErr result ((self.new ≡ with_room self.old self.new)
+            × KeepsRoom self.old.journal.room self.new.journal.room) }
     {
         self.wait(alloc, caller, call)?;
         self.answer_by(caller, answer);
@@ -166,7 +168,9 @@ impl<F: FileSys, D: Disk> Fields<F, D> {
         requires flight { HasMine self.old caller (λ mine. IsSome mine.flight) }
         requires empty { OfMine self.old caller (λ mine. mine.undo ≡ []) }
         requires room { 0 < self.old.journal.room.trail }
-        ensures ok { IfOk result (λ ticket. OfFlight self.old caller (λ mine flight. GoesInside self.old self.new caller mine flight ticket reserved)) }
+        ensures ok { IfOk result (λ ticket.
+            OfFlight self.old caller (λ mine flight.
+            GoesInside self.old self.new caller mine flight ticket reserved)) }
         ensures err { OnErr result (self.new ≡ self.old) }
         ensures room { Leaves self.old.journal.room self.new.journal.room 1 0 }
     {
@@ -194,7 +198,9 @@ impl<F: FileSys, D: Disk> Fields<F, D> {
         requires moments { self.old.config.start + begun self.old.callers < 4294967295 }
         requires empty { OfMine self.old caller (λ mine. mine.undo ≡ []) }
         requires room { 0 < self.old.journal.room.trail }
-        ensures ok { IfOk result (λ ticket. OfMine self.old caller (λ mine. BeginsInside self.old self.new caller mine call ticket reserved)) }
+        ensures ok { IfOk result (λ ticket.
+            OfMine self.old caller (λ mine.
+            BeginsInside self.old self.new caller mine call ticket reserved)) }
         ensures err { OnErr result (self.new ≡ self.old) }
         ensures room { Leaves self.old.journal.room self.new.journal.room 1 0 }
     {
@@ -222,9 +228,12 @@ impl<F: FileSys, D: Disk> Fields<F, D> {
         reserved: Option<u16>,
     ) -> Result<Ticket, NoMemory>
         requires few { length self.old.callers ≤ 8 }
-        requires ready { (mine : CallerState) × (slice_get self.old.callers caller ≡ Some mine) × MayComeIn self.old mine × (mine.undo ≡ []) }
+        requires ready { (mine : CallerState) × (slice_get self.old.callers caller ≡ Some mine)
+            × MayComeIn self.old mine × (mine.undo ≡ []) }
         requires room { 0 < self.old.journal.room.trail }
-        ensures ok { IfOk result (λ ticket. OfMine self.old caller (λ mine. ComesInside self.old self.new caller mine call.now ticket reserved)) }
+        ensures ok { IfOk result (λ ticket.
+            OfMine self.old caller (λ mine.
+            ComesInside self.old self.new caller mine call.now ticket reserved)) }
         ensures err { OnErr result (self.new ≡ self.old) }
         ensures room { Leaves self.old.journal.room self.new.journal.room 1 0 }
     {
@@ -249,10 +258,13 @@ impl<F: FileSys, D: Disk> Fields<F, D> {
     /// error is want of memory, and nothing has changed then.
     fn go_in(&mut self, alloc: Global, caller: u8, call: &Call) -> Result<Ticket, NoMemory>
         requires few { length self.old.callers ≤ 8 }
-        requires ready { (mine : CallerState) × (slice_get self.old.callers caller ≡ Some mine) × MayComeIn self.old mine × (mine.undo ≡ []) }
+        requires ready { (mine : CallerState) × (slice_get self.old.callers caller ≡ Some mine)
+            × MayComeIn self.old mine × (mine.undo ≡ []) }
         requires seats { caller < length self.old.tables.sessions }
-        ensures ok { IfOk result (λ ticket. OfMine self.old caller (λ mine. GoesIn self.old self.new caller mine call.now ticket)) }
-        ensures err { OnErr result ((self.new ≡ with_room self.old self.new) × KeepsRoom self.old.journal.room self.new.journal.room) }
+        ensures ok { IfOk result (λ ticket.
+            OfMine self.old caller (λ mine. GoesIn self.old self.new caller mine call.now ticket)) }
+        ensures err { OnErr result ((self.new ≡ with_room self.old self.new)
+            × KeepsRoom self.old.journal.room self.new.journal.room) }
     {
         let reserved = self.reserved_by(caller, call);
         self.reserve_entry()?;
@@ -266,7 +278,8 @@ impl<F: FileSys, D: Disk> Fields<F, D> {
     /// The ordinal of a caller's call in flight, or of the one that it begins next.
     fn ordinal(&self, caller: u8) -> u32
         requires { HasMine self.now caller (λ mine. MayComeIn self.now mine) }
-        ensures { (mine : CallerState) (given : Call) → slice_get self.now.callers caller ≡ Some mine → result ≡ (flight_of self.now mine given).ordinal }
+        ensures { (mine : CallerState) (given : Call) → slice_get self.now.callers caller ≡ Some mine
+            → result ≡ (flight_of self.now mine given).ordinal }
     {
         let mine = self.callers.get(caller);
         match mine.flight() {
@@ -279,7 +292,7 @@ impl<F: FileSys, D: Disk> Fields<F, D> {
     fn own_faults(&self, caller: u8) -> Option<(u32, u32)>
         requires ready { HasMine self.now caller (λ mine. MayComeIn self.now mine) }
         requires records { length self.now.journal.records < 4294967296 }
-        ensures { (mine : CallerState) (given : Call) → slice_get self.now.callers caller ≡ Some mine → TellsTwice self.now.journal.records caller (flight_of self.now mine given).ordinal result }
+        ensures { TellsOwnFaults self.now caller result }
     {
         let ordinal = self.ordinal(caller);
         self.journal.own_faults(caller, ordinal)

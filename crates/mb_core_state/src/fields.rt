@@ -1,7 +1,6 @@
-ghost use Rattle.std.specs.Prelude.{◌≡◌, [], IfErr, IfOk, length, map, replicate};
+ghost use Rattle.std.specs.Prelude.{◌≡◌, [], IfErr, IfOk, length, replicate};
 ghost use Rattle.std.specs.FinMap as fin;
-ghost use Rattle.mb_tree.specs.Opening.{first_seat};
-ghost use Rattle.mb_core_spec.specs.Begun.{begun_core, idle};
+ghost use Rattle.mb_core_spec.specs.Begun.{begun_core, first_tables, idle};
 ghost use Rattle.mb_core_spec.specs.Events.{without};
 ghost use Rattle.mb_core_state.specs.Rooms.{fresh_cache};
 
@@ -69,7 +68,8 @@ impl<F: FileSys, D: Disk> Fields<F, D> {
     /// A core begins over a disk: no page and no pin, no call, the sessions of the declared callers as they begin, and no
     /// open file; no page is a clean one. The only error is want of memory, with the disk back.
     pub fn new(alloc: Global, fs: F, disk: D, config: Config) -> Result<Fields<F, D>, D>
-        ensures begun { IfOk result (λ core. core ≡ begun_core fs disk config (fresh_cache disk core.cache.room) fin.empty core.journal.room) }
+        ensures begun { IfOk result (λ core.
+            core ≡ begun_core fs disk config (fresh_cache disk core.cache.room) fin.empty core.journal.room) }
         ensures unread { IfOk result (λ core. core.cache.room.clean ≡ []) }
         ensures back { IfErr result (λ same. same ≡ disk) }
     {
@@ -107,7 +107,7 @@ impl<F: FileSys, D: Disk> Fields<F, D> {
 
 /// The tables, the callers' states and the rooms of their flights, of a core that begins.
 fn begun_parts(alloc: Global, creds: &Creds) -> Result<(Tables, Callers, FlightRooms), NoMemory>
-    ensures tables { IfOk result (λ parts. parts.0 ≡ record { sessions = map first_seat creds.now; saved = map first_seat creds.now; opens = fin.empty; stamp = 0 }) }
+    ensures tables { IfOk result (λ parts. parts.0 ≡ first_tables creds.now fin.empty) }
     ensures callers { IfOk result (λ parts. parts.1 ≡ replicate (length creds.now) idle) }
 {
     let tables = Tables::new(alloc, creds)?;

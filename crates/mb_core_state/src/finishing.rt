@@ -45,7 +45,8 @@ impl<F: FileSys, D: Disk> Fields<F, D> {
         requires seats { caller < length self.old.tables.sessions }
         requires session { HasDescriptorInRange ready.now.session }
         requires few { self.old.tables.stamp < 2 ^ 64 - 1 }
-        ensures ok { OnOk result (self.new ≡ with_room (putting self.old caller ready.now.op ready.now.pick ready.now.changes ready.now.session) self.new) }
+        ensures ok { OnOk result (self.new
+            ≡ with_room (putting self.old caller ready.now.op ready.now.pick ready.now.changes ready.now.session) self.new) }
         ensures entry { IfOk result (IsEntryFor self.old caller ready.now.pick ready.now.reply) }
         ensures err { OnErr result (self.new ≡ with_room self.old self.new) }
         ensures lists { OnOk result (HasEntryRoom self.new.journal.room) }
@@ -107,13 +108,17 @@ impl<F: FileSys, D: Disk> Fields<F, D> {
         requires seats { ticket.now.caller < length self.old.tables.sessions }
         requires session { HasDescriptorInRange ready.now.session }
         requires stamps { self.old.tables.stamp < 2 ^ 64 - 1 }
-        ensures err { (mine : CallerState) (flight : Flight) → slice_get self.old.callers ticket.now.caller ≡ Some mine → IfErr result (Finishes self.old self.new ticket.now mine flight pages.now ready.now) }
+        ensures err { (mine : CallerState) (flight : Flight)
+            → slice_get self.old.callers ticket.now.caller ≡ Some mine
+            → IfErr result (Finishes self.old self.new ticket.now mine flight pages.now ready.now) }
         ensures unlogged { IfErr result (λ answer. answer ≡ Finished.Logged → ⊥) }
         ensures left { IfErr result (FinishLeaves self.old.journal.room self.new.journal.room) }
         ensures present { OnOk result (IsPresent self.old ticket.now) }
         ensures mine { OnOk result (IsMine ticket.now.caller self.old.floor) }
-        ensures fresh { OfMine self.old ticket.now.caller (λ mine. OnOk result (AreFreshIn self.old ready.now.shared ticket.now.caller mine pages.now)) }
-        ensures put { OnOk result (self.new ≡ with_room (putting self.old ticket.now.caller ready.now.op ready.now.pick ready.now.changes ready.now.session) self.new) }
+        ensures fresh { OfMine self.old ticket.now.caller (λ mine.
+            OnOk result (AreFreshIn self.old ready.now.shared ticket.now.caller mine pages.now)) }
+        ensures put { OnOk result (self.new
+            ≡ with_room (putting self.old ticket.now.caller ready.now.op ready.now.pick ready.now.changes ready.now.session) self.new) }
         ensures entry { IfOk result (IsEntryFor self.old ticket.now.caller ready.now.pick ready.now.reply) }
         ensures lists { OnOk result (HasEntryRoom self.new.journal.room) }
         ensures changes { OnOk result (AreChanges ready.now.changes) }
@@ -160,7 +165,8 @@ impl<F: FileSys, D: Disk> Fields<F, D> {
         ensures ok { OnOk result (GathersAnew self.old self.new ticket.now block) }
         ensures err { OnErr result (self.new ≡ with_room self.old self.new) }
         ensures marks { OnOk result (10 ≤ self.new.journal.room.trail) }
-        ensures kept { (self.old.journal.room.history ≤ self.new.journal.room.history) × (self.old.journal.room.records ≤ self.new.journal.room.records) }
+        ensures kept { (self.old.journal.room.history ≤ self.new.journal.room.history)
+            × (self.old.journal.room.records ≤ self.new.journal.room.records) }
         ensures same { OnErr result (KeepsRoom self.old.journal.room self.new.journal.room) }
     {
         self.journal.reserve_steps(11)?;

@@ -2,7 +2,7 @@ ghost use Rattle.std.specs.Prelude.{◌≡◌, ◌<◌, ◌≤◌, length, OnOk,
 ghost use Rattle.mb_cache.specs.State.{ReadHasCause};
 ghost use Rattle.mb_core_spec.specs.Events.{Leaves};
 ghost use Rattle.mb_core_state.specs.Mine.{HasMine};
-ghost use Rattle.mb_core_state.specs.Answers.{GathersFor, KeepsGatheredFor};
+ghost use Rattle.mb_core_state.specs.Answers.{GathersFor, KeepsGatheredFor, after_gathering};
 ghost use Rattle.mb_core_state.specs.Rooms.{HasPins};
 
 use crate::answers::Gathered;
@@ -63,9 +63,10 @@ impl<F: FileSys, D: Disk> Fields<F, D> {
         requires caller { caller < length self.old.callers }
         requires first { need.first < 262144 }
         requires count { need.count ≤ 32 }
-        ensures rest { self.new ≡ record self.old { cache = record self.old.cache { disk = self.new.cache.disk; pins = self.new.cache.pins; room = self.new.cache.room }; callers = self.new.callers } }
+        ensures rest { self.new ≡ after_gathering self.old self.new }
         ensures ok { OnOk result (KeepsGatheredFor D.told self.old self.new caller need pages.old pages.new) }
-        ensures err { OnErr result ((self.new.callers ≡ self.old.callers) × (pages.new ≡ pages.old) × (self.new.cache.pins ≡ self.old.cache.pins)) }
+        ensures err { OnErr result ((self.new.callers ≡ self.old.callers) × (pages.new ≡ pages.old)
+            × (self.new.cache.pins ≡ self.old.cache.pins)) }
         ensures told { D.told self.new.cache.disk ≡ D.told self.old.cache.disk }
         ensures cause { ReadHasCause (D.faults self.old.cache.disk) (D.faults self.new.cache.disk) result }
     {

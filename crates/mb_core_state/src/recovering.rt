@@ -104,7 +104,8 @@ impl<F: FileSys, D: Disk> Fields<F, D> {
         ensures ok { OnOk result (SealsAll self.old self.new) }
         ensures err { OnErr result (self.new ≡ with_room self.old self.new) }
         ensures sure { 11 ≤ self.old.journal.room.trail → IsOk result }
-        ensures marks { OnOk result ((10 ≤ self.new.journal.room.trail) × (self.old.journal.room.records ≤ self.new.journal.room.records)) }
+        ensures marks { OnOk result ((10 ≤ self.new.journal.room.trail)
+            × (self.old.journal.room.records ≤ self.new.journal.room.records)) }
         ensures kept { OnErr result (KeepsRoom self.old.journal.room self.new.journal.room) }
         ensures room { self.old.journal.room.history ≤ self.new.journal.room.history }
     {

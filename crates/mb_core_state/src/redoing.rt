@@ -1,13 +1,12 @@
-ghost use Rattle.std.specs.Prelude.{◌≡◌, ◌<◌, ◌≤◌, ◌+◌, ℕ, true, false, None, Some, length, slice_get, OnOk, OnErr, IfOk, IfErr, IfSome, IsSome};
+ghost use Rattle.std.specs.Prelude.{◌≡◌, ◌<◌, ◌≤◌, ◌+◌, ℕ, true, false, None, Some, length, OnOk, OnErr, IfOk, IfErr, IfSome, IsSome};
 ghost use Rattle.mb_kinds.specs.Changed.{AreChanges};
-ghost use Rattle.mb_oplog.specs.declared.oplogs.Logged.{Logged};
 ghost use Rattle.mb_cache.specs.State.{ReadHasCause};
 ghost use Rattle.mb_journal.specs.Room.{KeepsRoom};
 ghost use Rattle.mb_core_spec.specs.Events.{Leaves, with_room};
 ghost use Rattle.mb_core_spec.specs.Numbers.{open_flight};
 ghost use Rattle.mb_core_state.specs.Mine.{HasMine, OfMine};
 ghost use Rattle.mb_core_state.specs.Answers.{with_disk, with_read};
-ghost use Rattle.mb_core_state.specs.Redoing.{EndsByDevice, FailsStep, HasOpenRoom, IsRemounted, IsReplayed, ActsSeenFor, IsRedoneFor, IsReplayedFor};
+ghost use Rattle.mb_core_state.specs.Redoing.{EndsByDevice, FailsStep, HasOpenRoom, IsRemounted, ReplaysNext, StaysBut, ActsSeenFor, IsRedoneFor, IsReplayedFor};
 ghost use Rattle.mb_core_state.specs.Rooms.{HasPins};
 
 use crate::acting::act_seen;
@@ -62,7 +61,7 @@ impl<F: FileSys, D: Disk> Fields<F, D> {
     fn start_anew(&mut self, alloc: Global) -> Result<(), ReadFault>
         requires { length self.old.journal.oplog < 4294967296 }
         ensures ok { OnOk result (IsRemounted self.old self.new) }
-        ensures err { OnErr result ((self.new ≡ with_room (with_disk self.old self.new.cache.disk) self.new) × KeepsRoom self.old.journal.room self.new.journal.room) }
+        ensures err { OnErr result (StaysBut self.old self.new) }
         ensures told { D.told self.new.cache.disk ≡ D.told self.old.cache.disk }
         ensures cause { ReadHasCause (D.faults self.old.cache.disk) (D.faults self.new.cache.disk) result }
         ensures room { self.old.journal.room.history ≤ self.new.journal.room.history }
@@ -170,7 +169,8 @@ impl<F: FileSys, D: Disk> Fields<F, D> {
         requires last { done < 4294967295 }
         ensures ok { OnOk result (IsRedoneFor self.old self.new done changes.now) }
         ensures are { OnOk result (AreChanges changes.now) }
-        ensures err { OnErr result ((self.new ≡ with_room self.old self.new) × KeepsRoom self.old.journal.room self.new.journal.room) }
+        ensures err { OnErr result ((self.new ≡ with_room self.old self.new)
+            × KeepsRoom self.old.journal.room self.new.journal.room) }
         ensures disk { self.new.cache.disk ≡ self.old.cache.disk }
         ensures room { self.old.journal.room.history ≤ self.new.journal.room.history }
     {
@@ -185,7 +185,7 @@ impl<F: FileSys, D: Disk> Fields<F, D> {
         requires done { done < length self.old.journal.oplog }
         requires last { done < 4294967295 }
         ensures ok { OnOk result (IsReplayedFor D.told self.old self.new done) }
-        ensures err { OnErr result ((self.new ≡ with_room (with_disk self.old self.new.cache.disk) self.new) × KeepsRoom self.old.journal.room self.new.journal.room) }
+        ensures err { OnErr result (StaysBut self.old self.new) }
         ensures told { D.told self.new.cache.disk ≡ D.told self.old.cache.disk }
         ensures cause { ReadHasCause (D.faults self.old.cache.disk) (D.faults self.new.cache.disk) result }
         ensures room { self.old.journal.room.history ≤ self.new.journal.room.history }
@@ -204,7 +204,7 @@ impl<F: FileSys, D: Disk> Fields<F, D> {
         requires caller { IfSome by (λ caller. caller < length self.old.callers) }
         requires pins { IfSome by (HasPins self.old) }
         requires room { IfSome by (HasOpenRoom self.old) }
-        ensures ok { OnOk result ((done : ℕ) (logged : Logged) → self.old.stage ≡ Stage.Restored done → slice_get self.old.journal.oplog done ≡ Some logged → IsReplayed D.told self.old self.new done logged) }
+        ensures ok { OnOk result (ReplaysNext D.told self.old self.new) }
         ensures err { IfErr result (FailsStep D.faults self.old self.new by) }
         ensures told { D.told self.new.cache.disk ≡ D.told self.old.cache.disk }
         ensures later { D.faults self.old.cache.disk ≤ D.faults self.new.cache.disk }

@@ -2,7 +2,7 @@ ghost use Rattle.std.specs.Prelude.{◌≡◌, ◌<◌, ◌≤◌, ◌+◌, leng
 ghost use Rattle.mb_core_spec.specs.Recovery.{recorded, striking_again};
 ghost use Rattle.mb_journal.specs.Room.{LeavesFault};
 ghost use Rattle.mb_core_state.specs.Answers.{IsPresent, Strikes};
-ghost use Rattle.mb_core_state.specs.Rooms.{damaged_both};
+ghost use Rattle.mb_core_state.specs.Rooms.{damaged_core};
 ghost use Rattle.mb_core_spec.specs.Events.{with_room};
 
 use crate::answers::Fault;
@@ -72,7 +72,9 @@ impl<F: FileSys, D: Disk> Fields<F, D> {
         requires records { 0 < self.old.journal.room.records }
         requires trail { 0 < self.old.journal.room.trail }
         requires few { length self.old.journal.records < 4294967295 }
-        ensures recorded { self.new ≡ record self.old { cache = record self.old.cache { current = (damaged_both self.old damage.now).pages }; tables = record self.old.tables { opens = (damaged_both self.old damage.now).opens }; journal = record (recorded self.old.journal caller ordinal kind nth) { room = self.new.journal.room } } }
+        ensures recorded { self.new ≡ record (damaged_core self.old damage.now) {
+          journal = record (recorded self.old.journal caller ordinal kind nth) { room = self.new.journal.room };
+        } }
         ensures number { result ≡ length self.old.journal.records + 1 }
         ensures room { LeavesFault self.old.journal.room self.new.journal.room }
     {
@@ -88,7 +90,7 @@ impl<F: FileSys, D: Disk> Fields<F, D> {
     /// The strokes of a fault are done to the current pages and to the counts of open files.
     #[tactic(auto, using(crate::proofs::Kept::none_seen))]
     fn damage(&mut self, damage: &Damage)
-        ensures { self.new ≡ record self.old { cache = record self.old.cache { current = (damaged_both self.old damage.now).pages }; tables = record self.old.tables { opens = (damaged_both self.old damage.now).opens } } }
+        ensures { self.new ≡ damaged_core self.old damage.now }
     {
         damage_of_pages();
         damage_of_counts();

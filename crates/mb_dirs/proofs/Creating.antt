@@ -20,7 +20,7 @@ use Rattle.mb_moves.proofs.InARow.{changed_in_turn, near_before, nothing_changed
 use Rattle.mb_moves.proofs.Trees.{refused_more}
 use Rattle.mb_dirs.specs.Choosing.{Chooses, IsChoice}
 use Rattle.mb_dirs.specs.Creating.{MakesIn, with_new}
-use Rattle.mb_dirs.specs.Entering.{Enters, IsGap, named_node}
+use Rattle.mb_dirs.specs.Entering.{EntersName, IsGap, named_node}
 use Rattle.mb_dirs.specs.Steps.{IsLookedThrough, IsNearFirst, IsUnusedIn, OnUnused}
 use Rattle.mb_dirs.specs.declared.choices.Chosen.TheVariants as chosen
 use Rattle.mb_dirs.specs.declared.enters.Entered.TheVariants as entered
@@ -83,7 +83,7 @@ module _ (shown : ℕ → Option (List ℕ)) (old mid : ChangeList) (dir links m
     still_free : (tree : Tree) (looks : ℕ → Bool) (node : Node) (slots : List PlainSlot) → IsLookedThrough tree looks dir node slots → IsFreeNumber tree ino → fin.get (fin.insert tree.nodes dir (named node)) ino ≡ None
     still_free tree looks node slots look free = get_there tree.nodes dir (named node) ino (apart tree looks node slots look free) ∙ free.unused
 
-    pub no_room : (then now : ChangeList) → Enters shown mid then dir links moment gap name ino entered.NoneLeft → MakesIn shown old now dir links moment gap name made demanded chosen.NoneLeft
+    pub no_room : (then now : ChangeList) → EntersName shown mid then dir links moment gap name ino entered.NoneLeft → MakesIn shown old now dir links moment gap name made demanded chosen.NoneLeft
     no_room then now enters = λ image tree chain part stored looks node slots look stands free.
         (let got = has_chosen image tree chain part stored looks free in
         let short = enters image tree got.step.0 part got.step.1.follows.stored looks node slots look stands in
@@ -93,7 +93,7 @@ module _ (shown : ℕ → Option (List ℕ)) (old mid : ChangeList) (dir links m
           full = refused_more tree (fin.insert tree.nodes dir (named node)) ino (made ino) (still_free tree looks node slots look got.free) short;
         })
 
-    pub name_asked : (then now : ChangeList) (need : Need) → Enters shown mid then dir links moment gap name ino (entered.Need need) → MakesIn shown old now dir links moment gap name made demanded (chosen.Need need)
+    pub name_asked : (then now : ChangeList) (need : Need) → EntersName shown mid then dir links moment gap name ino (entered.Need need) → MakesIn shown old now dir links moment gap name made demanded (chosen.Need need)
     name_asked then now need enters = (
       enters.0,
       λ image tree chain part stored looks node slots look stands free.
@@ -102,7 +102,7 @@ module _ (shown : ℕ → Option (List ℕ)) (old mid : ChangeList) (dir links m
           (enters.1 image tree got.step.0 part got.step.1.follows.stored looks node slots look stands)),
     )
 
-    module _ (then : ChangeList) (enters : Enters shown mid then dir links moment gap name ino entered.Done) where
+    module _ (then : ChangeList) (enters : EntersName shown mid then dir links moment gap name ino entered.Done) where
       both : (image : Image) (tree : Tree) (chain : List ℕ) → IsPart shown image.at → IsStored (with_changes image old) tree chain → (looks : ℕ → Bool) (node : Node) (slots : List PlainSlot)
           → IsLookedThrough tree looks dir node slots → IsGap slots gap → IfSome demanded (IsFreeNumber tree) → AdvancesTo image tree looks old then (with_node tree dir (named node))
       both image tree chain part stored looks node slots look stands free =

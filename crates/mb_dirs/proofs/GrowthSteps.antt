@@ -19,8 +19,8 @@ use Rattle.mb_nodes.specs.Bodies.{IsSlotSet}
 use Rattle.mb_moves.specs.Advancing.{IsNearTo}
 use Rattle.mb_moves.specs.Looking.{looked_at}
 use Rattle.mb_moves.proofs.Asking.{reaching_near, ready_for}
-use Rattle.mb_dirs.specs.Growth.{Grows, longer_inode}
-use Rattle.mb_dirs.specs.Rewriting.{Rewrites}
+use Rattle.mb_dirs.specs.Growth.{EntersBehind, longer_inode}
+use Rattle.mb_dirs.specs.Rewriting.{RewritesInode}
 use Rattle.mb_dirs.specs.SlotBlocks.{PutsSlot}
 use Rattle.mb_dirs.specs.declared.enters.Entered.TheVariants as entered
 use Rattle.mb_dirs.specs.declared.steps.Advanced.TheVariants as advanced
@@ -36,17 +36,17 @@ module _ (shown : ℕ → Option (List ℕ)) (old : ChangeList) (dir links momen
   abbrev place : ℕ
   place = d.size / 16 % 32
 
-  pub too_long : (new : ChangeList) → 2113674 ≤ next → Grows shown old new dir links moment name ino entered.NoneLeft
+  pub too_long : (new : ChangeList) → 2113674 ≤ next → EntersBehind shown old new dir links moment name ino entered.NoneLeft
   too_long new far = λ image tree chain part stored looks node slots look none.
       (let b = part_below (with_changes image old) tree chain looks stored dir node slots look none d (reads image.at part) links moment name ino in absurd (omega (arith, b, far)))
 
-  pub no_room : (new : ChangeList) → ReachesPart shown old new dir next reached.NoneLeft → Grows shown old new dir links moment name ino entered.NoneLeft
+  pub no_room : (new : ChangeList) → ReachesPart shown old new dir next reached.NoneLeft → EntersBehind shown old new dir links moment name ino entered.NoneLeft
   no_room new reach = λ image tree chain part stored looks node slots look none.
       (let blocks = with_changes image old in
       growth_refused blocks tree chain looks stored dir node slots look none d (reads image.at part) links moment name ino
       (reach image.at (has_addresses tree) chain part (ready_for blocks tree chain stored dir node look.has (on blocks tree chain looks stored dir node slots look)).0))
 
-  pub way_asked : (new : ChangeList) (need : Need) → ReachesPart shown old new dir next (reached.Need need) → Grows shown old new dir links moment name ino (entered.Need need)
+  pub way_asked : (new : ChangeList) (need : Need) → ReachesPart shown old new dir next (reached.Need need) → EntersBehind shown old new dir links moment name ino (entered.Need need)
   way_asked new need reach = (
     reach.0,
     λ image tree chain part stored looks node slots look none.
@@ -57,7 +57,7 @@ module _ (shown : ℕ → Option (List ℕ)) (old : ChangeList) (dir links momen
   )
 
   module _ (mid : ChangeList) (block : ℕ) (reach : ReachesPart shown old mid dir next (reached.At block)) where
-    pub out_of_range : (new : ChangeList) → (block ≡ 0) ⊎ (262144 ≤ block) → Grows shown old new dir links moment name ino entered.NoneLeft
+    pub out_of_range : (new : ChangeList) → (block ≡ 0) ⊎ (262144 ≤ block) → EntersBehind shown old new dir links moment name ino entered.NoneLeft
     out_of_range new off = λ image tree chain part stored looks node slots look none.
         (let blocks = with_changes image old in
         let way = reach.1 image.at (looked_at tree looks) chain part ((ready_for blocks tree chain stored dir node look.has (on blocks tree chain looks stored dir node slots look)).1 looks look.looked_at) in
@@ -66,7 +66,7 @@ module _ (shown : ℕ → Option (List ℕ)) (old : ChangeList) (dir links momen
         (midway blocks tree chain looks stored dir node slots look none d (reads image.at part) links moment name ino) b way.0 block way.1 in
         absurd (elim off [ inl zero_block ↦ omega (arith, zero_block, range.0) | inr far ↦ omega (arith, far, range.1) ]))
 
-    pub block_asked : (new : ChangeList) (need : Need) → IsNeed shown need → need.first ≡ block → Grows shown old new dir links moment name ino (entered.Need need)
+    pub block_asked : (new : ChangeList) (need : Need) → IsNeed shown need → need.first ≡ block → EntersBehind shown old new dir links moment name ino (entered.Need need)
     block_asked new need asks is = (
       asks,
       λ image tree chain part stored looks node slots look none.
@@ -79,8 +79,8 @@ module _ (shown : ℕ → Option (List ℕ)) (old : ChangeList) (dir links momen
           (midway blocks tree chain looks stored dir node slots look none d (reads image.at part) links moment name ino) b way.0 block way.1 chain stored inside.0 inside.1)),
     )
 
-    pub all_done : (then new : ChangeList) → PutsSlot shown mid then block place name ino edited.Done → Rewrites shown then new dir (longer_inode d links moment) advanced.Done
-        → Grows shown old new dir links moment name ino entered.Done
+    pub all_done : (then new : ChangeList) → PutsSlot shown mid then block place name ino edited.Done → RewritesInode shown then new dir (longer_inode d links moment) advanced.Done
+        → EntersBehind shown old new dir links moment name ino entered.Done
     all_done then new puts writes = (
       λ inside. writes.0 (puts.0 (reach.0 inside)),
       λ image tree chain part stored looks node slots look none.

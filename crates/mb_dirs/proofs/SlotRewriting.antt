@@ -20,7 +20,7 @@ use Rattle.mb_nodes.proofs.NodeParts.{node_stored}
 use Rattle.mb_moves.specs.Advancing.{AdvancesTo}
 use Rattle.mb_moves.proofs.InARow.{changed_in_turn, near_before}
 use Rattle.mb_moves.proofs.Trees.{put_twice}
-use Rattle.mb_dirs.specs.Entering.{ChangesDirectory, ClearsSlot, Enters, RewritesSlot, SetsSlot, IsGap, named_node, unnamed_node}
+use Rattle.mb_dirs.specs.Entering.{ChangesDirectory, ClearsSlot, EntersName, RewritesSlot, SetsSlot, IsGap, named_node, unnamed_node}
 use Rattle.mb_dirs.specs.Fields.{SetsFields, with_fields}
 use Rattle.mb_dirs.specs.Steps.{IsLookedThrough}
 use Rattle.mb_dirs.specs.declared.enters.Entered.TheVariants as entered
@@ -115,8 +115,8 @@ entered_at shown old new dir links moment at name ino result does =
     does
 
 module _ (shown : ℕ → Option (List ℕ)) (old new : ChangeList) (dir links moment at : ℕ) (name : List ℕ) (ino : ℕ) (place : Gap) (is : place ≡ gap.At at) where
-  pub enters_done : RewritesSlot shown old new dir links moment at name ino advanced.Done → Enters shown old new dir links moment place name ino entered.Done
-  enters_done does = subst (λ p. Enters shown old new dir links moment p name ino entered.Done) (sym is) (entered_at shown old new dir links moment at name ino advanced.Done does)
+  pub enters_done : RewritesSlot shown old new dir links moment at name ino advanced.Done → EntersName shown old new dir links moment place name ino entered.Done
+  enters_done does = subst (λ p. EntersName shown old new dir links moment p name ino entered.Done) (sym is) (entered_at shown old new dir links moment at name ino advanced.Done does)
 
-  pub enters_need : (need : Need) → RewritesSlot shown old new dir links moment at name ino (advanced.Need need) → Enters shown old new dir links moment place name ino (entered.Need need)
-  enters_need need does = subst (λ p. Enters shown old new dir links moment p name ino (entered.Need need)) (sym is) (entered_at shown old new dir links moment at name ino (advanced.Need need) does)
+  pub enters_need : (need : Need) → RewritesSlot shown old new dir links moment at name ino (advanced.Need need) → EntersName shown old new dir links moment place name ino (entered.Need need)
+  enters_need need does = subst (λ p. EntersName shown old new dir links moment p name ino (entered.Need need)) (sym is) (entered_at shown old new dir links moment at name ino (advanced.Need need) does)

@@ -54,10 +54,10 @@ ClearsSlot shown old new dir links moment at name result =
     ChangesDirectory shown old new dir (λ slots. position (is_named name) slots ≡ Some at) (λ node slots. unnamed_node links moment name node) result
 
 -- a name entered at its place
-abbrev pub Enters : (ℕ → Option (List ℕ)) → ChangeList → ChangeList → ℕ → ℕ → ℕ → Gap → List ℕ → ℕ → Entered → Type 0
-Enters shown old new dir links moment place name ino entered.Done = (IsWithinView shown old → IsWithinView shown new)
+abbrev pub EntersName : (ℕ → Option (List ℕ)) → ChangeList → ChangeList → ℕ → ℕ → ℕ → Gap → List ℕ → ℕ → Entered → Type 0
+EntersName shown old new dir links moment place name ino entered.Done = (IsWithinView shown old → IsWithinView shown new)
     × OnSlots shown old dir (λ image tree looks node slots. IsGap slots place → AdvancesTo image tree looks old new (with_node tree dir (named_node links moment name ino node)))
-Enters shown old new dir links moment place name ino entered.NoneLeft =
+EntersName shown old new dir links moment place name ino entered.NoneLeft =
     OnSlots shown old dir (λ image tree looks node slots. IsGap slots place → fitting tree (fin.insert tree.nodes dir (named_node links moment name ino node)) ≡ Err ENOSPC)
-Enters shown old new dir links moment place name ino (entered.Need need) = IsNeed shown need × OnSlots shown old dir (λ image tree looks node slots. IsGap slots place → IsNearFirst old need.first image tree looks)
-Enters shown old new dir links moment place name ino entered.NoMemory = Unit {0}
+EntersName shown old new dir links moment place name ino (entered.Need need) = IsNeed shown need × OnSlots shown old dir (λ image tree looks node slots. IsGap slots place → IsNearFirst old need.first image tree looks)
+EntersName shown old new dir links moment place name ino entered.NoMemory = Unit {0}

@@ -24,8 +24,8 @@ WritesWith area shown old new ino d advanced.Done = (IsWithinView shown old → 
 WritesWith area shown old new ino d (advanced.Need need) = IsNeed shown need × (need.first ≡ inode_block ino)
 WritesWith area shown old new ino d advanced.NoMemory = Unit {0}
 
-abbrev pub Rewrites : (ℕ → Option (List ℕ)) → ChangeList → ChangeList → ℕ → Dinode → Advanced → Type 0
-Rewrites shown old new ino d result = WritesWith (λ area. area) shown old new ino d result
+abbrev pub RewritesInode : (ℕ → Option (List ℕ)) → ChangeList → ChangeList → ℕ → Dinode → Advanced → Type 0
+RewritesInode shown old new ino d result = WritesWith (λ area. area) shown old new ino d result
 
 abbrev pub WritesBlank : (ℕ → Option (List ℕ)) → ChangeList → ChangeList → ℕ → Dinode → Advanced → Type 0
 WritesBlank shown old new ino d result = WritesWith blank_area shown old new ino d result

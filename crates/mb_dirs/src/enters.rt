@@ -1,4 +1,4 @@
-ghost use Rattle.mb_dirs.specs.Entering.{ClearsSlot, Enters, RewritesSlot};
+ghost use Rattle.mb_dirs.specs.Entering.{ClearsSlot, EntersName, RewritesSlot};
 
 use crate::fields::{FieldChange, set_fields};
 use crate::grows::grow;
@@ -29,7 +29,7 @@ pub enum Entered {
     NoMemory,
 }
 
-/// Enters a name of an inode in a directory (V7 dir(5)): in its first empty slot, or behind its slots,
+/// EntersName a name of an inode in a directory (V7 dir(5)): in its first empty slot, or behind its slots,
 /// where it grows by one, with a block of its own where the last one is full. The directory's link
 /// count becomes `links`, and its mtime and ctime `moment`.
 pub fn enter<V: View>(
@@ -42,7 +42,7 @@ pub fn enter<V: View>(
     name: &Name,
     ino: u16,
 ) -> Entered
-    ensures { Enters (V.shown view.now) changes.old changes.new dir links moment gap name.now ino result }
+    ensures { EntersName (V.shown view.now) changes.old changes.new dir links moment gap name.now ino result }
 {
     let at = match gap {
         Gap::At(at) => at,

@@ -1,4 +1,4 @@
-ghost use Rattle.mb_dirs.specs.Growth.{Grows, longer_inode};
+ghost use Rattle.mb_dirs.specs.Growth.{EntersBehind, longer_inode};
 ghost use Rattle.std.specs.Prelude.{◌≡◌, ◌<◌};
 
 use crate::enters::Entered;
@@ -21,7 +21,7 @@ pub(crate) fn grow<V: View>(
     name: &Name,
     ino: u16,
 ) -> Entered
-    ensures { Grows (V.shown view.now) changes.old changes.new dir links moment name.now ino result }
+    ensures { EntersBehind (V.shown view.now) changes.old changes.new dir links moment name.now ino result }
 {
     let inode = match read_inode(view, changes, dir) {
         Inode::Here(inode) => inode,

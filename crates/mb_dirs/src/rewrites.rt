@@ -1,4 +1,4 @@
-ghost use Rattle.mb_dirs.specs.Rewriting.{Rewrites, WritesBlank};
+ghost use Rattle.mb_dirs.specs.Rewriting.{RewritesInode, WritesBlank};
 
 use crate::steps::Advanced;
 use mb_iface::{Changes, Edited, Need, View};
@@ -12,7 +12,7 @@ pub(crate) fn rewrite<V: View>(
     ino: u16,
     fields: &Dinode,
 ) -> Advanced
-    ensures { Rewrites (V.shown view.now) changes.old changes.new ino fields.now result }
+    ensures { RewritesInode (V.shown view.now) changes.old changes.new ino fields.now result }
 {
     let now = match read_inode(view, changes, ino) {
         Inode::Here(now) => now,

@@ -12,7 +12,7 @@ use Rattle.mb_tree.specs.Chain.{Listed}
 use Rattle.mb_kinds.specs.Changed.{put_block}
 use Rattle.mb_iface.proofs.ChangedBlocks.{put_block_same, put_block_other}
 use Rattle.mb_blocks.specs.FreeLists.{IsSameList, pushed, ended, emptied, after_freeing}
-use Rattle.mb_file.specs.Freeing.{Hangs, HangsEach, MovesList}
+use Rattle.mb_file.specs.Freeing.{HangsOne, HangsEach, MovesList}
 
 -- the list that a super-block's bytes hold
 abbrev listed_in : List ℕ → Listed
@@ -108,7 +108,7 @@ module _ (first ready one two : List ℕ) (count block : ℕ) (is : IsReady firs
       pushed_same (listed_in two) (record { count = count; entry = free_of ready }) (before_it (listed_in first)) block is.listed count_now (last_now small)
       (λ k below. long_at-same two ready (8 + 4 * k) (off_both (8 + 4 * k) 4 (inr (omega arith)) (inl (omega (arith, below)))))
 
-  pub hung : Hangs first two block
+  pub hung : HangsOne first two block
   hung blocks here keeps real small =
       let new = put_block blocks 1 two in
       let now : put_block blocks 1 two 1 ≡ two = put_block_same blocks 1 two in
@@ -155,8 +155,8 @@ count_over b w l v q long two too behind fits =
     put_at_kept (put_at (put_at b 6 w) q l) 6 v k (omega (arith, n2, too)) away ∙ off_count k apart))
     (λ k within. put_at_in (put_at (put_at b 6 w) q l) 6 v k (omega (arith, n2, too)) within)
 
-each_more : (first mid after : List ℕ) (xs : List ℕ) (block : ℕ) → HangsEach first mid xs → nfree_of mid ≤ 50 → Hangs mid after block → nfree_of after ≤ 50 → HangsEach first after (xs ++ block ∷ [])
-each_more first mid after [] block none few hangs full = (after, subst (λ b. Hangs b after block) none hangs, full, refl)
+each_more : (first mid after : List ℕ) (xs : List ℕ) (block : ℕ) → HangsEach first mid xs → nfree_of mid ≤ 50 → HangsOne mid after block → nfree_of after ≤ 50 → HangsEach first after (xs ++ block ∷ [])
+each_more first mid after [] block none few hangs full = (after, subst (λ b. HangsOne b after block) none hangs, full, refl)
 each_more first mid after (x ∷ xs) block (between, one, room, more) few hangs full = (between, one, room, each_more between mid after xs block more few hangs full)
 
 abbrev counted : List ℕ → ℕ → List ℕ
@@ -177,9 +177,9 @@ module _ (first blocks : List ℕ) (held : ℕ) (long : length first ≡ 512) (r
     after_long = (let l = length-long_bytes block in let s = was.sized in ap length wrote ∙ length-put_at b (8 + 4 * (held + count)) (long_bytes block) (omega (arith, s, l, room)) ∙ s)
 
     -- a step from bytes whose count is right
-    step : (now : List ℕ) → length now ≡ 512 → held + count ≡ nfree_of now → counted (put_at now (8 + 4 * (held + count)) (long_bytes block)) (held + count + 1) ≡ counted after (held + count + 1) → Hangs now (counted after (held + count + 1)) block
+    step : (now : List ℕ) → length now ≡ 512 → held + count ≡ nfree_of now → counted (put_at now (8 + 4 * (held + count)) (long_bytes block)) (held + count + 1) ≡ counted after (held + count + 1) → HangsOne now (counted after (held + count + 1)) block
     step now wide right same =
-        subst (λ two. Hangs now two block) same
+        subst (λ two. HangsOne now two block) same
         (hung now now (put_at now (8 + 4 * (held + count)) (long_bytes block)) (counted (put_at now (8 + 4 * (held + count)) (long_bytes block)) (held + count + 1)) (held + count) block
         (ready_some now (held + count) (held + count) wide right (omega (arith, filled)) (omega (arith, filled))) (omega (arith, right, room)) room refl refl)
 

@@ -21,7 +21,7 @@ use Rattle.mb_iface.proofs.ChangedBlocks.{over_put, put_block_same, put_block_ot
 use Rattle.mb_iface.proofs.WithinViews.{found_within, within_put}
 use Rattle.mb_alloc.specs.declared.frees.Hung.TheVariants as hung
 use Rattle.mb_alloc.proofs.Takings.{too_many}
-use Rattle.mb_file.specs.Freeing.{AreInHand, Hangs, HangsEach, MovesList, PutsBack, PutsAllBack}
+use Rattle.mb_file.specs.Freeing.{AreInHand, HangsOne, HangsEach, MovesList, PutsBack, PutsAllBack}
 
 -- one block more put back behind others
 freed_more : (old mid new : ℕ → List ℕ) (xs : List ℕ) (block : ℕ) → AreFreed old mid xs → IsFreed mid new block → AreFreed old new (xs ++ block ∷ [])
@@ -98,7 +98,7 @@ shown_still None s some = some
 shown_still (Some bytes) s some = refl
 
 module _ (shown : ℕ → Option (List ℕ)) (old : ChangeList) (first after : List ℕ) (block : ℕ) where
-  pub back_hung : Hangs first after block → PutsBack shown old old first after block hung.Done
+  pub back_hung : HangsOne first after block → PutsBack shown old old first after block hung.Done
   back_hung hangs = (
     λ w. w,
     λ blocks part keeps real small.

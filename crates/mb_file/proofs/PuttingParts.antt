@@ -40,7 +40,7 @@ use Rattle.mb_moves.proofs.InARow.{nothing_done, one_after_another}
 use Rattle.mb_moves.proofs.Setting.{put_advances}
 use Rattle.mb_moves.proofs.Trees.{put_same, put_twice}
 use Rattle.mb_file.specs.Clearing.{IsFileAt}
-use Rattle.mb_file.specs.Putting.{IsRefusedWith, PutsPart, with_parts}
+use Rattle.mb_file.specs.Putting.{IsRefusedByParts, PutsPart, with_parts}
 use Rattle.mb_file.specs.declared.puts.Written.TheVariants as written
 use Rattle.mb_file.proofs.Holding.{its_inode, its_number}
 
@@ -186,14 +186,14 @@ module _ (image : Image) (tree : Tree) (chain : List ℕ) (looks : ℕ → Bool)
         its.advances.near (part_address mid ino part) reached_block.0
         (part_near (record image { at = mid }) (with_node tree ino (with_parts node file.size its.now)) looks ino part (with_parts node file.size its.now) (get_here tree.nodes ino (with_parts node file.size its.now)) refl file.looked below)
 
-  refused_by : (found : Option (List ℕ)) → fin.get file.parts part ≡ found → length chain < missing (pointers image.at) (place_of ino part) → IsRefusedWith tree ino file.parts part
+  refused_by : (found : Option (List ℕ)) → fin.get file.parts part ≡ found → length chain < missing (pointers image.at) (place_of ino part) → IsRefusedByParts tree ino file.parts part
   refused_by None none short wanted other more is there within = no_space image tree chain stored ino node file.has file.size file.parts part file.body none below short wanted other more is there within
   refused_by (Some was) there short wanted other more is more_there within = absurd (
       let held = held_part image.at ino part was (sym (its_file.each part) ∙ there) in
       let none = none_missing image.at (place_of ino part) held.1 in
       omega (arith, none, short))
 
-  pub part_refused : length chain < missing (pointers image.at) (place_of ino part) → IsRefusedWith tree ino file.parts part
+  pub part_refused : length chain < missing (pointers image.at) (place_of ino part) → IsRefusedByParts tree ino file.parts part
   part_refused short = refused_by (fin.get file.parts part) refl short
 
 -- ---- what the answers say

@@ -21,8 +21,8 @@ use Rattle.mb_file.specs.declared.walks.Collected.{Collected}
 use Rattle.mb_file.specs.declared.walks.Collected.TheVariants as collected
 
 -- a step of the chain on any blocks whose block 1 has these bytes: an address more in a list with room
-abbrev pub Hangs : List ℕ → List ℕ → ℕ → Type 0
-Hangs first after block = (blocks : ℕ → List ℕ) → blocks 1 ≡ first → KeepsRules blocks → 1 < block → block < 262144 → IsFreed blocks (put_block blocks 1 after) block
+abbrev pub HangsOne : List ℕ → List ℕ → ℕ → Type 0
+HangsOne first after block = (blocks : ℕ → List ℕ) → blocks 1 ≡ first → KeepsRules blocks → 1 < block → block < 262144 → IsFreed blocks (put_block blocks 1 after) block
 
 -- the step at a full list, which the block holds then
 abbrev pub MovesList : List ℕ → List ℕ → List ℕ → ℕ → Type 0
@@ -36,7 +36,7 @@ list_block first = put_at (replicate 512 0) 0 (take 202 (drop 6 first))
 -- steps at lists with room, one after another
 abbrev pub HangsEach : List ℕ → List ℕ → List ℕ → Type 0
 HangsEach first after [] = after ≡ first
-HangsEach first after (block ∷ blocks) = (mid : List ℕ) × Hangs first mid block × (nfree_of mid ≤ 50) × HangsEach mid after blocks
+HangsEach first after (block ∷ blocks) = (mid : List ℕ) × HangsOne first mid block × (nfree_of mid ≤ 50) × HangsEach mid after blocks
 
 -- the step with block 1 apart: its bytes before and after in place of those under the changes
 abbrev pub PutsBack : (ℕ → Option (List ℕ)) → ChangeList → ChangeList → List ℕ → List ℕ → ℕ → Hung → Type 0

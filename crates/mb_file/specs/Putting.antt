@@ -37,15 +37,15 @@ abbrev pub LacksForPut : (ℕ → Option (List ℕ)) → ChangeList → ℕ → 
 LacksForPut shown old ino result = IfSome result (λ need. IsNeed shown need × AsksNearFile shown old ino need.first)
 
 -- whatever file with that part and the parts that are there is refused
-abbrev pub IsRefusedWith : Tree → ℕ → Numbered (List ℕ) → ℕ → Type 0
-IsRefusedWith tree ino parts part = (wanted : Node) (other : ℕ) (more : Numbered (List ℕ)) → wanted.body ≡ Regular other more → is_some (fin.get more part) ≡ true
+abbrev pub IsRefusedByParts : Tree → ℕ → Numbered (List ℕ) → ℕ → Type 0
+IsRefusedByParts tree ino parts part = (wanted : Node) (other : ℕ) (more : Numbered (List ℕ)) → wanted.body ≡ Regular other more → is_some (fin.get more part) ≡ true
     → ((k : ℕ) → is_some (fin.get parts k) ≡ true → is_some (fin.get more k) ≡ true) → fitting tree (fin.insert tree.nodes ino wanted) ≡ Err ENOSPC
 
 -- bytes put into one part, from a place in it on
 abbrev pub PutsPart : (ℕ → Option (List ℕ)) → ChangeList → ChangeList → ℕ → ℕ → ℕ → List ℕ → Written → Type 0
 PutsPart shown old new ino part place bytes written.Done = (IsWithinView shown old → IsWithinView shown new)
     × OnParts shown old ino (λ image tree looks node size parts. AdvancesTo image tree looks old new (with_node tree ino (with_parts node size (fin.insert parts part (put_at (part_at parts part) place bytes)))))
-PutsPart shown old new ino part place bytes written.NoneLeft = OnParts shown old ino (λ image tree looks node size parts. IsRefusedWith tree ino parts part)
+PutsPart shown old new ino part place bytes written.NoneLeft = OnParts shown old ino (λ image tree looks node size parts. IsRefusedByParts tree ino parts part)
 PutsPart shown old new ino part place bytes (written.Need need) = IsNeed shown need × AsksNearFile shown old ino need.first
 PutsPart shown old new ino part place bytes written.NoMemory = Unit {0}
 

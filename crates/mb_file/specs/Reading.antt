@@ -30,8 +30,8 @@ CopiesPart shown changes ino part at some before after walked.Done = (length aft
 CopiesPart shown changes ino part at some before after (walked.Need need) = AsksForOwn shown changes ino need
 CopiesPart shown changes ino part at some before after walked.NoMemory = Unit {0}
 
-abbrev pub Copies : (ℕ → Option (List ℕ)) → ChangeList → ℕ → ℕ → ℕ → Copied → Type 0
-Copies shown changes ino offset count (copied.Bytes bytes) = (length bytes.items ≡ count)
+abbrev pub CopiesBytes : (ℕ → Option (List ℕ)) → ChangeList → ℕ → ℕ → ℕ → Copied → Type 0
+CopiesBytes shown changes ino offset count (copied.Bytes bytes) = (length bytes.items ≡ count)
     × OnInode shown changes ino (λ now. (bytes.items ≡ bytes_on now ino offset count) × HasBytesAt now ino offset count)
-Copies shown changes ino offset count (copied.Need need) = AsksForOwn shown changes ino need
-Copies shown changes ino offset count copied.NoMemory = Unit {0}
+CopiesBytes shown changes ino offset count (copied.Need need) = AsksForOwn shown changes ino need
+CopiesBytes shown changes ino offset count copied.NoMemory = Unit {0}

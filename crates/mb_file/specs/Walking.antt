@@ -61,7 +61,7 @@ Collects shown changes d (collected.Need need) = IsNeed shown need
 Collects shown changes d collected.NoMemory = Unit {0}
 
 -- no more blocks than a volume has
-abbrev pub HasFew : Collected → Type 0
-HasFew (collected.Blocks list) = length list.items ≤ 262144
-HasFew (collected.Need need) = Unit {0}
-HasFew collected.NoMemory = Unit {0}
+abbrev pub FitsVolume : Collected → Type 0
+FitsVolume (collected.Blocks list) = length list.items ≤ 262144
+FitsVolume (collected.Need need) = Unit {0}
+FitsVolume collected.NoMemory = Unit {0}

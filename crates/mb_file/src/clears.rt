@@ -1,13 +1,8 @@
-ghost use Rattle.std.specs.Prelude.{ℕ, ◌≡◌, Option};
-ghost use Rattle.std.specs.FinMap as fin;
-ghost use Rattle.std.specs.Ordering.{nat_cmp};
-ghost use Rattle.mb_kinds.specs.Image.{Image};
+ghost use Rattle.std.specs.Prelude.{◌≡◌};
 ghost use Rattle.mb_tree.specs.declared.operations.FsOp.TheVariants.{Empty};
-ghost use Rattle.mb_tree.specs.declared.trees.Tree.{Tree};
-ghost use Rattle.mb_tree.specs.Views.{IsPart};
-ghost use Rattle.mb_tree.specs.Volume.{IsVolume};
-ghost use Rattle.mb_iface.specs.Acting.{Acts};
+ghost use Rattle.mb_iface.specs.Acting.{ActsWhatever};
 ghost use Rattle.mb_iface.specs.Needs.{ActsFor};
+ghost use Rattle.mb_iface.specs.OnVolumes.{OnVolumes};
 ghost use Rattle.mb_file.specs.Clearing.{Clears, emptied_inode};
 
 use crate::frees::{blocks_to_free, put_all_back};
@@ -22,7 +17,8 @@ use std::alloc::Global;
 /// is there). All blocks that it holds are free then, its index blocks among them.
 pub fn empty<V: View>(alloc: Global, view: &V, ino: u16, moment: u32) -> Acted
     ensures need { ActsFor (V.shown view.now) result }
-    ensures answer { (image : Image) (tree : Tree) → IsPart (V.shown view.now) image.at → IsVolume image tree → (opens : fin.FinMap nat_cmp ℕ) (demanded : Option ℕ) → Acts (V.shown view.now) image tree opens (Empty ino moment) demanded result }
+    ensures answer { OnVolumes (V.shown view.now) (λ image tree.
+        ActsWhatever (V.shown view.now) image tree (Empty ino moment) result) }
 {
     let mut changes = Changes::new(alloc);
     match clear(alloc, view, &mut changes, ino, moment) {

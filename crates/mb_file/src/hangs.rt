@@ -1,6 +1,6 @@
 ghost use Rattle.std.specs.Prelude.{◌≡◌, ◌≤◌, ◌<◌, ◌+◌, length};
 ghost use Rattle.mb_word.specs.Fields.{nfree_of};
-ghost use Rattle.mb_file.specs.Freeing.{Hangs, HangsEach, MovesList, list_block};
+ghost use Rattle.mb_file.specs.Freeing.{HangsOne, HangsEach, MovesList, list_block};
 
 use mb_word::{put_long, put_word, word_at};
 
@@ -8,7 +8,7 @@ use mb_word::{put_long, put_word, word_at};
 /// filsys(5)). An empty list gets address 0 first, which ends the chain.
 pub(crate) fn hang(first: &mut [u8; 512], block: u32)
     requires { nfree_of first.old < 50 }
-    ensures hangs { Hangs first.old first.new block }
+    ensures hangs { HangsOne first.old first.new block }
     ensures some { 0 < nfree_of first.new }
     ensures count { nfree_of first.new ≤ 50 }
 {

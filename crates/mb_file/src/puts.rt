@@ -1,13 +1,8 @@
-ghost use Rattle.std.specs.Prelude.{ℕ, ◌≤◌, ◌<◌, ◌+◌, ◌≡◌, length, Option};
-ghost use Rattle.std.specs.FinMap as fin;
-ghost use Rattle.std.specs.Ordering.{nat_cmp};
-ghost use Rattle.mb_kinds.specs.Image.{Image};
-ghost use Rattle.mb_tree.specs.Views.{IsPart};
-ghost use Rattle.mb_tree.specs.Volume.{IsVolume};
+ghost use Rattle.std.specs.Prelude.{◌≤◌, ◌<◌, ◌+◌, ◌≡◌, length};
 ghost use Rattle.mb_tree.specs.declared.operations.FsOp.TheVariants.{Put};
-ghost use Rattle.mb_tree.specs.declared.trees.Tree.{Tree};
-ghost use Rattle.mb_iface.specs.Acting.{Acts};
+ghost use Rattle.mb_iface.specs.Acting.{ActsWhatever};
 ghost use Rattle.mb_iface.specs.Needs.{ActsFor};
+ghost use Rattle.mb_iface.specs.OnVolumes.{OnVolumes};
 ghost use Rattle.mb_file.specs.Putting.{LacksForPut, PutsBytes, PutsPart, PutsWhole, SetsSize, grown_inode};
 
 use crate::parts::{Looked, look};
@@ -47,7 +42,8 @@ pub fn put<V: View>(
     moment: u32,
 ) -> Acted
     ensures need { ActsFor (V.shown view.now) result }
-    ensures answer { (image : Image) (tree : Tree) → IsPart (V.shown view.now) image.at → IsVolume image tree → (opens : fin.FinMap nat_cmp ℕ) (demanded : Option ℕ) → Acts (V.shown view.now) image tree opens (Put ino offset bytes.now moment) demanded result }
+    ensures answer { OnVolumes (V.shown view.now) (λ image tree.
+        ActsWhatever (V.shown view.now) image tree (Put ino offset bytes.now moment) result) }
 {
     if bytes.len() > MOST {
         return Acted::Refused(Errno::EFBIG);

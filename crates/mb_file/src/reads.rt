@@ -1,12 +1,9 @@
 ghost use Rattle.std.specs.Prelude.{◌≤◌, ◌<◌, ◌+◌, ◌-◌, ◌≡◌, min};
-ghost use Rattle.mb_kinds.specs.Image.{Image};
-ghost use Rattle.mb_tree.specs.Views.{IsPart};
-ghost use Rattle.mb_tree.specs.Volume.{IsVolume};
-ghost use Rattle.mb_tree.specs.declared.trees.Tree.{Tree};
 ghost use Rattle.mb_iface.specs.Asking.{Finds};
 ghost use Rattle.mb_iface.specs.Needs.{AsksFor};
+ghost use Rattle.mb_iface.specs.OnVolumes.{OnVolumes};
 ghost use Rattle.mb_iface.specs.declared.queries.Query.TheVariants.{Bytes};
-ghost use Rattle.mb_file.specs.Reading.{Appends, Copies, CopiesPart};
+ghost use Rattle.mb_file.specs.Reading.{Appends, CopiesBytes, CopiesPart};
 
 use crate::parts::{Looked, PartAt, look, part_at};
 use crate::walks::Walked;
@@ -30,7 +27,7 @@ enum Copied {
 /// or past its size, and zeros where it has a hole.
 pub fn read<V: View>(alloc: Global, view: &V, ino: u16, offset: u32, count: u16) -> Asked
     ensures need { AsksFor (V.shown view.now) result }
-    ensures answer { (image : Image) (tree : Tree) → IsPart (V.shown view.now) image.at → IsVolume image tree → Finds image tree (Bytes ino offset count) result }
+    ensures answer { OnVolumes (V.shown view.now) (λ image tree. Finds image tree (Bytes ino offset count) result) }
 {
     let changes = Changes::new(alloc);
     let inode = match read_inode(view, &changes, ino) {
@@ -60,7 +57,7 @@ fn readable(size: u32, offset: u32, count: u16) -> u32
     size.saturating_sub(offset).min(u32::from(count))
 }
 
-/// Copies so many bytes of a file from an offset on, whatever its size.
+/// CopiesBytes so many bytes of a file from an offset on, whatever its size.
 fn copy<V: View>(
     alloc: Global,
     view: &V,
@@ -71,7 +68,7 @@ fn copy<V: View>(
 ) -> Copied
     requires few { count ≤ 65535 }
     requires fits { offset + count < 4294967296 }
-    ensures { Copies (V.shown view.now) changes.now ino offset count result }
+    ensures { CopiesBytes (V.shown view.now) changes.now ino offset count result }
 {
     let mut bytes = match Vec::with_capacity(alloc, count as usize) {
         Ok(bytes) => bytes,

@@ -1,5 +1,5 @@
 ghost use Rattle.std.specs.Prelude.{OnOk, ◌≤◌, vec_len};
-ghost use Rattle.mb_file.specs.Walking.{Collects, HasFew, LacksBlock, LacksIndex, PushesParts, PushesUnder};
+ghost use Rattle.mb_file.specs.Walking.{Collects, FitsVolume, LacksBlock, LacksIndex, PushesParts, PushesUnder};
 
 use mb_iface::{Changes, Need, Others, View, seen};
 use mb_layout::Dinode;
@@ -274,7 +274,7 @@ pub(crate) fn collect<V: View>(
     heads: &mut Vec<u32>,
 ) -> Collected
     ensures lists { Collects (V.shown view.now) changes.now inode.now result }
-    ensures few { HasFew result }
+    ensures few { FitsVolume result }
 {
     for place in 10..13u8 {
         if let Some(need) = lacking_index(view, changes, inode.address(place), place - 9) {

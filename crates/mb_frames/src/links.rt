@@ -100,7 +100,8 @@ impl Links {
     /// Writes the bytes into each page of the ring.
     pub(crate) fn fill(&mut self, head: NodePtr, bytes: &[u8; 512])
         requires { IsRing self.old.nodes.cells head.ptr }
-        ensures cells { Fills self.old.nodes.cells self.new.nodes.cells (map (λ g. g.place) (pages_at self.old.nodes.cells head.ptr)) bytes.now }
+        ensures cells { Fills self.old.nodes.cells self.new.nodes.cells (map (λ g.
+            g.place) (pages_at self.old.nodes.cells head.ptr)) bytes.now }
         ensures writes { self.new.writes ≡ self.old.writes }
     {
         let mut at = self.next(head);
@@ -123,8 +124,11 @@ impl Links {
 
     /// Six link writes: takes the run from `first` to `last` out, and links it in before `target`.
     pub(crate) fn move_run(&mut self, first: NodePtr, last: NodePtr, target: NodePtr)
-        requires ends { IsTrue (is_at first.ptr self.old.nodes.cells) × IsTrue (is_at last.ptr self.old.nodes.cells) × IsTrue (is_at target.ptr self.old.nodes.cells) }
-        requires sides { IsTrue (is_at (prev_at self.old.nodes.cells first.ptr) self.old.nodes.cells) × IsTrue (is_at (next_at self.old.nodes.cells last.ptr) self.old.nodes.cells) × IsTrue (is_at (prev_at self.old.nodes.cells target.ptr) self.old.nodes.cells) }
+        requires ends { IsTrue (is_at first.ptr self.old.nodes.cells)
+            × IsTrue (is_at last.ptr self.old.nodes.cells) × IsTrue (is_at target.ptr self.old.nodes.cells) }
+        requires sides { IsTrue (is_at (prev_at self.old.nodes.cells first.ptr) self.old.nodes.cells)
+            × IsTrue (is_at (next_at self.old.nodes.cells last.ptr) self.old.nodes.cells)
+            × IsTrue (is_at (prev_at self.old.nodes.cells target.ptr) self.old.nodes.cells) }
         ensures cells { Moves self.old.nodes.cells self.new.nodes.cells first.ptr last.ptr target.ptr }
         ensures writes { self.new.writes ≡ min (self.old.writes + 6) (2 ^ 64 - 1) }
     {
@@ -138,7 +142,8 @@ impl Links {
 
     /// Takes a page in, and links it in before `target`.
     pub(crate) fn add(&mut self, mut node: Box<Node>, target: NodePtr) -> NodePtr
-        requires { IsTrue (is_at target.ptr self.old.nodes.cells) × IsTrue (is_at (prev_at self.old.nodes.cells target.ptr) self.old.nodes.cells) }
+        requires { IsTrue (is_at target.ptr self.old.nodes.cells)
+            × IsTrue (is_at (prev_at self.old.nodes.cells target.ptr) self.old.nodes.cells) }
         ensures cells { Adds self.old.nodes.cells self.new.nodes.cells result.ptr target.ptr }
         ensures writes { self.new.writes ≡ min (self.old.writes + 4) (2 ^ 64 - 1) }
     {

@@ -92,7 +92,8 @@ impl Rings {
         ensures spare { OnOk result (self.new.spare ≡ max self.old.spare pages) }
         ensures refused { OnErr result (self.new ≡ self.old) }
         ensures sure { pages ≤ self.old.spare → IsOk result }
-        ensures writes { (self.old.writes ≤ self.new.writes) × (self.new.writes ≤ self.old.writes + 4 * (self.new.spare - self.old.spare)) }
+        ensures writes { (self.old.writes ≤ self.new.writes)
+            × (self.new.writes ≤ self.old.writes + 4 * (self.new.spare - self.old.spare)) }
     {
         let have = self.spare(pages);
         let missing = (pages - have) as usize;
@@ -118,7 +119,8 @@ impl Rings {
     /// The bytes of the page at `index` of the ring, if it has so many.
     pub fn page(&self, ring: u32, index: u32) -> Option<&[u8; 512]>
         requires { ring < length self.now.rings }
-        ensures { MatchOption result (length (ring_at self.now.rings ring) ≤ index) (λ b. slice_get (map (λ g. g.bytes) (ring_at self.now.rings ring)) index ≡ Some b.now) }
+        ensures { MatchOption result (length (ring_at self.now.rings ring) ≤ index) (λ b.
+            slice_get (map (λ g. g.bytes) (ring_at self.now.rings ring)) index ≡ Some b.now) }
     {
         let (at, _steps) = self.links.walk(self.heads[ring as usize], index);
         if self.links.is_head(at) {
@@ -143,7 +145,9 @@ impl Rings {
     /// The block and the bytes of the last page of the ring; `None` exactly where it has none.
     pub fn last(&self, ring: u32) -> Option<(u32, &[u8; 512])>
         requires { ring < length self.now.rings }
-        ensures some { IfSome result (λ page. slice_get (contents (ring_at self.now.rings ring)) (length (ring_at self.now.rings ring) - 1) ≡ Some (page.0, page.1.now)) }
+        ensures some { IfSome result (λ page.
+            slice_get (contents (ring_at self.now.rings ring)) (length (ring_at self.now.rings ring) - 1)
+            ≡ Some (page.0, page.1.now)) }
         ensures none { IfNone result (ring_at self.now.rings ring ≡ []) }
     {
         let at = self.links.prev(self.heads[ring as usize]);
@@ -157,10 +161,12 @@ impl Rings {
     pub fn put(&mut self, ring: u32, block: u32, bytes: &[u8; 512]) -> Token
         requires ring { ring < length self.old.rings }
         requires spare { 0 < self.old.spare }
-        ensures rings { self.new.rings ≡ with_ring self.old.rings ring (ring_at self.old.rings ring ++ page result block bytes.now ∷ []) }
+        ensures rings { self.new.rings
+            ≡ with_ring self.old.rings ring (ring_at self.old.rings ring ++ page result block bytes.now ∷ []) }
         ensures spare { self.new.spare + 1 ≡ self.old.spare }
         ensures fresh { standing result self.old.rings ≡ 0 }
-        ensures token { Stands self.new.rings result × (block_of result self.new.rings ≡ block) × (bytes_of result self.new.rings ≡ bytes.now) }
+        ensures token { Stands self.new.rings result × (block_of result self.new.rings ≡ block)
+            × (bytes_of result self.new.rings ≡ bytes.now) }
         ensures others { (p : Ptr) → p ≢ result → SameAt self.old.rings self.new.rings p }
         ensures writes { (self.old.writes ≤ self.new.writes) × (self.new.writes ≤ self.old.writes + 8) }
     {
@@ -187,7 +193,8 @@ impl Rings {
     pub fn splice(&mut self, from: u32, to: u32)
         requires rings { (from < length self.old.rings) × (to < length self.old.rings) }
         requires differ { from ≢ to }
-        ensures rings { self.new.rings ≡ with_ring (with_ring self.old.rings from []) to (ring_at self.old.rings to ++ ring_at self.old.rings from) }
+        ensures rings { self.new.rings
+            ≡ with_ring (with_ring self.old.rings from []) to (ring_at self.old.rings to ++ ring_at self.old.rings from) }
         ensures spare { self.new.spare ≡ self.old.spare }
         ensures tokens { (p : Ptr) → SameAt self.old.rings self.new.rings p }
         ensures writes { (self.old.writes ≤ self.new.writes) × (self.new.writes ≤ self.old.writes + 8) }

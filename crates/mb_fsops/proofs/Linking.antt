@@ -34,7 +34,7 @@ use Rattle.mb_inodes.specs.Inodes.{ReadsInode}
 use Rattle.mb_inodes.specs.declared.inodes.Inode.TheVariants as inode
 use Rattle.mb_layout.specs.declared.dinodes.Dinode.{Dinode}
 use Rattle.mb_namei.proofs.TreeDirectories.{near_inode}
-use Rattle.mb_dirs.specs.Entering.{Enters}
+use Rattle.mb_dirs.specs.Entering.{EntersName}
 use Rattle.mb_dirs.specs.Fields.{SetsFields}
 use Rattle.mb_dirs.specs.declared.enters.Entered.TheVariants as entered
 use Rattle.mb_dirs.specs.declared.enters.Gap.{Gap}
@@ -145,18 +145,18 @@ module _ (shown : ℕ → Option (List ℕ)) (old mid : ChangeList) (none : old 
       same_links n e = ap (λ m. record (with_name moment name ino can.parent) { nlink = m }) (sym e)
 
       module _ (new : ChangeList) where
-        second : Enters shown mid new dir links moment gap name ino entered.Done → AdvancesTo image next (touches tree op) mid new last
+        second : EntersName shown mid new dir links moment gap name ino entered.Done → AdvancesTo image next (touches tree op) mid new last
         second entered =
             let stored = stored_after image tree next (touches tree op) [] mid first in
             subst (λ (n : Node). AdvancesTo image next (touches tree op) mid new (with_node next dir n)) (same_links links can.same)
             (entered.1 image next stored.0 part stored.1 (touches tree op) can.parent can.slots
             (record { has = parent_there; body = can.directory.body; looked_at = looks_dir tree dir name ino moment }) can.stands)
 
-        whole : Enters shown mid new dir links moment gap name ino entered.Done → AdvancesTo image tree (touches tree op) [] new last
+        whole : EntersName shown mid new dir links moment gap name ino entered.Done → AdvancesTo image tree (touches tree op) [] new last
         whole entered = changed_in_turn image tree next last (touches tree op) [] mid new first (second entered)
 
     module _ (new : ChangeList) where
-      pub link_done : Enters shown mid new dir links moment gap name ino entered.Done → LinksAt shown dir name ino moment more links gap (acted.Done new None)
+      pub link_done : EntersName shown mid new dir links moment gap name ino entered.Done → LinksAt shown dir name ino moment more links gap (acted.Done new None)
       link_done entered = record {
         need = tt;
         answer = λ image tree part volume can opens demanded fits.
@@ -168,7 +168,7 @@ module _ (shown : ℕ → Option (List ℕ)) (old mid : ChangeList) (none : old 
             (entered.0 ((subst (λ xs. SetsFields shown xs mid ino (Links more moment) advanced.Done) none was).0 (none_within shown))));
       }
 
-      pub link_full : Enters shown mid new dir links moment gap name ino entered.NoneLeft → LinksAt shown dir name ino moment more links gap (acted.Refused ENOSPC)
+      pub link_full : EntersName shown mid new dir links moment gap name ino entered.NoneLeft → LinksAt shown dir name ino moment more links gap (acted.Refused ENOSPC)
       link_full entered = record {
         need = tt;
         answer = λ image tree part volume can opens demanded fits.
@@ -181,7 +181,7 @@ module _ (shown : ℕ → Option (List ℕ)) (old mid : ChangeList) (none : old 
             ∙ subst (λ (n : Node). fitting tree (fin.insert (next image tree part volume can fits).nodes dir n) ≡ Err ENOSPC) (same_links image tree part volume can fits links can.same) full));
       }
 
-      pub enter_asks : (need : Need) → Enters shown mid new dir links moment gap name ino (entered.Need need) → LinksAt shown dir name ino moment more links gap (acted.Need need)
+      pub enter_asks : (need : Need) → EntersName shown mid new dir links moment gap name ino (entered.Need need) → LinksAt shown dir name ino moment more links gap (acted.Need need)
       enter_asks need entered = record {
         need = entered.0;
         answer = λ image tree part volume can opens demanded fits.

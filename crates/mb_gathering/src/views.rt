@@ -1,5 +1,5 @@
 ghost use Rattle.std.specs.Prelude.{◌≡◌, ◌<◌, [], None, IfOk};
-ghost use Rattle.mb_gathering.specs.Growing.{Grows, IsFrom};
+ghost use Rattle.mb_gathering.specs.Growing.{ShowsAllOf, IsFrom};
 ghost use Rattle.mb_kinds.specs.Changed.{changed};
 
 use mb_iface::{Changes, Need, View};
@@ -48,7 +48,7 @@ pub fn without(heap: Global, disk: &Gathered, lacking: u32) -> Result<Gathered, 
 /// Gathers a block that the view lacks, where the disk has it.
 fn gather_block(disk: &Gathered, view: &mut Gathered, block: u32) -> Result<(), Fail>
     requires { block < 262144 }
-    ensures grows { Grows (changed view.old.blocks) (changed view.new.blocks) }
+    ensures grows { ShowsAllOf (changed view.old.blocks) (changed view.new.blocks) }
     ensures from { IsFrom (changed disk.now.blocks) (changed view.old.blocks) (changed view.new.blocks) }
 {
     if view.blocks.get(block).is_some() {
@@ -63,7 +63,7 @@ fn gather_block(disk: &Gathered, view: &mut Gathered, block: u32) -> Result<(), 
 /// Gathers the blocks that are asked for, as far as the disk has them. An error is a first block that
 /// is there already, with a view as before, or want of memory.
 pub fn gather(disk: &Gathered, view: &mut Gathered, need: Need) -> Result<(), Fail>
-    ensures grows { Grows (changed view.old.blocks) (changed view.new.blocks) }
+    ensures grows { ShowsAllOf (changed view.old.blocks) (changed view.new.blocks) }
     ensures from { IsFrom (changed disk.now.blocks) (changed view.old.blocks) (changed view.new.blocks) }
 {
     if view.get(need.first).is_some() {

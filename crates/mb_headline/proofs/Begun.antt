@@ -18,7 +18,7 @@ use Rattle.mb_jobs.specs.declared.jobs.Job.{Job}
 use Rattle.mb_kinds.specs.Image.{Image}
 use Rattle.mb_run.specs.CoreSight.{seat_of, sight_of}
 use Rattle.mb_run.specs.Drives.{IsBegun}
-use Rattle.mb_run.specs.Sights.{IsOrderly}
+use Rattle.mb_run.specs.Sights.{IsOrderlyInSight}
 use Rattle.mb_run.proofs.Completing.{calls_few}
 use Rattle.mb_headline.specs.Headline.{IsConfigOf}
 use Rattle.mb_headline.specs.Laws.{IsBegunFor, MayBeginAll}
@@ -46,7 +46,7 @@ module _ {F D : Type 0} (fs : F) (first : D) (config : Config) (cache : CacheSta
   abbrev core : CoreState F D
   core = begun_core fs first config cache opens room
 
-  begun_orderly : IsOrderly (sight_of core)
+  begun_orderly : IsOrderlyInSight (sight_of core)
   begun_orderly = record {
     above = tt;
     below = tt;

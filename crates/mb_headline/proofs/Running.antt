@@ -20,7 +20,7 @@ use Rattle.mb_run.specs.CoreSight.{seat_of, sight_of}
 use Rattle.mb_run.specs.Drives.{HasEachMoment}
 use Rattle.mb_run.specs.Sights.{Seat, undue_in}
 use Rattle.mb_run.specs.Recovering.{crossing_of}
-use Rattle.mb_run.specs.Runs.{AreDistinct, HasFailed, HasRecords, NamesTwo}
+use Rattle.mb_run.specs.Runs.{AreDistinct, AnswersFailed, HasRecords, NamesTwo}
 use Rattle.mb_run.specs.Seals.{AreAskedFor, AreInTime}
 use Rattle.mb_run.specs.Served.{AreApart, AreSoundBy, IsApart, calls_in}
 use Rattle.mb_tree.specs.History.{Legal}
@@ -68,7 +68,7 @@ says_twice records limit now entry (reply.Refused e) says = tt
 says_twice records limit now entry reply.Device says = tt
 says_twice records limit now entry (reply.Failed faults) says = tt
 
-says_failed : (records : List FaultRecord) (limit : ℕ) (now : Stage) (caller ordinal : ℕ) (answer : Reply) → MayNumber (length records) limit now → Says records limit now caller ordinal answer → HasFailed limit records answer
+says_failed : (records : List FaultRecord) (limit : ℕ) (now : Stage) (caller ordinal : ℕ) (answer : Reply) → MayNumber (length records) limit now → Says records limit now caller ordinal answer → AnswersFailed limit records answer
 says_failed records limit now caller ordinal (reply.Failed faults) few says = (says.0, subst (MayNumber (length records) limit) says.1 few)
 says_failed records limit now caller ordinal (reply.Restart first second) few says = tt
 says_failed records limit now caller ordinal (reply.Num number) few says = tt
@@ -83,7 +83,7 @@ all_twice records limit now [] says = tt
 all_twice records limit now (entry ∷ history) says = (says_twice records limit now entry entry.reply says.0, all_twice records limit now history says.1)
 
 all_failed : (records : List FaultRecord) (limit : ℕ) (now : Stage) (history : List Entry) → MayNumber (length records) limit now → AllByRecursion (λ (entry : Entry). Says records limit now entry.caller entry.ordinal entry.reply) history
-    → AllByRecursion (λ (entry : Entry). HasFailed limit records entry.reply) history
+    → AllByRecursion (λ (entry : Entry). AnswersFailed limit records entry.reply) history
 all_failed records limit now [] few says = tt
 all_failed records limit now (entry ∷ history) few says = (says_failed records limit now entry.caller entry.ordinal entry.reply few says.0, all_failed records limit now history few says.1)
 

@@ -18,7 +18,7 @@ use Rattle.mb_kinds.specs.declared.faults.FaultRecord.{FaultRecord}
 use Rattle.mb_run.specs.Drives.{HasEachMoment, IsLinedUp}
 use Rattle.mb_run.specs.Letters.{letters_of}
 use Rattle.mb_plan.specs.declared.rules.Rule.{Rule}
-use Rattle.mb_run.specs.Runs.{EntersFirst, FirstsRise, HasFailed, HasRecords, HasTakenFaults}
+use Rattle.mb_run.specs.Runs.{EntersFirst, FirstsRise, AnswersFailed, HasRecords, HasTakenFaults}
 use Rattle.mb_run.specs.Seals.{AreAskedFor, AreInTime}
 use Rattle.mb_run.specs.Served.{calls_in, calls_of}
 use Rattle.mb_tree.specs.History.{Legal, after_first}
@@ -91,7 +91,7 @@ pub record IsRun {F D : Type 0} (told : D → Option Image) (faults : D → ℕ)
   pub ordinals : HasOrdinals job core.journal.history
   pub moments : HasEachMoment job.start core.journal.history
   pub records : HasRecords job.plan core.journal.history core.journal.records
-  pub failures : AllByRecursion (λ (entry : Entry). HasFailed job.limit core.journal.records entry.reply) core.journal.history
+  pub failures : AllByRecursion (λ (entry : Entry). AnswersFailed job.limit core.journal.records entry.reply) core.journal.history
   pub devices : FewDevices (faults disk) (faults core.cache.disk) core.journal.history
   pub seals : AreInTime job.threshold (length core.journal.oplog) core.journal.sealed_at core.journal.history
   pub checkpoints : AreAskedFor job.threshold asked core.journal.history core.journal.trail

@@ -21,7 +21,7 @@ use Rattle.mb_run.specs.Letters.{AreLetters, letters_of}
 use Rattle.mb_run.specs.Orders.{asked_by}
 use Rattle.mb_run.specs.Runs.{AllStrike}
 use Rattle.mb_run.specs.Seals.{AreInTime}
-use Rattle.mb_run.specs.Settling.{IsSettled, Keeps, SealsAtEnd}
+use Rattle.mb_run.specs.Settling.{IsSettled, KeepsHistory, SealsAtEnd}
 use Rattle.mb_run.specs.Sights.{Sight}
 use Rattle.mb_headline.specs.Headline.{FewerDevices, IsConfigOf, IsDone, IsGivenUp, IsRun, KeepsOrder, LeavesImage}
 
@@ -84,7 +84,7 @@ pub record IsPath {F D : Type 0} (fs : F) (told : D → Option Image) (faults : 
   pub drives : IsDrivenApart job asked (λ (caller : ℕ). Some (fires job.plan)) (sight_of begun) (sight_of driven)
   pub first : ended.first ≡ begun.first
   pub same_config : ended.config ≡ begun.config
-  pub keeps : Keeps (sight_of driven) (sight_of ended)
+  pub keeps : KeepsHistory (sight_of driven) (sight_of ended)
   pub seals : AreInTime ended.config.threshold (length ended.journal.oplog) ended.journal.sealed_at ended.journal.history
   pub ends : SealsAtEnd (sight_of driven) (sight_of ended)
   pub right : Right told faults ended

@@ -44,7 +44,8 @@ impl<'a> Hook for Injector<'a> {
 
 /// A fault injector for each caller of a job, before its first fault.
 pub fn injectors_for<'a>(alloc: Global, job: &'a Job) -> Result<Vec<Injector<'a>>, AllocError>
-    ensures { IfOk result (λ injectors. injectors.items ≡ replicate (length job.now.callers) (record { rules = job.now.plan; struck = None; strokes = []; faults = 0 })) }
+    ensures { IfOk result (λ injectors. injectors.items
+        ≡ replicate (length job.now.callers) (record { rules = job.now.plan; struck = None; strokes = []; faults = 0 })) }
 {
     let mut injectors = Vec::with_capacity(alloc, job.callers.len())?;
     for _caller in job.callers.as_slice() {

@@ -57,3 +57,7 @@ Acts shown image tree opens op demanded (acted.Done changes picked) = Fits tree 
 Acts shown image tree opens op demanded (acted.Refused e) = Fits tree (count_of opens) op demanded → HasRefused tree (count_of opens) op demanded e
 Acts shown image tree opens op demanded (acted.Need need) = Fits tree (count_of opens) op demanded → IsNear image tree (IsTouched tree op) need.first
 Acts shown image tree opens op demanded acted.NoMemory = Unit {0}
+
+-- that of an operation which makes no inode and asks for no count: whatever is given of them
+abbrev pub ActsWhatever : (ℕ → Option (List ℕ)) → Image → Tree → FsOp → Acted → Type 0
+ActsWhatever shown image tree op acted = (opens : fin.FinMap nat_cmp ℕ) (demanded : Option ℕ) → Acts shown image tree opens op demanded acted

@@ -5,6 +5,8 @@ pub mod Guesses
 pub mod Near
 pub mod NeedLaws
 pub mod Needs
+pub mod OneBlock
+pub mod OnVolumes
 pub mod OpenCounts
 pub mod OtherBlocks
 pub mod OverlayLaws

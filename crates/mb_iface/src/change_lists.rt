@@ -3,7 +3,8 @@ ghost use Rattle.mb_word.specs.Numbers.{put_at};
 ghost use Rattle.std.specs.Option.{option_or};
 ghost use Rattle.mb_tree.specs.Views.{over};
 ghost use Rattle.indexmap.specs.IndexMap.{insert_entry, insert_all, spare, Updates, IsUnique};
-ghost use Rattle.mb_kinds.specs.Changed.{AreChanges, changed, put_block};
+ghost use Rattle.mb_kinds.specs.Changed.{AreChanges, changed};
+ghost use Rattle.mb_iface.specs.OneBlock.{ChangesOne, PutsBoth, PutsOne};
 ghost use Rattle.mb_iface.specs.Places.{StandsAt};
 
 use indexmap::IndexMap;
@@ -196,8 +197,8 @@ impl Changes {
     pub fn put(&mut self, block: u32, bytes: &[u8; 512]) -> Result<(), AllocError>
         requires { block < 262144 }
         ensures list { OnOk result (self.new ≡ insert_entry nat_eq self.old block bytes.now) }
-        ensures each { OnOk result ((other : ℕ) → changed self.new other ≡ cond (nat_eq block other) (Some bytes.now) (changed self.old other)) }
-        ensures ok { OnOk result ((blocks : ℕ → List ℕ) → over blocks (changed self.new) ≡ put_block (over blocks (changed self.old)) block bytes.now) }
+        ensures each { OnOk result (ChangesOne self.old self.new block bytes.now) }
+        ensures ok { OnOk result (PutsOne self.old self.new block bytes.now) }
         ensures err { OnErr result (self.new ≡ self.old) }
     {
         self.guesses[guess_of(block)] = write_page(&mut self.map, block, bytes)?;
@@ -208,8 +209,8 @@ impl Changes {
     pub fn put_zeros(&mut self, block: u32) -> Result<(), AllocError>
         requires { block < 262144 }
         ensures list { OnOk result (self.new ≡ insert_entry nat_eq self.old block (replicate 512 0)) }
-        ensures each { OnOk result ((other : ℕ) → changed self.new other ≡ cond (nat_eq block other) (Some (replicate 512 0)) (changed self.old other)) }
-        ensures ok { OnOk result ((blocks : ℕ → List ℕ) → over blocks (changed self.new) ≡ put_block (over blocks (changed self.old)) block (replicate 512 0)) }
+        ensures each { OnOk result (ChangesOne self.old self.new block (replicate 512 0)) }
+        ensures ok { OnOk result (PutsOne self.old self.new block (replicate 512 0)) }
         ensures err { OnErr result (self.new ≡ self.old) }
     {
         self.guesses[guess_of(block)] = write_page(&mut self.map, block, &[0; 512])?;
@@ -223,7 +224,8 @@ impl Changes {
     pub fn patch(&mut self, block: u32, at: usize, bytes: &[u8]) -> bool
         requires { at + length bytes.now ≤ 512 }
         ensures told { result ≡ is_some (changed self.old block) }
-        ensures each { MatchOption (changed self.old block) (self.new ≡ self.old) (λ old. (other : ℕ) → changed self.new other ≡ cond (nat_eq block other) (Some (put_at old at bytes.now)) (changed self.old other)) }
+        ensures each { MatchOption (changed self.old block) (self.new ≡ self.old) (λ old.
+            ChangesOne self.old self.new block (put_at old at bytes.now)) }
     {
         let guess = &mut self.guesses[guess_of(block)];
         match place_of(&self.map, *guess, block) {
@@ -251,7 +253,8 @@ impl Changes {
     pub fn patch_at(&mut self, place: usize, at: usize, bytes: &[u8])
         requires place { place < length self.old }
         requires fits { at + length bytes.now ≤ 512 }
-        ensures { (block : ℕ) (was : List ℕ) → slice_get self.old place ≡ Some (block, was) → (other : ℕ) → changed self.new other ≡ cond (nat_eq block other) (Some (put_at was at bytes.now)) (changed self.old other) }
+        ensures { (block : ℕ) (was : List ℕ) → slice_get self.old place ≡ Some (block, was)
+            → ChangesOne self.old self.new block (put_at was at bytes.now) }
     {
         let (_, page) = self.map.pair_mut(place);
         write_at(page, at, bytes);
@@ -268,9 +271,11 @@ impl Changes {
     ) -> Result<(), AllocError>
         requires first { block < 262144 }
         requires second { then < 262144 }
-        ensures list { OnOk result (self.new ≡ insert_entry nat_eq (insert_entry nat_eq self.old block bytes.now) then after.now) }
-        ensures each { OnOk result ((other : ℕ) → changed self.new other ≡ cond (nat_eq then other) (Some after.now) (cond (nat_eq block other) (Some bytes.now) (changed self.old other))) }
-        ensures ok { OnOk result ((blocks : ℕ → List ℕ) → over blocks (changed self.new) ≡ put_block (put_block (over blocks (changed self.old)) block bytes.now) then after.now) }
+        ensures list { OnOk result (self.new
+            ≡ insert_entry nat_eq (insert_entry nat_eq self.old block bytes.now) then after.now) }
+        ensures each { OnOk result ((other : ℕ)
+            → changed self.new other ≡ cond (nat_eq then other) (Some after.now) (cond (nat_eq block other) (Some bytes.now) (changed self.old other))) }
+        ensures ok { OnOk result (PutsBoth self.old self.new block bytes.now then after.now) }
         ensures err { OnErr result (self.new ≡ self.old) }
     {
         self.map.reserve(2)?;
@@ -289,8 +294,10 @@ impl Changes {
     /// are then as before.
     pub fn absorb(&mut self, mut later: Changes) -> Result<(), AllocError>
         ensures list { OnOk result (self.new ≡ insert_all nat_eq self.old later) }
-        ensures each { OnOk result ((other : ℕ) → changed self.new other ≡ option_or (changed later other) (changed self.old other)) }
-        ensures ok { OnOk result ((blocks : ℕ → List ℕ) → over blocks (changed self.new) ≡ over (over blocks (changed self.old)) (changed later)) }
+        ensures each { OnOk result ((other : ℕ)
+            → changed self.new other ≡ option_or (changed later other) (changed self.old other)) }
+        ensures ok { OnOk result ((blocks : ℕ → List ℕ)
+            → over blocks (changed self.new) ≡ over (over blocks (changed self.old)) (changed later)) }
         ensures err { OnErr result (self.new ≡ self.old) }
     {
         self.map.append(&mut later.map)?;

@@ -46,7 +46,8 @@ fn look<'a, V: View>(view: &'a V, changes: &'a Changes, block: u32) -> Option<&'
 /// where it is neither changed nor in the view.
 #[tactic(auto, using(crate::proofs::ChangedBlocks::found_under))]
 pub fn seen<'a, V: View>(view: &'a V, changes: &'a Changes, block: u32) -> Option<&'a [u8; 512]>
-    ensures found { IfSome result (λ bytes. (blocks : ℕ → List ℕ) → IsPart (V.shown view.now) blocks → over blocks (changed changes.now) block ≡ bytes.now) }
+    ensures found { IfSome result (λ bytes. (blocks : ℕ → List ℕ) → IsPart (V.shown view.now) blocks
+        → over blocks (changed changes.now) block ≡ bytes.now) }
     ensures there { IfSome result (λ bytes. shown_over (V.shown view.now) changes.now block ≡ Some bytes.now) }
     ensures missing { IfNone result (shown_over (V.shown view.now) changes.now block ≡ None) }
 {

@@ -16,19 +16,15 @@ use std::alloc::Global;
 /// it (`Fits` of `mb_tree`); of any other one nothing but that it is answered. What a `Need` names
 /// (`IsNeed`) is said on every view.
 pub trait FileSys: Copy {
-    ghost use Rattle.std.specs.Prelude.{◌≡◌};
-    ghost use Rattle.mb_kinds.specs.Image.{Image};
-    ghost use Rattle.mb_tree.specs.declared.trees.Tree.{Tree};
-    ghost use Rattle.mb_tree.specs.Views.{IsPart};
-    ghost use Rattle.mb_tree.specs.Volume.{IsVolume};
     ghost use Rattle.mb_iface.specs.Needs.{AsksFor, ActsFor};
     ghost use Rattle.mb_iface.specs.Asking.{Finds};
     ghost use Rattle.mb_iface.specs.Acting.{Acts};
+    ghost use Rattle.mb_iface.specs.OnVolumes.{OnVolumes};
 
     /// Answers a query.
     fn ask<V: View>(&self, alloc: Global, view: &V, query: &Query) -> Asked
         ensures need { AsksFor (V.shown view.now) result }
-        ensures answer { (image : Image) (tree : Tree) → IsPart (V.shown view.now) image.at → IsVolume image tree → Finds image tree query.now result };
+        ensures answer { OnVolumes (V.shown view.now) (λ image tree. Finds image tree query.now result) };
 
     /// Says what an operation changes. `opens` are the counts of open files before it. Where the
     /// operation makes an inode it gets the number `pick`; where none is demanded, a free one.
@@ -41,5 +37,6 @@ pub trait FileSys: Copy {
         pick: Option<u16>,
     ) -> Acted
         ensures need { ActsFor (V.shown view.now) result }
-        ensures answer { (image : Image) (tree : Tree) → IsPart (V.shown view.now) image.at → IsVolume image tree → Acts (V.shown view.now) image tree opens.now op.now pick result };
+        ensures answer { OnVolumes (V.shown view.now) (λ image tree.
+            Acts (V.shown view.now) image tree opens.now op.now pick result) };
 }

@@ -65,15 +65,25 @@ abbrev pub needs : {A B : Type 0} → List ℕ → Option A → (A → Result B 
 needs key (Some found) go = go found
 needs key None go = Err key
 
+-- what a table has under `callers`, `faults` and `order`
+abbrev pub callers_under : Members → Option (List Caller)
+callers_under members = given (the_caller ∷ []) some_callers (get_member (codes "callers") members)
+
+abbrev pub faults_under : Members → Option (List (List ℕ))
+faults_under members = given [] some_faults (get_member (codes "faults") members)
+
+abbrev pub order_under : Members → Option (Option (List ℕ))
+order_under members = given None some_order (get_member (codes "order") members)
+
 -- the known keys, in byte order, or the first of them that is bad; the value of `calls` stands apart
 abbrev pub known_beside : Option Data → Members → Result Fields (List ℕ)
 known_beside calls members =
-    needs (codes "callers") (given (the_caller ∷ []) some_callers (get_member (codes "callers") members)) (λ callers.
+    needs (codes "callers") (callers_under members) (λ callers.
     -- it may not be missing
     needs (codes "calls") (option_and_then texts_in calls) (λ calls.
-    needs (codes "faults") (given [] some_faults (get_member (codes "faults") members)) (λ faults.
+    needs (codes "faults") (faults_under members) (λ faults.
     needs (codes "limit") (given 255 (whole_from 0 255) (get_member (codes "limit") members)) (λ limit.
-    needs (codes "order") (given None some_order (get_member (codes "order") members)) (λ order.
+    needs (codes "order") (order_under members) (λ order.
     needs (codes "start") (given 0 (whole_from 0 1000000000) (get_member (codes "start") members)) (λ start.
     needs (codes "threshold") (given 64 (whole_from 1 4096) (get_member (codes "threshold") members)) (λ threshold.
     Ok (record { callers = callers; calls = calls; faults = faults; limit = limit; order = order; start = start; threshold = threshold }))))))))

@@ -66,7 +66,8 @@ fn next_caller(before: &[Caller], text: &[u8]) -> Option<Caller>
 
 /// The callers that 1 to 8 texts write, or `None` where one of them writes none.
 pub(crate) fn callers_of(alloc: Global, texts: &[&[u8]]) -> Result<Option<Vec<Caller>>, AllocError>
-    ensures exact { IfOk result (λ found. option_map (λ callers. callers.items) found ≡ callers_in (map (λ text. text.now) texts.now)) }
+    ensures exact { IfOk result (λ found.
+        option_map (λ callers. callers.items) found ≡ callers_in (map (λ text. text.now) texts.now)) }
     ensures few { IfOk result (λ found. IfSome found (λ callers. length callers.items ≤ 8)) }
 {
     if texts.is_empty() || texts.len() > 8 {

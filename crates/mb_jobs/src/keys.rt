@@ -1,9 +1,8 @@
-ghost use Rattle.std.specs.Prelude.{◌≡◌, ◌≤◌, ◌∷◌, [], IfOk, IfSome, List, ℕ, Some, None, Err, codes, length, map, option_map};
+ghost use Rattle.std.specs.Prelude.{◌≡◌, ◌≤◌, IfOk, IfSome, List, ℕ, Some, Err, codes, length, map, option_map};
 ghost use Rattle.std.specs.Option.{option_and_then};
 ghost use Rattle.toml.specs.Data.{get_member};
 ghost use Rattle.toml.specs.View.{table_view, view};
-ghost use Rattle.mb_jobs.specs.Callers.{the_caller};
-ghost use Rattle.mb_jobs.specs.Keys.{GivesFields, HasFew, few_texts, fields_beside, fields_in, given, known_beside, lesser, or_unknown, some_callers, some_faults, some_order, texts_in, whole_from};
+ghost use Rattle.mb_jobs.specs.Keys.{GivesFields, HasFew, callers_under, faults_under, few_texts, fields_beside, fields_in, given, known_beside, lesser, or_unknown, order_under, some_callers, some_faults, some_order, texts_in, whole_from};
 
 use crate::callers::{callers_of, one_caller};
 use crate::jobs::{Caller, JobFault};
@@ -55,7 +54,7 @@ fn some_callers(alloc: Global, value: &Value) -> Result<Option<Vec<Caller>>, All
 
 /// The callers of a table.
 fn callers_at(alloc: Global, table: &Table) -> Result<Option<Vec<Caller>>, AllocError>
-    ensures exact { IfOk result (λ found. option_map (λ callers. callers.items) found ≡ given (the_caller ∷ []) some_callers (get_member (codes "callers") (table_view table.now))) }
+    ensures exact { IfOk result (λ found. option_map (λ callers. callers.items) found ≡ callers_under (table_view table.now)) }
     ensures few { IfOk result (λ found. IfSome found (λ callers. length callers.items ≤ 8)) }
 {
     match value_at(table, "callers") {
@@ -76,7 +75,8 @@ fn calls_of(alloc: Global, calls: Option<Value>) -> Result<Option<Vec<Text>>, Al
 
 /// At most 1000 texts.
 fn some_faults(alloc: Global, value: &Value) -> Result<Option<Vec<&[u8]>>, AllocError>
-    ensures exact { IfOk result (λ found. option_map (λ texts. map (λ text. text.now) texts.items) found ≡ some_faults (view value.now)) }
+    ensures exact { IfOk result (λ found.
+        option_map (λ texts. map (λ text. text.now) texts.items) found ≡ some_faults (view value.now)) }
     ensures few { IfOk result (λ found. IfSome found (λ texts. length texts.items ≤ 1000)) }
 {
     match texts_of(alloc, value)? {
@@ -88,7 +88,9 @@ fn some_faults(alloc: Global, value: &Value) -> Result<Option<Vec<&[u8]>>, Alloc
 /// The texts of a table's faults.
 fn faults_at(alloc: Global, table: &Table) -> Result<Option<Vec<&[u8]>>, AllocError>
     ensures few { IfOk result (λ found. IfSome found (λ texts. length texts.items ≤ 1000)) }
-    ensures exact { IfOk result (λ found. option_map (λ texts. map (λ text. text.now) texts.items) found ≡ given [] some_faults (get_member (codes "faults") (table_view table.now))) }
+    ensures exact { IfOk result (λ found.
+        option_map (λ texts. map (λ text. text.now) texts.items) found
+        ≡ faults_under (table_view table.now)) }
 {
     match value_at(table, "faults") {
         Some(value) => some_faults(alloc, value),
@@ -108,7 +110,7 @@ fn some_order(value: &Value) -> Option<Option<&[u8]>>
 
 /// The order of a table, which may have none.
 fn order_at(table: &Table) -> Option<Option<&[u8]>>
-    ensures { option_map (λ order. option_map (λ text. text.now) order) result ≡ given None some_order (get_member (codes "order") (table_view table.now)) }
+    ensures { option_map (λ order. option_map (λ text. text.now) order) result ≡ order_under (table_view table.now) }
 {
     match value_at(table, "order") {
         Some(value) => some_order(value),

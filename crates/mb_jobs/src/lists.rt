@@ -90,7 +90,8 @@ pub(crate) fn calls_of(
     texts: Vec<Text>,
 ) -> Result<Result<Vec<JobCall>, u32>, AllocError>
     requires few { length callers.now ≤ 8 }
-    ensures exact { IfOk result (λ found. result_map_both (λ calls. calls.items) (λ index. index) found ≡ calls_in callers.now texts.items) }
+    ensures exact { IfOk result (λ found.
+        result_map_both (λ calls. calls.items) (λ index. index) found ≡ calls_in callers.now texts.items) }
     ensures short { IfOk result (λ found. IfOk found (λ calls. length calls.items ≤ 100000)) }
 {
     let mut listed = Listed {

@@ -112,7 +112,8 @@ fn rules_over(
     requires short { length struck.calls.now ≤ 100008 }
     requires ordinals { struck.ordinals.now ≡ ordinals struck.calls.now }
     requires few { length texts.now ≤ 1000 }
-    ensures { IfOk result (λ found. result_map_both (λ rules. rules.items) (λ index. index) found ≡ rules_in struck.entry.calls.now (map (λ text. text.now) texts.now)) }
+    ensures { IfOk result (λ found. result_map_both (λ rules. rules.items) (λ index. index) found
+        ≡ rules_in struck.entry.calls.now (map (λ text. text.now) texts.now)) }
 {
     let mut rules = Vec::with_capacity(alloc, texts.len())?;
     'texts: for text in texts {
@@ -133,7 +134,9 @@ pub(crate) fn rules_of(
 ) -> Result<Result<Vec<Rule>, u32>, AllocError>
     requires short { length calls.now ≤ 100008 }
     requires few { length texts.now ≤ 1000 }
-    ensures { IfOk result (λ found. result_map_both (λ rules. rules.items) (λ index. index) found ≡ rules_in calls.now (map (λ text. text.now) texts.now)) }
+    ensures { IfOk result (λ found.
+        result_map_both (λ rules. rules.items) (λ index.
+        index) found ≡ rules_in calls.now (map (λ text. text.now) texts.now)) }
 {
     if texts.is_empty() {
         return Ok(Ok(Vec::new(alloc)));

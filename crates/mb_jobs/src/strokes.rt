@@ -57,7 +57,8 @@ fn long_stroke(verb: &[u8], first: &[u8], second: &[u8]) -> Option<Stroke>
 
 /// The first stroke of some words, and how many words it has.
 fn first_stroke(words: &[&[u8]]) -> Option<(Stroke, usize)>
-    ensures some { IfSome result (λ found. strokes_in (map (λ word. word.now) words.now) ≡ strokes_with (Some found.0) (strokes_in (map (λ word. word.now) (drop found.1 words.now)))) }
+    ensures some { IfSome result (λ found. strokes_in (map (λ word. word.now) words.now)
+        ≡ strokes_with (Some found.0) (strokes_in (map (λ word. word.now) (drop found.1 words.now)))) }
     ensures size { IfSome result (λ found. 2 ≤ found.1) }
     ensures within { IfSome result (λ found. found.1 ≤ length words.now) }
     ensures small { IfSome result (λ found. found.1 ≤ 3) }

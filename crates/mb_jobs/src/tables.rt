@@ -9,7 +9,8 @@ use toml::{Table, Value};
 
 /// The texts of an array, or `None` where it holds something else.
 fn texts_of_array(alloc: Global, array: &Array) -> Result<Option<Vec<&[u8]>>, AllocError>
-    ensures { IfOk result (λ found. option_map (λ texts. map (λ text. text.now) texts.items) found ≡ texts_of (array_view array.now)) }
+    ensures { IfOk result (λ found.
+        option_map (λ texts. map (λ text. text.now) texts.items) found ≡ texts_of (array_view array.now)) }
 {
     let mut texts = Vec::with_capacity(alloc, array.len())?;
     'values: for value in array {

@@ -2,6 +2,7 @@ ghost use Rattle.std.specs.Prelude.{◌≡◌, ◌∷◌, ◌++◌, ◌+◌, ◌
 ghost use Rattle.mb_folds.specs.Folded.{folded};
 ghost use Rattle.mb_core_spec.specs.Events.{Leaves, booked, logged_op, marked};
 ghost use Rattle.mb_core_spec.specs.Histories.{picked_ops};
+ghost use Rattle.mb_core_spec.specs.Recovery.{checkpointed, with_fault};
 ghost use Rattle.mb_journal.specs.Room.{HasEntryRoom, KeepsRoom, LeavesFault};
 
 use mb_core_spec::Step;
@@ -200,7 +201,7 @@ impl Journal {
         requires records { 0 < self.old.room.records }
         requires trail { 0 < self.old.room.trail }
         requires few { length self.old.records < 4294967295 }
-        ensures recorded { self.new ≡ record self.old { records = self.old.records ++ fault ∷ []; trail = self.old.trail ++ Step.Struck (length self.old.records + 1) ∷ []; room = self.new.room } }
+        ensures recorded { self.new ≡ record (with_fault self.old fault) { room = self.new.room } }
         ensures number { result ≡ length self.old.records + 1 }
         ensures room { LeavesFault self.old.room self.new.room }
     {
@@ -214,7 +215,10 @@ impl Journal {
     /// memory, and nothing has changed then.
     pub fn fold(&mut self, alloc: Global) -> Result<(), NoMemory>
         requires { length self.old.oplog < 4294967296 }
-        ensures same { self.new ≡ record self.old { oplog = self.new.oplog; room = record self.old.room { oplog = self.new.room.oplog } } }
+        ensures same { self.new ≡ record self.old {
+          oplog = self.new.oplog;
+          room = record self.old.room { oplog = self.new.room.oplog };
+        } }
         ensures ok { OnOk result (picked_ops self.new.oplog ≡ folded (picked_ops self.old.oplog)) }
         ensures err { OnErr result (self.new ≡ self.old) }
         ensures kept { self.old.room.oplog ≤ self.new.room.oplog }
@@ -226,7 +230,7 @@ impl Journal {
     pub fn seal(&mut self)
         requires trail { 0 < self.old.room.trail }
         requires few { length self.old.history < 4294967296 }
-        ensures sealed { self.new ≡ record (marked self.old (Step.Sealed (length self.old.history))) { oplog = []; sealed_at = length self.old.history; room = self.new.room } }
+        ensures sealed { self.new ≡ record (checkpointed self.old) { room = self.new.room } }
         ensures room { Leaves self.old.room self.new.room 1 0 }
         ensures log { self.old.room.oplog ≤ self.new.room.oplog }
     {

@@ -1,5 +1,5 @@
 -- Pages over the blocks of an image.
-use Rattle.std.specs.Prelude.{List, [], ◌∷◌, ℕ, ◌+◌, cond, nat_eq, Option, is_some}
+use Rattle.std.specs.Prelude.{List, [], ◌∷◌, ℕ, ◌+◌, ◌≤◌, cond, nat_eq, Option, is_some}
 use Rattle.std.specs.Map.{lookup}
 use Rattle.mb_kinds.specs.Image.{Image, put}
 
@@ -20,6 +20,10 @@ under image (page ∷ pages) = put (under image pages) page.0 page.1
 abbrev pub count_covered : PageList → PageList → ℕ
 count_covered [] over = 0
 count_covered (page ∷ below) over = cond (is_some (page_at over page.0)) 1 0 + count_covered below over
+
+-- links of pages were written so often at most
+abbrev pub WritesAtMost : ℕ → ℕ → ℕ → Type 0
+WritesAtMost before now most = (before ≤ now) × (now ≤ before + most)
 
 -- the pages that wait to be written back, those over them, how many more current pages are taken without memory, and how
 -- often a link of a page was written

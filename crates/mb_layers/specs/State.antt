@@ -5,6 +5,8 @@ use denote.RawPtr.{Ptr}
 use Rattle.mb_frames.specs.Pages.{Page, Shelf, standing, ring_at, contents}
 use Rattle.indexmap.specs.IndexMap.{spare}
 use Rattle.mb_kinds.specs.Changed.{AreChanges}
+use Rattle.mb_kinds.specs.Image.{Image}
+use Rattle.mb_layers.specs.Pages.{under}
 use Rattle.mb_layers.specs.Places.{place_at}
 use Rattle.mb_layers.specs.declared.tokens.Tokens.{Tokens}
 use Rattle.mb_layers.specs.Tokens.{current_in, sealed_in, IsAged}
@@ -15,6 +17,10 @@ sealed_ring shelf = ring_at shelf.rings 0
 
 abbrev pub current_ring : Shelf → List Page
 current_ring shelf = ring_at shelf.rings 1
+
+-- an image as it reads under the pages of both rings
+abbrev pub under_both : Image → List (List Page) → Image
+under_both image rings = under (under image (contents (ring_at rings 0))) (contents (ring_at rings 1))
 
 -- 1 where there is a current page: a seal or a drop then takes a number of a generation
 abbrev pub begun : List Page → ℕ

@@ -7,9 +7,9 @@ ghost use Rattle.mb_kinds.specs.Image.{Image};
 ghost use Rattle.mb_edge.specs.Damage.{page_replaced, wiped};
 ghost use Rattle.mb_kinds.specs.Changed.{AreChanges};
 ghost use Rattle.mb_frames.specs.Pages.{ring_at, contents};
-ghost use Rattle.mb_layers.specs.Pages.{PageList, page_at, under, count_covered};
+ghost use Rattle.mb_layers.specs.Pages.{PageList, WritesAtMost, page_at, under, count_covered};
 ghost use Rattle.mb_layers.specs.Places.{place_at};
-ghost use Rattle.mb_layers.specs.State.{IsOver, AreRings, AreTied, ListsBoth};
+ghost use Rattle.mb_layers.specs.State.{IsOver, AreRings, AreTied, ListsBoth, under_both};
 ghost use Rattle.mb_layers.specs.Tokens.{SameAges};
 
 use crate::tokens::Tokens;
@@ -120,7 +120,7 @@ impl Layers {
         ensures current { self.new.current ≡ insert_entry nat_eq self.old.current block bytes.now }
         ensures sealed { self.new.sealed ≡ self.old.sealed }
         ensures spare { self.old.spare ≤ self.new.spare + 1 }
-        ensures writes { (self.old.writes ≤ self.new.writes) × (self.new.writes ≤ self.old.writes + 8) }
+        ensures writes { WritesAtMost self.old.writes self.new.writes 8 }
     {
         if let Some(token) = self.tokens.current(block) {
             self.rings.write(token, bytes);
@@ -137,7 +137,7 @@ impl Layers {
         ensures sealed { self.new.sealed ≡ remove_entry (nat_eq block) self.old.sealed }
         ensures current { self.new.current ≡ self.old.current }
         ensures spare { self.old.spare ≤ self.new.spare }
-        ensures writes { (self.old.writes ≤ self.new.writes) × (self.new.writes ≤ self.old.writes + 8) }
+        ensures writes { WritesAtMost self.old.writes self.new.writes 8 }
     {
         take_page(&mut self.rings, &mut self.tokens, block);
     }
@@ -147,7 +147,7 @@ impl Layers {
         ensures sealed { (front : PageList) (page : ℕ × List ℕ) → self.old.sealed ≡ front ++ page ∷ [] → self.new.sealed ≡ front }
         ensures current { self.new.current ≡ self.old.current }
         ensures spare { self.old.spare ≤ self.new.spare }
-        ensures writes { (self.old.writes ≤ self.new.writes) × (self.new.writes ≤ self.old.writes + 8) }
+        ensures writes { WritesAtMost self.old.writes self.new.writes 8 }
     {
         if let Some((block, _)) = self.rings.last(SEALED) {
             take_page(&mut self.rings, &mut self.tokens, block);
@@ -160,7 +160,7 @@ impl Layers {
         ensures view { (image : Image) → under image self.new.sealed ≡ under (under image self.old.sealed) self.old.current }
         ensures current { self.new.current ≡ [] }
         ensures spare { self.old.spare ≤ self.new.spare }
-        ensures writes { (self.old.writes ≤ self.new.writes) × (self.new.writes ≤ self.old.writes + 8 * (1 + count_covered self.old.sealed self.old.current)) }
+        ensures writes { WritesAtMost self.old.writes self.new.writes (8 * (1 + count_covered self.old.sealed self.old.current)) }
     {
         if self.rings.first(CURRENT).is_none() {
             return;
@@ -175,7 +175,7 @@ impl Layers {
         ensures current { self.new.current ≡ [] }
         ensures sealed { self.new.sealed ≡ self.old.sealed }
         ensures spare { self.old.spare ≤ self.new.spare }
-        ensures writes { (self.old.writes ≤ self.new.writes) × (self.new.writes ≤ self.old.writes + 8) }
+        ensures writes { WritesAtMost self.old.writes self.new.writes 8 }
     {
         if self.rings.first(CURRENT).is_none() {
             return;
@@ -196,7 +196,8 @@ impl Layers {
 
     /// The last sealed page; `None` exactly where there is none.
     pub fn last_sealed(&self) -> Option<(u32, &[u8; 512])>
-        ensures some { IfSome result (λ page. slice_get self.now.sealed (length self.now.sealed - 1) ≡ Some (page.0, page.1.now)) }
+        ensures some { IfSome result (λ page.
+            slice_get self.now.sealed (length self.now.sealed - 1) ≡ Some (page.0, page.1.now)) }
         ensures below { IfSome result (λ page. page.0 < 262144) }
         ensures none { IfNone result (self.now.sealed ≡ []) }
     {
@@ -232,10 +233,12 @@ fn take_page(rings: &mut Rings, tokens: &mut Tokens, block: u32)
     ensures tied { AreTied rings.new.rings tokens.new }
     ensures current { ring_at rings.new.rings 1 ≡ ring_at rings.old.rings 1 }
     ensures sealed { contents (ring_at rings.new.rings 0) ≡ remove_entry (nat_eq block) (contents (ring_at rings.old.rings 0)) }
-    ensures places { (other : ℕ) → place_at (ring_at rings.new.rings 0) other ≡ cond (nat_eq block other) None (place_at (ring_at rings.old.rings 0) other) }
+    ensures places { (other : ℕ)
+        → place_at (ring_at rings.new.rings 0) other
+        ≡ cond (nat_eq block other) None (place_at (ring_at rings.old.rings 0) other) }
     ensures ages { SameAges tokens.old tokens.new }
     ensures spare { (rings.old.spare ≤ rings.new.spare) × (spare tokens.old.map ≤ spare tokens.new.map) }
-    ensures writes { (rings.old.writes ≤ rings.new.writes) × (rings.new.writes ≤ rings.old.writes + 8 * cond (is_some (place_at (ring_at rings.old.rings 0) block)) 1 0) }
+    ensures writes { WritesAtMost rings.old.writes rings.new.writes (8 * cond (is_some (place_at (ring_at rings.old.rings 0) block)) 1 0) }
 {
     if let Some(token) = tokens.take_sealed(block) {
         rings.unlink(token);
@@ -250,12 +253,13 @@ fn take_covered(rings: &mut Rings, tokens: &mut Tokens, both: &mut Vec<u32>)
     ensures rings { AreRings rings.new.rings }
     ensures tied { AreTied rings.new.rings tokens.new }
     ensures current { ring_at rings.new.rings 1 ≡ ring_at rings.old.rings 1 }
-    ensures view { (image : Image) → under (under image (contents (ring_at rings.new.rings 0))) (contents (ring_at rings.new.rings 1)) ≡ under (under image (contents (ring_at rings.old.rings 0))) (contents (ring_at rings.old.rings 1)) }
+    ensures view { (image : Image) → under_both image rings.new.rings ≡ under_both image rings.old.rings }
     ensures apart { (block : ℕ) → IsOver rings.new.rings block → place_at (ring_at rings.new.rings 0) block ≡ None }
     ensures both { (both.new.items ≡ []) × (vec_len both.new ≡ 0) × (vec_capacity both.old ≤ vec_capacity both.new) }
     ensures ages { SameAges tokens.old tokens.new }
     ensures spare { (rings.old.spare ≤ rings.new.spare) × (spare tokens.old.map ≤ spare tokens.new.map) }
-    ensures writes { (rings.old.writes ≤ rings.new.writes) × (rings.new.writes ≤ rings.old.writes + 8 * count_covered (contents (ring_at rings.old.rings 0)) (contents (ring_at rings.old.rings 1))) }
+    ensures writes { WritesAtMost rings.old.writes rings.new.writes
+        (8 * count_covered (contents (ring_at rings.old.rings 0)) (contents (ring_at rings.old.rings 1))) }
 {
     'both: while let Some(block) = both.pop() {
         take_page(rings, tokens, block);

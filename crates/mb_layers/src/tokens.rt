@@ -99,9 +99,13 @@ impl Tokens {
         ensures map { OnOk result (blocks ≤ spare self.new.map) }
         ensures drops { OnOk result (vec_len self.new.dropped + generations ≤ vec_capacity self.new.dropped) }
         ensures seals { OnOk result (self.new.present + generations ≤ 2 ^ 64 - 1) }
-        ensures same { (self.new.map.entries ≡ self.old.map.entries) × (self.new.present ≡ self.old.present) × (self.new.dropped.items ≡ self.old.dropped.items) }
-        ensures kept { (spare self.old.map ≤ spare self.new.map) × (vec_capacity self.old.dropped ≤ vec_capacity self.new.dropped) }
-        ensures sure { blocks ≤ spare self.old.map → vec_len self.old.dropped + generations ≤ vec_capacity self.old.dropped → self.old.present + generations ≤ 2 ^ 64 - 1 → IsOk result }
+        ensures same { (self.new.map.entries ≡ self.old.map.entries) × (self.new.present ≡ self.old.present)
+            × (self.new.dropped.items ≡ self.old.dropped.items) }
+        ensures kept { (spare self.old.map ≤ spare self.new.map)
+            × (vec_capacity self.old.dropped ≤ vec_capacity self.new.dropped) }
+        ensures sure { blocks ≤ spare self.old.map
+            → vec_len self.old.dropped + generations ≤ vec_capacity self.old.dropped
+            → self.old.present + generations ≤ 2 ^ 64 - 1 → IsOk result }
     {
         if (u64::MAX - self.present) < generations as u64 {
             return Err(NoMemory);
@@ -195,7 +199,8 @@ impl Tokens {
         requires room { 0 < spare self.old.map }
         requires aged { IsAged self.old }
         ensures both { result ≡ is_some (sealed_in self.old block) }
-        ensures current { (other : ℕ) → current_in self.new other ≡ cond (nat_eq block other) (Some token) (current_in self.old other) }
+        ensures current { (other : ℕ)
+            → current_in self.new other ≡ cond (nat_eq block other) (Some token) (current_in self.old other) }
         ensures sealed { (other : ℕ) → sealed_in self.new other ≡ sealed_in self.old other }
         ensures aged { IsAged self.new }
         ensures ages { SameAges self.old self.new }
@@ -222,9 +227,11 @@ impl Tokens {
         requires room { self.old.present < 2 ^ 64 - 1 }
         requires aged { IsAged self.old }
         ensures current { (block : ℕ) → current_in self.new block ≡ None }
-        ensures sealed { (block : ℕ) → sealed_in self.new block ≡ option_or (current_in self.old block) (sealed_in self.old block) }
+        ensures sealed { (block : ℕ)
+            → sealed_in self.new block ≡ option_or (current_in self.old block) (sealed_in self.old block) }
         ensures aged { IsAged self.new }
-        ensures same { (self.new.map ≡ self.old.map) × (self.new.dropped ≡ self.old.dropped) × (self.new.present ≡ self.old.present + 1) }
+        ensures same { (self.new.map ≡ self.old.map) × (self.new.dropped ≡ self.old.dropped)
+            × (self.new.present ≡ self.old.present + 1) }
     {
         self.present += 1;
     }
@@ -237,7 +244,8 @@ impl Tokens {
         ensures sealed { (block : ℕ) → sealed_in self.new block ≡ sealed_in self.old block }
         ensures aged { IsAged self.new }
         ensures map { (self.new.map ≡ self.old.map) × (self.new.present ≡ self.old.present + 1) }
-        ensures dropped { (vec_len self.new.dropped ≡ vec_len self.old.dropped + 1) × (vec_capacity self.old.dropped ≤ vec_capacity self.new.dropped) }
+        ensures dropped { (vec_len self.new.dropped ≡ vec_len self.old.dropped + 1)
+            × (vec_capacity self.old.dropped ≤ vec_capacity self.new.dropped) }
     {
         self.dropped.push(self.present).unwrap();
         self.present += 1;

@@ -11,5 +11,5 @@ abbrev pub FreshIsMade : Type 0
 FreshIsMade = (blocks inodes : ℕ) → AreSizes blocks inodes → IsFresh (fresh blocks inodes) (isize_for inodes) blocks
 
 -- it is a volume of the tree that has the root alone
-abbrev pub FreshIsVolume : Type 0
-FreshIsVolume = (blocks inodes : ℕ) → AreSizes blocks inodes → IsVolume (fresh blocks inodes) (fresh_tree (isize_for inodes) blocks)
+abbrev pub MadeIsVolume : Type 0
+MadeIsVolume = (blocks inodes : ℕ) → AreSizes blocks inodes → IsVolume (fresh blocks inodes) (fresh_tree (isize_for inodes) blocks)

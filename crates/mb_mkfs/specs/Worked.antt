@@ -8,7 +8,7 @@ use Rattle.mb_mkfs.specs.Volume.{fresh}
 
 -- 46 places of the super-block's list count, of the blocks 50 to 5; behind them stand 54 and the next lower numbers, and
 -- block 50 alone holds a list, of the blocks 99 to 51 behind the 0 that ends the chain
-pub record SmallVolume : Type 0 where
+pub record SmallIsMade : Type 0 where
   pub isize : isize_for 16 ≡ 4
   pub count : last_place 100 5 + 1 ≡ 46
   pub first : free_at 100 5 0 ≡ 50

@@ -1,9 +1,5 @@
-ghost use Rattle.std.specs.Prelude.{ℕ, List};
-ghost use Rattle.mb_kinds.specs.Image.{Image};
-ghost use Rattle.mb_tree.specs.declared.trees.Tree.{Tree};
-ghost use Rattle.mb_tree.specs.Views.{IsPart};
-ghost use Rattle.mb_tree.specs.Volume.{IsVolume};
 ghost use Rattle.mb_iface.specs.Needs.{AsksFor};
+ghost use Rattle.mb_iface.specs.OnVolumes.{OnVolumes};
 ghost use Rattle.mb_iface.specs.Asking.{Finds};
 ghost use Rattle.mb_iface.specs.declared.queries.Query.TheVariants as query;
 
@@ -20,7 +16,7 @@ use std::alloc::Global;
 /// memory; with changes of none it reads the view as it is.
 pub fn find<V: View>(alloc: Global, view: &V, cwd: u16, cred: Cred, path: &Path) -> Asked
     ensures need { AsksFor (V.shown view.now) result }
-    ensures answer { (image : Image) (tree : Tree) → IsPart (V.shown view.now) image.at → IsVolume image tree → Finds image tree (query.Find cwd cred path.now) result }
+    ensures answer { OnVolumes (V.shown view.now) (λ image tree. Finds image tree (query.Find cwd cred path.now) result) }
 {
     let none = Changes::new(alloc);
     let path = path.as_slice();
@@ -47,7 +43,7 @@ pub fn find<V: View>(alloc: Global, view: &V, cwd: u16, cred: Cred, path: &Path)
 #[inline(always)]
 pub fn place<V: View>(alloc: Global, view: &V, cwd: u16, cred: Cred, path: &Path) -> Asked
     ensures need { AsksFor (V.shown view.now) result }
-    ensures answer { (image : Image) (tree : Tree) → IsPart (V.shown view.now) image.at → IsVolume image tree → Finds image tree (query.Place cwd cred path.now) result }
+    ensures answer { OnVolumes (V.shown view.now) (λ image tree. Finds image tree (query.Place cwd cred path.now) result) }
 {
     let none = Changes::new(alloc);
     let path = path.as_slice();
@@ -85,7 +81,7 @@ pub fn place<V: View>(alloc: Global, view: &V, cwd: u16, cred: Cred, path: &Path
 #[inline(always)]
 pub fn info_of<V: View>(alloc: Global, view: &V, ino: u16) -> Asked
     ensures need { AsksFor (V.shown view.now) result }
-    ensures answer { (image : Image) (tree : Tree) → IsPart (V.shown view.now) image.at → IsVolume image tree → Finds image tree (query.Info ino) result }
+    ensures answer { OnVolumes (V.shown view.now) (λ image tree. Finds image tree (query.Info ino) result) }
 {
     match info(view, &Changes::new(alloc), ino) {
         Looked::Inode(inode) => Asked::Found(Answer::Node(stat_by(ino, &inode))),
@@ -96,7 +92,7 @@ pub fn info_of<V: View>(alloc: Global, view: &V, ino: u16) -> Asked
 /// How many slots of a directory are in use: the answer to the query `Used`. It needs no memory.
 pub fn used<V: View>(alloc: Global, view: &V, ino: u16) -> Asked
     ensures need { AsksFor (V.shown view.now) result }
-    ensures answer { (image : Image) (tree : Tree) → IsPart (V.shown view.now) image.at → IsVolume image tree → Finds image tree (query.Used ino) result }
+    ensures answer { OnVolumes (V.shown view.now) (λ image tree. Finds image tree (query.Used ino) result) }
 {
     let none = Changes::new(alloc);
     let inode = match info(view, &none, ino) {

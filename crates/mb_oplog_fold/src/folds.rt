@@ -48,7 +48,9 @@ fn take_in(
     last: Logged,
     next: &Logged,
 ) -> Result<Logged, NoMemory>
-    ensures { IfOk result (λ now. (later : List PickedOp) → picked_ops settled.new.items ++ folded_from (as_picked now) later ≡ picked_ops settled.old.items ++ folded_from (as_picked last) (as_picked next.now ∷ later)) }
+    ensures { IfOk result (λ now.
+        (later : List PickedOp) → picked_ops settled.new.items ++ folded_from (as_picked now) later
+        ≡ picked_ops settled.old.items ++ folded_from (as_picked last) (as_picked next.now ∷ later)) }
 {
     if is_merged(&last, next) {
         return merged(alloc, last, next);

@@ -36,7 +36,8 @@ fn push_line(
     text: &[u8],
     reply: &Reply,
 ) -> Result<(), AllocError>
-    ensures { OnOk result (out.new.items ≡ out.old.items ++ line_text number (letter_text callers.now caller) text.now reply.now) }
+    ensures { OnOk result (out.new.items
+        ≡ out.old.items ++ line_text number (letter_text callers.now caller) text.now reply.now) }
 {
     push_head(out, number, callers, caller)?;
     out.extend_from_slice(b" ")?;

@@ -7,7 +7,7 @@ use Rattle.mb_check.specs.declared.scans.OpenFault.TheVariants as faults
 use Rattle.mb_check.specs.declared.scans.Scan.{Scan}
 use Rattle.mb_edge.specs.Causes.{Rose}
 use Rattle.mb_kinds.specs.Image.{Image}
-use Rattle.mb_program.specs.Outcomes.{ComesOfCheck, IsDiskFault, IsRefusedAs, IsToldAs, IsUnsoundBy}
+use Rattle.mb_program.specs.Outcomes.{ComesOfCheck, IsDiskFailure, IsRefusedAs, IsToldAs, IsUnsoundBy}
 use Rattle.mb_program.specs.declared.finish.Held.TheVariants as held
 use Rattle.mb_program.specs.declared.outcomes.Outcome.{Outcome}
 use Rattle.mb_program.specs.declared.outcomes.Outcome.TheVariants.{Checked, DiskFault, OutOfMemory, Unsettled, Unsound}
@@ -31,7 +31,7 @@ comes_of_check told count disk back (Err faults.Device) _ says scan given rose =
 comes_of_check told count disk back (Err faults.NoMemory) OutOfMemory says scan given rose = given
 comes_of_check told count disk back (Err faults.NoMemory) _ says scan given rose = absurd says
 
-pub device_of_check : (scanned : Result Scan OpenFault) (outcome : Outcome) → IsToldAs scanned outcome → IsDiskFault outcome → whole.IsDiskFault scanned
+pub device_of_check : (scanned : Result Scan OpenFault) (outcome : Outcome) → IsToldAs scanned outcome → IsDiskFailure outcome → whole.IsDiskFault scanned
 device_of_check (Ok figures) DiskFault says failed = says
 device_of_check (Ok figures) (Unsettled text) says failed = says
 device_of_check (Ok figures) _ says failed = absurd failed

@@ -7,7 +7,7 @@ use Rattle.mb_edge.specs.Causes.{Rose}
 use Rattle.mb_jobs.specs.declared.jobs.Job.{Job}
 use Rattle.mb_kinds.specs.Image.{Image}
 use Rattle.mb_program.proofs.CheckLemmas.{unsound_by}
-use Rattle.mb_program.specs.Outcomes.{ComesOfJob, IsDiskFault, IsRefusedAs}
+use Rattle.mb_program.specs.Outcomes.{ComesOfJob, IsDiskFailure, IsRefusedAs}
 use Rattle.mb_program.specs.declared.finish.Held.TheVariants as held
 use Rattle.mb_program.specs.declared.manners.Manner.{Manner}
 use Rattle.mb_program.specs.declared.outcomes.Outcome.{Outcome}
@@ -26,7 +26,7 @@ comes_of_refusal told count manner job disk back faults.NoMemory OutOfMemory is 
 comes_of_refusal told count manner job disk back faults.NoMemory _ is says = absurd says
 
 pub device_of_refusal : {D : Type 0} (told : D → Option Image) (count : D → ℕ) (disk back : D) (fault : OpenFault) (outcome : Outcome)
-    → IsRefused told count disk fault back → IsRefusedAs fault outcome → IsDiskFault outcome → Rose (count disk) (count back)
+    → IsRefused told count disk fault back → IsRefusedAs fault outcome → IsDiskFailure outcome → Rose (count disk) (count back)
 device_of_refusal told count disk back (faults.Unsound block rule) DiskFault is says failed = absurd says
 device_of_refusal told count disk back (faults.Unsound block rule) (Unsettled text) is says failed = absurd says
 device_of_refusal told count disk back (faults.Unsound block rule) _ is says failed = absurd failed

@@ -20,11 +20,11 @@ use Rattle.mb_kinds.specs.declared.faults.FaultRecord.{FaultRecord}
 use Rattle.mb_run.proofs.Calm.{enters_on}
 use Rattle.mb_run.specs.CoreSight.{sight_of}
 use Rattle.mb_run.specs.Letters.{letters_of}
-use Rattle.mb_run.specs.Seals.{Continues}
+use Rattle.mb_run.specs.Seals.{TrailGoesOn}
 use Rattle.mb_run.specs.Drives.{IsDriven, IsDrivenApart}
 use Rattle.mb_run.specs.Orders.{asked_by}
-use Rattle.mb_run.specs.Settling.{IsSettled, Keeps, SealsAtEnd}
-use Rattle.mb_run.specs.Sights.{IsOrderly}
+use Rattle.mb_run.specs.Settling.{IsSettled, KeepsHistory, SealsAtEnd}
+use Rattle.mb_run.specs.Sights.{IsOrderlyInSight}
 use Rattle.mb_volume_core.proofs.Origins.{origin_of}
 use Rattle.mb_volume_core.specs.declared.volume_core.Origin.{Origin}
 use Rattle.mb_program.specs.Held.{HoldsCore, held_disk}
@@ -32,12 +32,12 @@ use Rattle.mb_program.specs.declared.finish.Held.{Held}
 use Rattle.mb_program.specs.declared.finish.Held.TheVariants as held
 use Rattle.mb_program.specs.declared.manners.Manner.{Manner}
 use Rattle.mb_program.specs.declared.manners.Manner.TheVariants as manners
-use Rattle.mb_program.specs.Outcomes.{ComesOfCore, ComesOfJob, ComesOfRunWords, IsAlone, IsDiskFault, KeepsOrderIfAlone, IsDrivenFor, asked_for, Says, told_text, unsettled_text}
+use Rattle.mb_program.specs.Outcomes.{ComesOfCore, ComesOfJob, ComesOfRunWords, IsAlone, IsDiskFailure, KeepsOrderIfAlone, IsDrivenFor, asked_for, SaysText, told_text, unsettled_text}
 use Rattle.mb_program.specs.declared.outcomes.Outcome.{Outcome}
 use Rattle.mb_program.specs.declared.outcomes.Outcome.TheVariants.{WordsRefused, InputFault, JobRefused, DiskFault, OutOfMemory, Made, Checked, Unsound, Unsettled, GivenUp, Ran}
 
 comes_done : {D : Type 0} (told : D → Option Image) (faults : D → ℕ) (manner : Manner) (job : Job) (disk : D) (core : CoreState V7 D) (outcome : Outcome)
-    → IsRun told faults (asked_for manner job) job disk core → KeepsOrderIfAlone manner job core → IsDone job core → LeavesImage told job disk core → Says Ran (told_text manner end_text job core) outcome → ComesOfCore told faults manner job disk core outcome
+    → IsRun told faults (asked_for manner job) job disk core → KeepsOrderIfAlone manner job core → IsDone job core → LeavesImage told job disk core → SaysText Ran (told_text manner end_text job core) outcome → ComesOfCore told faults manner job disk core outcome
 comes_done told faults manner job disk core outcome run order all left said =
     elim said [
       | inl is ↦ subst (ComesOfCore told faults manner job disk core) (sym is) (record { run = run; order = order; done = all; left = left; printed = refl })
@@ -45,7 +45,7 @@ comes_done told faults manner job disk core outcome run order all left said =
     ]
 
 comes_given_up : {D : Type 0} (told : D → Option Image) (faults : D → ℕ) (manner : Manner) (job : Job) (disk : D) (core : CoreState V7 D) (outcome : Outcome)
-    → IsRun told faults (asked_for manner job) job disk core → KeepsOrderIfAlone manner job core → IsGivenUp job core → LeavesImage told job disk core → Says GivenUp (told_text manner failed_text job core) outcome → ComesOfCore told faults manner job disk core outcome
+    → IsRun told faults (asked_for manner job) job disk core → KeepsOrderIfAlone manner job core → IsGivenUp job core → LeavesImage told job disk core → SaysText GivenUp (told_text manner failed_text job core) outcome → ComesOfCore told faults manner job disk core outcome
 comes_given_up told faults manner job disk core outcome run order failed left said =
     elim said [
       | inl is ↦ subst (ComesOfCore told faults manner job disk core) (sym is) (record { run = run; order = order; given_up = failed; left = left; printed = refl })
@@ -59,8 +59,8 @@ is_failed _ = ⊥
 -- a run that was settled, by whether the volume failed
 pub settled : {D : Type 0} (told : D → Option Image) (faults : D → ℕ) (manner : Manner) (job : Job) (disk : D) (core : CoreState V7 D) (outcome : Outcome)
     → IsRun told faults (asked_for manner job) job disk core → KeepsOrderIfAlone manner job core → (IsDone job core ⊎ IsGivenUp job core) × LeavesImage told job disk core
-    → (core.stage ≡ stage.Failed → Says GivenUp (told_text manner failed_text job core) outcome)
-    → (core.stage ≢ stage.Failed → Says Ran (told_text manner end_text job core) outcome)
+    → (core.stage ≡ stage.Failed → SaysText GivenUp (told_text manner failed_text job core) outcome)
+    → (core.stage ≢ stage.Failed → SaysText Ran (told_text manner end_text job core) outcome)
     → ComesOfCore told faults manner job disk core outcome
 settled told faults manner job disk core outcome run order ends failed runs =
     elim ends.0 [
@@ -71,7 +71,7 @@ settled told faults manner job disk core outcome run order ends failed runs =
 -- a run in whose end the disk failed
 pub unsettled : {D : Type 0} (told : D → Option Image) (faults : D → ℕ) (manner : Manner) (job : Job) (disk : D) (core : CoreState V7 D) (outcome : Outcome)
     → IsRun told faults (asked_for manner job) job disk core → KeepsOrderIfAlone manner job core → FewerDevices (faults disk) (faults core.cache.disk) core.journal.history → Rose (faults disk) (faults core.cache.disk)
-    → Says Unsettled (unsettled_text manner job core) outcome → ComesOfCore told faults manner job disk core outcome
+    → SaysText Unsettled (unsettled_text manner job core) outcome → ComesOfCore told faults manner job disk core outcome
 unsettled told faults manner job disk core outcome run order fewer rose said =
     elim said [
       | inl is ↦ subst (ComesOfCore told faults manner job disk core) (sym is) (record { run = run; order = order; fewer = fewer; rose = rose; printed = refl })
@@ -107,12 +107,12 @@ driven_alone {D = D} told faults manner fs job disk begun driven rules apart law
     }
 
 -- what a trace begins with stays
-entered_stays : (order : Option (List ℕ)) (job : Job) (history : List Entry) (trail now : List Step) → Continues trail now → EntersAsOrdered order job history trail → EntersAsOrdered order job history now
+entered_stays : (order : Option (List ℕ)) (job : Job) (history : List Entry) (trail now : List Step) → TrailGoesOn trail now → EntersAsOrdered order job history trail → EntersAsOrdered order job history now
 entered_stays None job history trail now goes enters = tt
 entered_stays (Some order) job history trail now goes enters = λ none device. enters_on job.calls (letters_of job.callers) order trail now goes (enters none device)
 
 -- history and fault records stay at the end of a run, and the trace goes on
-kept_stays : {D : Type 0} (job : Job) (driven ended : CoreState V7 D) → Keeps (sight_of driven) (sight_of ended) → KeepsOrder job driven.journal.history driven.journal.records driven.journal.trail
+kept_stays : {D : Type 0} (job : Job) (driven ended : CoreState V7 D) → KeepsHistory (sight_of driven) (sight_of ended) → KeepsOrder job driven.journal.history driven.journal.records driven.journal.trail
     → KeepsOrder job ended.journal.history ended.journal.records ended.journal.trail
 kept_stays job driven ended keeps order =
     subst (λ (h : List Entry). KeepsOrder job h ended.journal.records ended.journal.trail) (sym keeps.history)
@@ -124,14 +124,14 @@ kept_stays job driven ended keeps order =
       taken = order.taken;
     }))
 
-order_stays : {D : Type 0} (manner : Manner) (job : Job) (driven ended : CoreState V7 D) → Keeps (sight_of driven) (sight_of ended) → KeepsOrderIfAlone manner job driven → KeepsOrderIfAlone manner job ended
+order_stays : {D : Type 0} (manner : Manner) (job : Job) (driven ended : CoreState V7 D) → KeepsHistory (sight_of driven) (sight_of ended) → KeepsOrderIfAlone manner job driven → KeepsOrderIfAlone manner job ended
 order_stays manners.Threads job driven ended keeps order = tt
 order_stays manners.Alone job driven ended keeps order = kept_stays job driven ended keeps order
 order_stays manners.Soak job driven ended keeps order = kept_stays job driven ended keeps order
 
 module _ {D : Type 0} (told : D → Option Image) (faults : D → ℕ) (manner : Manner) (job : Job) (disk : D) (fs : V7) (driven ended : CoreState V7 D)
     (drives : IsDrivenFor told faults manner fs job disk driven) (ended_on : origin_of ended ≡ origin_of driven)
-    (keeps : Keeps (sight_of driven) (sight_of ended)) (at_end : SealsAtEnd (sight_of driven) (sight_of ended)) (right : Right told faults ended) (orderly : IsOrderly (sight_of ended)) where
+    (keeps : KeepsHistory (sight_of driven) (sight_of ended)) (at_end : SealsAtEnd (sight_of driven) (sight_of ended)) (right : Right told faults ended) (orderly : IsOrderlyInSight (sight_of ended)) where
   path : IsPath fs told faults (asked_for manner job) job disk drives.begun driven ended
   path = record {
     over = drives.over;
@@ -148,8 +148,8 @@ module _ {D : Type 0} (told : D → Option Image) (faults : D → ℕ) (manner :
   order = order_stays manner job driven ended keeps drives.order
 
   pub comes_settled : (outcome : Outcome) → PathsAreRuns V7 D told faults → PathsEnd V7 D told faults → IsFitJob job → IsSettled (sight_of driven) (sight_of ended)
-      → (ended.stage ≡ stage.Failed → Says GivenUp (told_text manner failed_text job ended) outcome)
-      → (ended.stage ≢ stage.Failed → Says Ran (told_text manner end_text job ended) outcome)
+      → (ended.stage ≡ stage.Failed → SaysText GivenUp (told_text manner failed_text job ended) outcome)
+      → (ended.stage ≢ stage.Failed → SaysText Ran (told_text manner end_text job ended) outcome)
       → ComesOfCore told faults manner job disk ended outcome
   comes_settled outcome runs ends fit is failed done =
       settled told faults manner job disk ended outcome (runs fs (asked_for manner job) job disk drives.begun driven ended fit path) order (ends fs (asked_for manner job) job disk drives.begun driven ended path is) failed done
@@ -166,7 +166,7 @@ module _ {D : Type 0} (told : D → Option Image) (faults : D → ℕ) (manner :
   rises low rose = omega (arith, low, rose)
 
   pub comes_unsettled : (outcome : Outcome) → PathsAreRuns V7 D told faults → PathsFail V7 D told faults → IsFitJob job → Right told faults driven
-      → Rose (faults driven.cache.disk) (faults ended.cache.disk) → Says Unsettled (unsettled_text manner job ended) outcome → ComesOfCore told faults manner job disk ended outcome
+      → Rose (faults driven.cache.disk) (faults ended.cache.disk) → SaysText Unsettled (unsettled_text manner job ended) outcome → ComesOfCore told faults manner job disk ended outcome
   comes_unsettled outcome runs fails fit right_driven rose said =
       unsettled told faults manner job disk ended outcome (runs fs (asked_for manner job) job disk drives.begun driven ended fit path) order
       (fails fs (asked_for manner job) job disk drives.begun driven ended path right_driven drives.first rose) (rises (before right_driven) rose) said
@@ -205,7 +205,7 @@ fault_held told faults manner job disk (held.Disk back) text is = absurd is
 fault_held told faults manner job disk (held.Core core) text is = is.rose
 
 pub fault_of_job : {D : Type 0} (told : D → Option Image) (faults : D → ℕ) (manner : Manner) (job : Job) (disk : D) (given : Held D) (outcome : Outcome)
-    → ComesOfJob told faults manner job disk given outcome → IsDiskFault outcome → Rose (faults disk) (faults (held_disk given))
+    → ComesOfJob told faults manner job disk given outcome → IsDiskFailure outcome → Rose (faults disk) (faults (held_disk given))
 fault_of_job told faults manner job disk given DiskFault is failed = is.1
 fault_of_job told faults manner job disk given (Unsettled text) is failed = fault_held told faults manner job disk given text is.1
 fault_of_job told faults manner job disk given _ is failed = absurd failed
@@ -216,7 +216,7 @@ pub no_input : {D : Type 0} (told : D → Option Image) (faults : D → ℕ) (ma
 no_input told faults manner job disk given outcome is same = nobody given (subst (ComesOfJob told faults manner job disk given) same is).1
 
 pub fault_of_words : {D : Type 0} (told : D → Option Image) (faults : D → ℕ) (manner : Manner) (left : Option (List ℕ)) (disk : D) (given : Held D) (outcome : Outcome)
-    → ComesOfRunWords told faults manner left disk given outcome → IsDiskFault outcome → Rose (faults disk) (faults (held_disk given))
+    → ComesOfRunWords told faults manner left disk given outcome → IsDiskFailure outcome → Rose (faults disk) (faults (held_disk given))
 fault_of_words told faults manner left disk given DiskFault is failed = is.fact.over.1
 fault_of_words told faults manner left disk given (Unsettled text) is failed = fault_held told faults manner is.fact.job disk given text is.fact.over.1
 fault_of_words told faults manner left disk given _ is failed = absurd failed

@@ -165,8 +165,8 @@ ComesOfJob told faults manner job disk held OutOfMemory = Unit {0}
 ComesOfJob told faults manner job disk held outcome = IsDrivenTo told faults manner job disk held outcome
 
 -- a text of a run is this one, or there was no memory
-abbrev pub Says : (List ℕ → Outcome) → List ℕ → Outcome → Type 0
-Says made text outcome = (outcome ≡ made text) ⊎ (outcome ≡ OutOfMemory)
+abbrev pub SaysText : (List ℕ → Outcome) → List ℕ → Outcome → Type 0
+SaysText made text outcome = (outcome ≡ made text) ⊎ (outcome ≡ OutOfMemory)
 
 -- ---- the job
 
@@ -269,10 +269,10 @@ abbrev pub IsOutcome : {D : Type 0} → (D → Option Image) → (D → ℕ) →
 IsOutcome told faults words left disk held outcome = ComesOfCommand told faults (command_of words) left disk held outcome
 
 -- the disk failed, at the opening, in a `mkfs` or a `check`, or in the end of a run
-abbrev pub IsDiskFault : Outcome → Type 0
-IsDiskFault DiskFault = Unit {0}
-IsDiskFault (Unsettled text) = Unit {0}
-IsDiskFault _ = ⊥
+abbrev pub IsDiskFailure : Outcome → Type 0
+IsDiskFailure DiskFault = Unit {0}
+IsDiskFailure (Unsettled text) = Unit {0}
+IsDiskFailure _ = ⊥
 
 -- the program printed its text and ended with its status, or the output failed after a front of the text; want of memory stays so
 pub record IsPrinted (outcome : Outcome) (old new : Option (List ℕ)) (status : ℕ) : Type 0 where

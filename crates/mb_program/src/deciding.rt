@@ -7,7 +7,7 @@ ghost use Rattle.mb_jobs.specs.declared.jobs.Job.{Job};
 ghost use Rattle.mb_jobs.specs.declared.jobs.JobFault.{JobFault};
 ghost use Rattle.mb_program.specs.Held.{held_disk};
 ghost use Rattle.mb_program.specs.declared.manners.Manner.TheVariants as manners;
-ghost use Rattle.mb_program.specs.Outcomes.{ComesOfCheck, ComesOfJob, ComesOfMkfs, ComesOfRunWords, IsDiskFault, IsJobRefused, IsOutcome, IsRefusal, IsRefusedAs, IsToldAs, OfBytes};
+ghost use Rattle.mb_program.specs.Outcomes.{ComesOfCheck, ComesOfJob, ComesOfMkfs, ComesOfRunWords, IsDiskFailure, IsJobRefused, IsOutcome, IsRefusal, IsRefusedAs, IsToldAs, OfBytes};
 
 use crate::finish::Held;
 use crate::manners::Manner;
@@ -36,7 +36,7 @@ pub fn decide<S: Source, D: Disk>(alloc: Global, words: &Words, job: &mut S, dis
     requires { is_threaded (command_of words.now) ≡ false }
     ensures outcome { IsOutcome D.told D.faults words.now (S.left job.old) disk result.held result.outcome }
     ensures input { result.outcome ≡ Outcome.InputFault → Rose (S.faults job.old) (S.faults job.new) }
-    ensures device { IsDiskFault result.outcome → Rose (D.faults disk) (D.faults (held_disk result.held)) }
+    ensures device { IsDiskFailure result.outcome → Rose (D.faults disk) (D.faults (held_disk result.held)) }
     ensures later { D.faults disk ≤ D.faults (held_disk result.held) }
 {
     match command_of(words) {
@@ -63,7 +63,7 @@ pub fn decide_by_threads<S: Source, D: Disk + Send, R: Threads + Wait + Sync>(
 ) -> Decided<D>
     ensures comes { ComesOfRunWords D.told D.faults manners.Threads (S.left job.old) disk result.held result.outcome }
     ensures input { result.outcome ≡ Outcome.InputFault → Rose (S.faults job.old) (S.faults job.new) }
-    ensures device { IsDiskFault result.outcome → Rose (D.faults disk) (D.faults (held_disk result.held)) }
+    ensures device { IsDiskFailure result.outcome → Rose (D.faults disk) (D.faults (held_disk result.held)) }
     ensures later { D.faults disk ≤ D.faults (held_disk result.held) }
 {
     jobs_are_fit();
@@ -87,7 +87,7 @@ fn untouched<D: Disk>(disk: D, outcome: Outcome) -> Decided<D>
 // Makes a fresh volume.
 fn make_over<D: Disk>(alloc: Global, mut disk: D, blocks: u32, inodes: u32) -> Decided<D>
     ensures comes { ComesOfMkfs D.told D.faults disk blocks inodes result.held result.outcome }
-    ensures device { IsDiskFault result.outcome → Rose (D.faults disk) (D.faults (held_disk result.held)) }
+    ensures device { IsDiskFailure result.outcome → Rose (D.faults disk) (D.faults (held_disk result.held)) }
     ensures later { D.faults disk ≤ D.faults (held_disk result.held) }
 {
     let outcome = match make_volume(alloc, &mut disk, blocks, inodes) {
@@ -105,7 +105,7 @@ fn make_over<D: Disk>(alloc: Global, mut disk: D, blocks: u32, inodes: u32) -> D
 // Looks whether the image is a volume.
 fn check_over<D: Disk>(alloc: Global, mut disk: D) -> Decided<D>
     ensures comes { ComesOfCheck D.told D.faults disk result.held result.outcome }
-    ensures device { IsDiskFault result.outcome → Rose (D.faults disk) (D.faults (held_disk result.held)) }
+    ensures device { IsDiskFailure result.outcome → Rose (D.faults disk) (D.faults (held_disk result.held)) }
     ensures later { D.faults disk ≤ D.faults (held_disk result.held) }
 {
     let scanned = sound(alloc, &mut disk);
@@ -121,7 +121,7 @@ fn soak_over<D: Disk>(alloc: Global, disk: D, number: u32, calls: u32, faults: u
     requires many { calls ≤ 32768 }
     requires few { faults ≤ 255 }
     ensures comes { ComesOfJob D.told D.faults manners.Soak (generated number calls faults) disk result.held result.outcome }
-    ensures device { IsDiskFault result.outcome → Rose (D.faults disk) (D.faults (held_disk result.held)) }
+    ensures device { IsDiskFailure result.outcome → Rose (D.faults disk) (D.faults (held_disk result.held)) }
     ensures input { result.outcome ≢ Outcome.InputFault }
     ensures later { D.faults disk ≤ D.faults (held_disk result.held) }
 {
@@ -163,7 +163,7 @@ pub fn refused_as(alloc: Global, fault: OpenFault) -> Outcome
 fn run_job<S: Source, D: Disk>(alloc: Global, job: &mut S, disk: D) -> Decided<D>
     ensures comes { ComesOfRunWords D.told D.faults manners.Alone (S.left job.old) disk result.held result.outcome }
     ensures input { result.outcome ≡ Outcome.InputFault → Rose (S.faults job.old) (S.faults job.new) }
-    ensures device { IsDiskFault result.outcome → Rose (D.faults disk) (D.faults (held_disk result.held)) }
+    ensures device { IsDiskFailure result.outcome → Rose (D.faults disk) (D.faults (held_disk result.held)) }
     ensures later { D.faults disk ≤ D.faults (held_disk result.held) }
 {
     jobs_are_fit();

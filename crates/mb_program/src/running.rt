@@ -7,10 +7,10 @@ ghost use Rattle.mb_print.specs.Transcript.{end_text, failed_text, soak_text, tr
 ghost use Rattle.mb_core_spec.specs.declared.stages.Stage.TheVariants as Stage;
 ghost use Rattle.mb_run.specs.CoreSight.{sight_of};
 ghost use Rattle.mb_run.specs.Drives.{IsBegun};
-ghost use Rattle.mb_run.specs.Sights.{IsOrderly};
+ghost use Rattle.mb_run.specs.Sights.{IsOrderlyInSight};
 ghost use Rattle.mb_run.specs.declared.drives.DriveEnd.TheVariants as DriveEnd;
 ghost use Rattle.mb_program.specs.Held.{HoldsCore, held_disk};
-ghost use Rattle.mb_program.specs.Outcomes.{ComesOfCore, ComesOfJob, IsAlone, IsDrivenFor, Says, ended_text, told_text, unsettled_text};
+ghost use Rattle.mb_program.specs.Outcomes.{ComesOfCore, ComesOfJob, IsAlone, IsDrivenFor, SaysText, ended_text, told_text, unsettled_text};
 ghost use Rattle.mb_program.specs.declared.manners.Manner.{Manner};
 ghost use Rattle.mb_program.specs.declared.manners.Manner.TheVariants as manners;
 
@@ -67,7 +67,9 @@ pub fn run_by_threads<D: Disk + Send, R: Threads + Wait + Sync>(
 
 // What comes of a job over whose disk no core could be begun.
 fn refused<D: Disk>(alloc: Global, refusal: Refusal<D>) -> Decided<D>
-    ensures comes { (manner : Manner) (job : Job) (disk : D) → IsRefused D.told D.faults disk refusal.fault refusal.disk → ComesOfJob D.told D.faults manner job disk result.held result.outcome }
+    ensures comes { (manner : Manner) (job : Job) (disk : D)
+        → IsRefused D.told D.faults disk refusal.fault refusal.disk
+        → ComesOfJob D.told D.faults manner job disk result.held result.outcome }
     ensures held { result.held ≡ Held.Disk refusal.disk }
 {
     let Refusal { fault, disk } = refusal;
@@ -82,7 +84,9 @@ fn run_begun<D: Disk>(alloc: Global, manner: Manner, core: Core<V7, D>, job: &Jo
     requires fit { IsFitJob job.now }
     requires alone { IsAlone manner }
     requires begun { IsBegun job.now (sight_of core) }
-    ensures core { (disk : D) (fs : V7) → IsBegunFor D.told D.faults fs job.now disk core → HoldsCore result.held (λ held. ComesOfCore D.told D.faults manner job.now disk held result.outcome) }
+    ensures core { (disk : D) (fs : V7) → IsBegunFor D.told D.faults fs job.now disk core
+        → HoldsCore result.held (λ held.
+        ComesOfCore D.told D.faults manner job.now disk held result.outcome) }
     ensures later { D.faults core.first ≤ D.faults (held_disk result.held) }
 {
     drives_apart();
@@ -102,7 +106,9 @@ fn run_begun_by_threads<D: Disk + Send, R: Threads + Wait + Sync>(
 ) -> Decided<D>
     requires fit { IsFitJob job.now }
     requires begun { IsBegun job.now (sight_of core) }
-    ensures core { (disk : D) (fs : V7) → IsBegunFor D.told D.faults fs job.now disk core → HoldsCore result.held (λ held. ComesOfCore D.told D.faults manners.Threads job.now disk held result.outcome) }
+    ensures core { (disk : D) (fs : V7) → IsBegunFor D.told D.faults fs job.now disk core
+        → HoldsCore result.held (λ held.
+        ComesOfCore D.told D.faults manners.Threads job.now disk held result.outcome) }
     ensures later { D.faults core.first ≤ D.faults (held_disk result.held) }
 {
     let core = VolumeCore { core };
@@ -123,8 +129,11 @@ fn end_run<D: Disk>(
     job: &Job,
 ) -> Decided<D>
     requires fit { IsFitJob job.now }
-    requires right { IsOrderly (sight_of core.core) }
-    ensures core { (disk : D) (fs : V7) → (end ≢ DriveEnd.NoMemory → IsDrivenFor D.told D.faults manner fs job.now disk core.core) → HoldsCore result.held (λ held. ComesOfCore D.told D.faults manner job.now disk held result.outcome) }
+    requires right { IsOrderlyInSight (sight_of core.core) }
+    ensures core { (disk : D) (fs : V7)
+        → (end ≢ DriveEnd.NoMemory → IsDrivenFor D.told D.faults manner fs job.now disk core.core)
+        → HoldsCore result.held (λ held.
+        ComesOfCore D.told D.faults manner job.now disk held result.outcome) }
     ensures later { D.faults core.core.first ≤ D.faults (held_disk result.held) }
 {
     paths_are_runs::<V7, D>();
@@ -170,8 +179,8 @@ fn held<D: Disk>(core: VolumeCore<V7, D>, outcome: Outcome) -> Decided<D>
 
 // What is told of a run to its end, by whether the volume failed.
 fn ended<D: Disk>(alloc: Global, manner: Manner, job: &Job, core: &Core<V7, D>) -> Outcome
-    ensures failed { core.now.stage ≡ Stage.Failed → Says Outcome.GivenUp (told_text manner failed_text job.now core.now) result }
-    ensures runs { core.now.stage ≢ Stage.Failed → Says Outcome.Ran (told_text manner end_text job.now core.now) result }
+    ensures failed { core.now.stage ≡ Stage.Failed → SaysText Outcome.GivenUp (told_text manner failed_text job.now core.now) result }
+    ensures runs { core.now.stage ≢ Stage.Failed → SaysText Outcome.Ran (told_text manner end_text job.now core.now) result }
 {
     match manner {
         Manner::Alone | Manner::Threads => listed(alloc, job, core),
@@ -181,8 +190,8 @@ fn ended<D: Disk>(alloc: Global, manner: Manner, job: &Job, core: &Core<V7, D>) 
 
 // The transcript with its last line, by whether the volume failed.
 fn listed<D: Disk>(alloc: Global, job: &Job, core: &Core<V7, D>) -> Outcome
-    ensures failed { core.now.stage ≡ Stage.Failed → Says Outcome.GivenUp (ended_text failed_text job.now core.now) result }
-    ensures runs { core.now.stage ≢ Stage.Failed → Says Outcome.Ran (ended_text end_text job.now core.now) result }
+    ensures failed { core.now.stage ≡ Stage.Failed → SaysText Outcome.GivenUp (ended_text failed_text job.now core.now) result }
+    ensures runs { core.now.stage ≢ Stage.Failed → SaysText Outcome.Ran (ended_text end_text job.now core.now) result }
 {
     let entries = core.history().len() as u64;
     let faults = core.records().len() as u64;
@@ -207,8 +216,10 @@ fn listed<D: Disk>(alloc: Global, job: &Job, core: &Core<V7, D>) -> Outcome
 
 // One line for all, by whether the volume failed.
 fn summed_up<D: Disk>(alloc: Global, core: &Core<V7, D>) -> Outcome
-    ensures failed { core.now.stage ≡ Stage.Failed → Says Outcome.GivenUp (soak_text core.now.journal.history (length core.now.journal.records) core.now.journal.sealed_at) result }
-    ensures runs { core.now.stage ≢ Stage.Failed → Says Outcome.Ran (soak_text core.now.journal.history (length core.now.journal.records) core.now.journal.sealed_at) result }
+    ensures failed { core.now.stage ≡ Stage.Failed
+        → SaysText Outcome.GivenUp (soak_text core.now.journal.history (length core.now.journal.records) core.now.journal.sealed_at) result }
+    ensures runs { core.now.stage ≢ Stage.Failed
+        → SaysText Outcome.Ran (soak_text core.now.journal.history (length core.now.journal.records) core.now.journal.sealed_at) result }
 {
     let struck = core.records().len() as u64;
     let sealed = u64::from(core.sealed_at());
@@ -223,7 +234,7 @@ fn summed_up<D: Disk>(alloc: Global, core: &Core<V7, D>) -> Outcome
 
 // What is told of a run in whose end the disk failed.
 fn unsettled<D: Disk>(alloc: Global, manner: Manner, job: &Job, core: &Core<V7, D>) -> Outcome
-    ensures { Says Outcome.Unsettled (unsettled_text manner job.now core.now) result }
+    ensures { SaysText Outcome.Unsettled (unsettled_text manner job.now core.now) result }
 {
     let told = match manner {
         Manner::Alone | Manner::Threads => with_line(alloc, job, core, b"disk fault\n"),

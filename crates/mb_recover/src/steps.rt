@@ -99,7 +99,8 @@ fn remount<F: FileSys, D: Disk, H: Hook>(
 ) -> Stepped
     requires phase { phase_now core.old ≡ Phase.Remount }
     requires by { IfSome by.old (RunsFor core.old) }
-    ensures remounts { Remounts D.faults core.old core.new (caller_of by.old) result ⊎ IsMet core.old core.new by.old (H.test hook.old) (H.strokes hook.new) result }
+    ensures remounts { Remounts D.faults core.old core.new (caller_of by.old) result
+        ⊎ IsMet core.old core.new by.old (H.test hook.old) (H.strokes hook.new) result }
     ensures later { D.faults core.old.cache.disk ≤ D.faults core.new.cache.disk }
     ensures counted { by.new ≡ counted_if Kind.Remount by.old }
     ensures heard { IsUnheard (H.test hook.old) (H.struck hook.new) by.old result }
@@ -127,7 +128,8 @@ fn replay<F: FileSys, D: Disk, H: Hook>(
 ) -> Stepped
     requires phase { phase_now core.old ≡ Phase.Replay number }
     requires by { IfSome by.old (RunsFor core.old) }
-    ensures replays { Replays D.told D.faults core.old core.new (caller_of by.old) result ⊎ IsMet core.old core.new by.old (H.test hook.old) (H.strokes hook.new) result }
+    ensures replays { Replays D.told D.faults core.old core.new (caller_of by.old) result
+        ⊎ IsMet core.old core.new by.old (H.test hook.old) (H.strokes hook.new) result }
     ensures later { D.faults core.old.cache.disk ≤ D.faults core.new.cache.disk }
     ensures counted { by.new ≡ counted_if Kind.Replay by.old }
     ensures heard { IsUnheard (H.test hook.old) (H.struck hook.new) by.old result }

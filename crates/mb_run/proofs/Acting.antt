@@ -10,16 +10,16 @@ use Rattle.mb_kinds.specs.declared.entries.Entry.{Entry}
 use Rattle.mb_kinds.specs.declared.faults.FaultRecord.{FaultRecord}
 use Rattle.mb_kinds.specs.declared.faults.Kind.{Kind}
 use Rattle.mb_kinds.specs.declared.faults.Ticket.{Ticket}
-use Rattle.mb_run.specs.Events.{Stays, Strikes}
-use Rattle.mb_run.specs.Served.{Acts}
+use Rattle.mb_run.specs.Events.{LeavesOthersAlone, StrikesCall}
+use Rattle.mb_run.specs.Served.{ActsAlone}
 use Rattle.mb_run.specs.Firsts.{KeepsFirsts}
-use Rattle.mb_run.specs.Seals.{Continues}
+use Rattle.mb_run.specs.Seals.{TrailGoesOn}
 use Rattle.mb_run.specs.Sights.{Sight}
 use Rattle.mb_run.proofs.Firsts.{firsts_same, firsts_still, firsts_then}
 use Rattle.mb_run.proofs.Lists.{all_both}
 use Rattle.mb_run.proofs.Trails.{trail_marks, trail_same, trail_then}
 
-pub acts_same : (caller : ℕ) (s : Sight) → Acts caller s s
+pub acts_same : (caller : ℕ) (s : Sight) → ActsAlone caller s s
 acts_same caller s = record {
   config = refl;
   seats = λ other apart. refl;
@@ -40,7 +40,7 @@ acts_same caller s = record {
   trail = trail_same s.trail;
 }
 
-pub acts_then : (caller : ℕ) (a b d : Sight) → Acts caller a b → Acts caller b d → Acts caller a d
+pub acts_then : (caller : ℕ) (a b d : Sight) → ActsAlone caller a b → ActsAlone caller b d → ActsAlone caller a d
 acts_then caller a b d one two = record {
   config = two.config ∙ one.config;
   seats = λ other apart. two.seats other apart ∙ one.seats other apart;
@@ -76,8 +76,8 @@ own_apart [] caller other apart theirs = refl
 own_apart (entry ∷ entries) caller other apart theirs =
     ap (λ b. cond b (entry ∷ own entries other) (own entries other)) (neq entry.caller other (λ same. apart (sym same ∙ theirs.0))) ∙ own_apart entries caller other apart theirs.1
 
-acts_grown : (caller : ℕ) (old new : Sight) (entries : List Entry) → Stays caller old new → new.history ≡ old.history ++ entries → AllByRecursion (λ (entry : Entry). entry.caller ≡ caller) entries
-    → (new.floor ≡ None) ⊎ (new.floor ≡ Some caller) ⊎ (new.floor ≡ old.floor) → KeepsFirsts old new → Continues old.trail new.trail → Acts caller old new
+acts_grown : (caller : ℕ) (old new : Sight) (entries : List Entry) → LeavesOthersAlone caller old new → new.history ≡ old.history ++ entries → AllByRecursion (λ (entry : Entry). entry.caller ≡ caller) entries
+    → (new.floor ≡ None) ⊎ (new.floor ≡ Some caller) ⊎ (new.floor ≡ old.floor) → KeepsFirsts old new → TrailGoesOn old.trail new.trail → ActsAlone caller old new
 acts_grown caller old new entries stays grown theirs floor firsts trail = record {
   config = stays.config;
   seats = stays.seats;
@@ -98,14 +98,14 @@ acts_grown caller old new entries stays grown theirs floor firsts trail = record
   trail = trail;
 }
 
-pub acts_stays : (caller : ℕ) (old new : Sight) → Stays caller old new → new.history ≡ old.history → (new.floor ≡ None) ⊎ (new.floor ≡ Some caller) ⊎ (new.floor ≡ old.floor) → KeepsFirsts old new → Continues old.trail new.trail → Acts caller old new
+pub acts_stays : (caller : ℕ) (old new : Sight) → LeavesOthersAlone caller old new → new.history ≡ old.history → (new.floor ≡ None) ⊎ (new.floor ≡ Some caller) ⊎ (new.floor ≡ old.floor) → KeepsFirsts old new → TrailGoesOn old.trail new.trail → ActsAlone caller old new
 acts_stays caller old new stays history floor firsts trail = acts_grown caller old new [] stays (history ∙ sym (append-nil old.history)) tt floor firsts trail
 
-pub acts_entry : (caller : ℕ) (old new : Sight) (entry : Entry) → Stays caller old new → entry.caller ≡ caller → new.history ≡ old.history ++ entry ∷ []
-    → (new.floor ≡ None) ⊎ (new.floor ≡ Some caller) ⊎ (new.floor ≡ old.floor) → KeepsFirsts old new → Continues old.trail new.trail → Acts caller old new
+pub acts_entry : (caller : ℕ) (old new : Sight) (entry : Entry) → LeavesOthersAlone caller old new → entry.caller ≡ caller → new.history ≡ old.history ++ entry ∷ []
+    → (new.floor ≡ None) ⊎ (new.floor ≡ Some caller) ⊎ (new.floor ≡ old.floor) → KeepsFirsts old new → TrailGoesOn old.trail new.trail → ActsAlone caller old new
 acts_entry caller old new entry stays mine more floor firsts trail = acts_grown caller old new (entry ∷ []) stays more (mine, tt) floor firsts trail
 
-pub acts_strikes : (caller : ℕ) (old new : Sight) (ticket : Ticket) (kind : Kind) (nth : ℕ) → ticket.caller ≡ caller → Strikes old new ticket kind nth → Acts caller old new
+pub acts_strikes : (caller : ℕ) (old new : Sight) (ticket : Ticket) (kind : Kind) (nth : ℕ) → ticket.caller ≡ caller → StrikesCall old new ticket kind nth → ActsAlone caller old new
 acts_strikes caller old new ticket kind nth mine strikes = record {
   config = strikes.config;
   seats = λ other apart. strikes.seats other;

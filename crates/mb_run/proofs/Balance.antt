@@ -5,14 +5,14 @@ use Rattle.mb_kinds.specs.declared.entries.Entry.{Entry}
 use Rattle.mb_kinds.specs.declared.entries.Flight.{Flight}
 use Rattle.mb_kinds.specs.declared.faults.Ticket.{Ticket}
 use Rattle.mb_kinds.specs.declared.replies.Reply.{Reply}
-use Rattle.mb_run.specs.Events.{Answers, Begins, Counts, Logs, entry_of}
+use Rattle.mb_run.specs.Events.{Answers, BeginsFlight, SameCalls, Logs, entry_of}
 use Rattle.mb_run.specs.Served.{IsBalanced, IsMarked}
 use Rattle.mb_run.specs.Sights.{Sight, flight_of}
 
-pub balanced_same : (old new : Sight) → Counts old new → IsBalanced old → IsBalanced new
+pub balanced_same : (old new : Sight) → SameCalls old new → IsBalanced old → IsBalanced new
 balanced_same old new counts even = counts.begun ∙ even ∙ ap (λ es. length es + old.open_calls) (sym counts.history) ∙ ap (λ n. length new.history + n) (sym counts.open_calls)
 
-pub balanced_begins : (caller : ℕ) (flight : Flight) (old new : Sight) → Begins caller flight old new → IsBalanced old → IsBalanced new
+pub balanced_begins : (caller : ℕ) (flight : Flight) (old new : Sight) → BeginsFlight caller flight old new → IsBalanced old → IsBalanced new
 balanced_begins caller flight old new begins even =
     let same : length new.history ≡ length old.history = ap length begins.history in
     omega (arith, begins.begun, begins.open_calls, even, same)

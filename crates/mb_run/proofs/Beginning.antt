@@ -12,15 +12,15 @@ use Rattle.mb_run.specs.Drives.{EntersByOrder, EntersCalmly, TakesByOrder, AreNe
 use Rattle.mb_run.specs.Firsts.{HasFirst}
 use Rattle.mb_run.specs.Letters.{AreLetters, HasBegunBy, letters_of}
 use Rattle.mb_run.specs.Runs.{FirstsRise, HasTakenTested}
-use Rattle.mb_run.specs.Served.{AreCounts, IsAfter, IsBalanced, IsRunInOrder, IsServed, Underway, calls_of, moments_in}
+use Rattle.mb_run.specs.Served.{AreSixCounts, IsAfter, IsBalanced, IsRunInOrder, IsServedSoFar, AllUnderWay, calls_of, moments_in}
 use Rattle.mb_run.specs.Orders.{asked_by, asked_in}
-use Rattle.mb_run.specs.Sights.{IsOrderly, Limits, Seat, Sight, undue_in}
+use Rattle.mb_run.specs.Sights.{IsOrderlyInSight, Limits, Seat, Sight, undue_in}
 use Rattle.mb_run.specs.declared.runner.Runner.{Runner}
 use Rattle.mb_run.proofs.Completing.{calls_few, each_moment}
 use Rattle.mb_run.proofs.Entered.{no_counts}
 use Rattle.std.specs.List.{AllByRecursion, range_with_len}
 
-first_served : (job : Job) (sight : Sight) (caller : ℕ) → IsBegun job sight → IsServed (calls_of job.calls caller) sight caller (new_runner caller)
+first_served : (job : Job) (sight : Sight) (caller : ℕ) → IsBegun job sight → IsServedSoFar (calls_of job.calls caller) sight caller (new_runner caller)
 first_served job sight caller begun = record {
   caller_is = refl;
   ordinal = refl;
@@ -30,10 +30,10 @@ first_served job sight caller begun = record {
   counted = rw begun.records tt;
 }
 
-pub begins_underway : (job : Job) (test : Option (Crossing → Bool)) (sight : Sight) (runners : List Runner) → IsRunnable job → IsBegun job sight → AreNew runners (length job.callers) → Underway job.calls test sight runners
+pub begins_underway : (job : Job) (test : Option (Crossing → Bool)) (sight : Sight) (runners : List Runner) → IsRunnable job → IsBegun job sight → AreNew runners (length job.callers) → AllUnderWay job.calls test sight runners
 begins_underway job test sight runners runnable begun new = record {
-  served = λ caller runner here. subst (IsServed (calls_of job.calls caller) sight caller) (sym (new.each caller runner here)) (first_served job sight caller begun);
-  counts = λ caller runner here. subst (λ (r : Runner). AreCounts r.crossings) (sym (new.each caller runner here)) (no_counts (new_runner caller).crossings);
+  served = λ caller runner here. subst (IsServedSoFar (calls_of job.calls caller) sight caller) (sym (new.each caller runner here)) (first_served job sight caller begun);
+  counts = λ caller runner here. subst (λ (r : Runner). AreSixCounts r.crossings) (sym (new.each caller runner here)) (no_counts (new_runner caller).crossings);
   sound = rw begun.records (record { holds = tt; apart = tt });
   callers = new.size ∙ sym begun.callers;
   most = begun.most;
@@ -84,7 +84,7 @@ begins_firsts letters job sight begun = record {
 declared : (job : Job) (old new : Sight) → IsBegun job old → new.config ≡ old.config → new.config.callers ≡ length job.callers
 declared job old new begun config = ap (λ (l : Limits). l.callers) config ∙ begun.callers
 
-pub listed : (job : Job) (test : Option (Crossing → Bool)) (old new : Sight) (callers : ℕ) → IsBegun job old → job.order ≡ None → callers ≡ length job.callers → IsRunInOrder job.calls callers test new → new.config ≡ old.config → IsOrderly new
+pub listed : (job : Job) (test : Option (Crossing → Bool)) (old new : Sight) (callers : ℕ) → IsBegun job old → job.order ≡ None → callers ≡ length job.callers → IsRunInOrder job.calls callers test new → new.config ≡ old.config → IsOrderlyInSight new
     → (old.stage ≡ stage.Running → HasTakenTested test new.history new.records) → undue_in new ≤ undue_in old → IsDriven job test old new
 listed job test old new callers begun none same ran config right taken seals =
     let start : new.config.start ≡ job.start = ap (λ (l : Limits). l.start) config ∙ begun.start in
@@ -102,7 +102,7 @@ listed job test old new callers begun none same ran config right taken seals =
       seals = subst (λ order. undue_in new ≤ undue_in old + asked_by order) (sym none) (omega (arith, seals));
     }
 
-pub ordered : (job : Job) (test : Option (Crossing → Bool)) (old new : Sight) (callers : ℕ) (order : List ℕ) → IsBegun job old → job.order ≡ Some order → callers ≡ length job.callers → IsComplete job.calls callers test new → new.config ≡ old.config → IsOrderly new
+pub ordered : (job : Job) (test : Option (Crossing → Bool)) (old new : Sight) (callers : ℕ) (order : List ℕ) → IsBegun job old → job.order ≡ Some order → callers ≡ length job.callers → IsComplete job.calls callers test new → new.config ≡ old.config → IsOrderlyInSight new
     → (AreLetters (letters_of job.callers) → FirstsRise order (letters_of job.callers) new.history)
     → (old.stage ≡ stage.Running → old.trail ≡ [] → EntersCalmly order job.callers job.calls test new) → undue_in new ≤ undue_in old + asked_in order → IsDriven job test old new
 ordered job test old new callers order begun some same done config right rises enters seals =

@@ -20,15 +20,15 @@ use Rattle.mb_jobs.specs.declared.jobs.Caller.{Caller}
 use Rattle.mb_jobs.specs.declared.jobs.JobCall.{JobCall}
 use Rattle.mb_kinds.specs.declared.calls.Call.{Call}
 use Rattle.mb_kinds.specs.declared.faults.Ticket.{Ticket}
-use Rattle.mb_run.specs.Calm.{AreAllPlain, CalmlyFrom, GoesInside, HoldsNowhere, IsCalm, IsIdle, IsInTurn, IsStill, IsTurn, KeepsCalm, StaysInside, StepsCalmly, TurnsCalmly}
+use Rattle.mb_run.specs.Calm.{AreAllPlain, CalmlyFrom, WentInside, HoldsNowhere, AreCalm, IsDoneAndIdle, IsInTurn, IsStill, IsTurn, KeepsCalm, StaysInside, StepsCalmly, TurnsCalmly}
 use Rattle.mb_run.specs.Drives.{new_runner}
 use Rattle.mb_run.specs.Events.{FlushesWith}
 use Rattle.mb_run.specs.Letters.{AreLetters, LacksLetter, letters_of}
-use Rattle.mb_run.specs.Orders.{HasLetter, IsSealedNow, Moves}
+use Rattle.mb_run.specs.Orders.{HasLetter, IsSealedNow, MovesCall}
 use Rattle.mb_run.specs.Pages.{has}
 use Rattle.mb_run.specs.Runs.{BeginsWith, EntersFirst, begun_from, caller_of, calm_from, calm_prefix, has_call, has_capital, is_begun, is_calm_next, is_letter_of, is_seal, letter_of, used, with_caller, without_seals}
-use Rattle.mb_run.specs.Seals.{Continues}
-use Rattle.mb_run.specs.Served.{Underway, calls_of}
+use Rattle.mb_run.specs.Seals.{TrailGoesOn}
+use Rattle.mb_run.specs.Served.{AllUnderWay, calls_of}
 use Rattle.mb_run.specs.Sights.{Seat, Sight, recovers}
 use Rattle.mb_run.specs.declared.runner.Runner.{Runner}
 use Rattle.mb_run.proofs.Counting.{same_or_not}
@@ -186,8 +186,8 @@ turn_stays letters calls seen character old new caller letter runner begun incar
 }
 
 -- nobody's letter, or one whose caller has no call to step
-module _ (letters : List ℕ) (calls : List JobCall) (seen : List ℕ) (character : ℕ) (old new : Sight) (runners : List Runner) (calm : IsCalm letters calls seen old runners) (still : IsStill old new) where
-  pub still_calm : begun_from calls letters [] (seen ++ character ∷ []) ≡ begun_from calls letters [] seen → IsCalm letters calls (seen ++ character ∷ []) new runners
+module _ (letters : List ℕ) (calls : List JobCall) (seen : List ℕ) (character : ℕ) (old new : Sight) (runners : List Runner) (calm : AreCalm letters calls seen old runners) (still : IsStill old new) where
+  pub still_calm : begun_from calls letters [] (seen ++ character ∷ []) ≡ begun_from calls letters [] seen → AreCalm letters calls (seen ++ character ∷ []) new runners
   still_calm begun = record {
     runs = still.stage ∙ calm.runs;
     tickets = calm.tickets;
@@ -197,7 +197,7 @@ module _ (letters : List ℕ) (calls : List JobCall) (seen : List ℕ) (characte
     each = λ caller letter runner has here. turn_stays letters calls seen character old new caller letter runner (ap (λ (b : List ℕ). is_begun b caller) begun) still.incarnation (still.seats caller) (calm.each caller letter runner has here);
   }
 
-  pub no_letter_calm : ((caller letter : ℕ) → letter_of letters caller ≡ Some letter → is_letter_of letter character ≡ false) → IsCalm letters calls (seen ++ character ∷ []) new runners
+  pub no_letter_calm : ((caller letter : ℕ) → letter_of letters caller ≡ Some letter → is_letter_of letter character ≡ false) → AreCalm letters calls (seen ++ character ∷ []) new runners
   no_letter_calm none = still_calm (begun_more calls letters [] seen character ∙ ap (with_caller calls (begun_from calls letters [] seen)) (caller_none letters 0 character none))
 
 pub still_same : (s : Sight) → IsStill s s
@@ -206,7 +206,7 @@ still_same s = record { stage = refl; incarnation = refl; seats = λ caller. ref
 -- ---- a letter of a caller
 
 module _ (letters : List ℕ) (calls : List JobCall) (seen : List ℕ) (character place : ℕ) (is_here : ℕ) (here : letter_of letters place ≡ Some is_here) (matches : is_letter_of is_here character ≡ true)
-    (one : (other another : ℕ) → letter_of letters other ≡ Some another → is_letter_of another character ≡ true → other ≡ place) (old new : Sight) (before now : List Runner) (calm : IsCalm letters calls seen old before) where
+    (one : (other another : ℕ) → letter_of letters other ≡ Some another → is_letter_of another character ≡ true → other ≡ place) (old new : Sight) (before now : List Runner) (calm : AreCalm letters calls seen old before) where
   abbrev had : List ℕ
   had = begun_from calls letters [] seen
 
@@ -223,15 +223,15 @@ module _ (letters : List ℕ) (calls : List JobCall) (seen : List ℕ) (characte
   more_one none called = more ∙ ap (λ b. cond (b || not (has_call calls place)) had (had ++ place ∷ [])) none ∙ ap (λ b. cond (false || not b) had (had ++ place ∷ [])) called
 
   -- its list is done
-  idle_begun : IsIdle calls place old new before now → (b : Bool) → is_begun had place ≡ b → (c : Bool) → has_call calls place ≡ c → begun_from calls letters [] (seen ++ character ∷ []) ≡ had
+  idle_begun : IsDoneAndIdle calls place old new before now → (b : Bool) → is_begun had place ≡ b → (c : Bool) → has_call calls place ≡ c → begun_from calls letters [] (seen ++ character ∷ []) ≡ had
   idle_begun idle true there c called = more_same there
   idle_begun idle false none false called = more_none none called
   idle_begun idle false none true called =
       let unbegun = (calm.each place is_here idle.runner here idle.here).outside none called in
       absurd (no_both (sym called ∙ none_called calls place (subst (λ n. slice_get (calls_of calls place) n ≡ None) unbegun.done idle.none)))
 
-  idle_calm : IsIdle calls place old new before now → IsCalm letters calls (seen ++ character ∷ []) new now
-  idle_calm idle = subst (λ (s : Sight). IsCalm letters calls (seen ++ character ∷ []) s now) (sym idle.same) (subst (IsCalm letters calls (seen ++ character ∷ []) old) (sym idle.runners)
+  idle_calm : IsDoneAndIdle calls place old new before now → AreCalm letters calls (seen ++ character ∷ []) new now
+  idle_calm idle = subst (λ (s : Sight). AreCalm letters calls (seen ++ character ∷ []) s now) (sym idle.same) (subst (AreCalm letters calls (seen ++ character ∷ []) old) (sym idle.runners)
       (still_calm letters calls seen character old old before calm (still_same old) (idle_begun idle (is_begun had place) refl (has_call calls place) refl)))
 
   -- its call was stepped
@@ -253,7 +253,7 @@ module _ (letters : List ℕ) (calls : List JobCall) (seen : List ℕ) (characte
     calm_by : new.stage ≡ old.stage → new.incarnation ≡ old.incarnation → (tickets : List Ticket) → without_seals new.trail ≡ map step.Entered tickets
         → map (λ (ticket : Ticket). ticket.caller) tickets ≡ begun_from calls letters [] (seen ++ character ∷ []) → AllByRecursion (λ (ticket : Ticket). ticket.ordinal ≡ 1) tickets
         → ((other : ℕ) → other ≢ place → is_begun (begun_from calls letters [] (seen ++ character ∷ [])) other ≡ is_begun had other)
-        → IsInTurn letters calls (seen ++ character ∷ []) new place is_here turn.stepped → IsCalm letters calls (seen ++ character ∷ []) new now
+        → IsInTurn letters calls (seen ++ character ∷ []) new place is_here turn.stepped → AreCalm letters calls (seen ++ character ∷ []) new now
     calm_by stage_is incarnation tickets trail callers firsts others stepped = record {
       runs = stage_is ∙ calm.runs;
       tickets = tickets;
@@ -273,11 +273,11 @@ module _ (letters : List ℕ) (calls : List JobCall) (seen : List ℕ) (characte
     }
 
     -- it entered
-    enters_calm : is_begun had place ≡ false → IsCalm letters calls (seen ++ character ∷ []) new now
+    enters_calm : is_begun had place ≡ false → AreCalm letters calls (seen ++ character ∷ []) new now
     enters_calm none =
         let unbegun = mine.outside none called in
         let free : (old.seats turn.runner.crossings.caller).flight ≡ None = ap (λ n. (old.seats n).flight) turn.own ∙ unbegun.free in
-        let goes : GoesInside capital old new turn.runner.crossings.caller turn.stepped = subst (CalmlyFrom capital old new turn.runner turn.stepped) unbegun.stands (turn.steps nowhere plain) calm.runs free in
+        let goes : WentInside capital old new turn.runner.crossings.caller turn.stepped = subst (CalmlyFrom capital old new turn.runner turn.stepped) unbegun.stands (turn.steps nowhere plain) calm.runs free in
         let begun = more_one none called in
         calm_by goes.stage goes.incarnation (calm.tickets ++ goes.ticket ∷ [])
         (ap without_seals goes.trail ∙ seals_append old.trail (step.Entered goes.ticket ∷ []) ∙ ap (λ (steps : List Step). steps ++ step.Entered goes.ticket ∷ []) calm.trail
@@ -294,7 +294,7 @@ module _ (letters : List ℕ) (calls : List JobCall) (seen : List ℕ) (characte
         })
 
     -- it stayed inside
-    stays_calm : is_begun had place ≡ true → IsCalm letters calls (seen ++ character ∷ []) new now
+    stays_calm : is_begun had place ≡ true → AreCalm letters calls (seen ++ character ∷ []) new now
     stays_calm there =
         let within = mine.inside there in
         let bare : capital ≡ false → has turn.runner.pages 0 ≡ false = λ small. mine.bare there few
@@ -310,14 +310,14 @@ module _ (letters : List ℕ) (calls : List JobCall) (seen : List ℕ) (characte
           bare = λ now_there fewer small. absurd (let one_more = used_here seen character is_here matches in let stood = mine.stood there in omega (arith, one_more, stood, fewer));
         })
 
-    turn_calm : IsCalm letters calls (seen ++ character ∷ []) new now
+    turn_calm : AreCalm letters calls (seen ++ character ∷ []) new now
     turn_calm = by_begun (is_begun had place) refl where
-      by_begun : (b : Bool) → is_begun had place ≡ b → IsCalm letters calls (seen ++ character ∷ []) new now
+      by_begun : (b : Bool) → is_begun had place ≡ b → AreCalm letters calls (seen ++ character ∷ []) new now
       by_begun true there = stays_calm there
       by_begun false none = enters_calm none
 
   pub letter_calm : (capital : Bool) (test : Option (Crossing → Bool)) → TurnsCalmly calls test capital place old new before now → nat_eq (character + 32) is_here ≡ capital → is_calm_next letters seen character ≡ true → HoldsNowhere test
-      → AreAllPlain new.history → IsCalm letters calls (seen ++ character ∷ []) new now
+      → AreAllPlain new.history → AreCalm letters calls (seen ++ character ∷ []) new now
   letter_calm capital test turns capital_is next nowhere plain = elim turns [
     | inl turn ↦ turn_calm capital test turn capital_is next nowhere plain
     | inr idle ↦ idle_calm idle
@@ -347,12 +347,12 @@ begins_all : (tickets : List Ticket) → AllByRecursion (λ (ticket : Ticket). t
 begins_all [] firsts = tt
 begins_all (ticket ∷ tickets) firsts = (refl, firsts.0, begins_all tickets firsts.1)
 
-pub enters_on : (calls : List JobCall) (letters order : List ℕ) (trail now : List Step) → Continues trail now → EntersFirst calls letters order trail → EntersFirst calls letters order now
+pub enters_on : (calls : List JobCall) (letters order : List ℕ) (trail now : List Step) → TrailGoesOn trail now → EntersFirst calls letters order trail → EntersFirst calls letters order now
 enters_on calls letters order trail now goes enters =
     subst (BeginsWith (begun_from calls letters [] (calm_prefix letters order))) (sym (ap without_seals goes.whole ∙ seals_append trail goes.steps))
     (begins_on (begun_from calls letters [] (calm_prefix letters order)) (without_seals trail) (without_seals goes.steps) enters)
 
-calm_begins : (letters : List ℕ) (calls : List JobCall) (seen : List ℕ) (sight : Sight) (runners : List Runner) → IsCalm letters calls seen sight runners → BeginsWith (begun_from calls letters [] seen) (without_seals sight.trail)
+calm_begins : (letters : List ℕ) (calls : List JobCall) (seen : List ℕ) (sight : Sight) (runners : List Runner) → AreCalm letters calls seen sight runners → BeginsWith (begun_from calls letters [] seen) (without_seals sight.trail)
 calm_begins letters calls seen sight runners calm =
     subst (λ (callers : List ℕ). BeginsWith callers (without_seals sight.trail)) calm.callers
     (subst (BeginsWith (map (λ (ticket : Ticket). ticket.caller) calm.tickets)) (sym calm.trail) (begins_all calm.tickets calm.firsts))
@@ -407,15 +407,15 @@ prefix_ended letters seen (character ∷ order) last ended = by_first (is_calm_n
 
 -- after the characters that were seen the trace begins as they tell it, and all callers are calm as long as each might follow
 pub record IsToldBy (letters : List ℕ) (calls : List JobCall) (seen : List ℕ) (sight : Sight) (runners : List Runner) : Type 0 where
-  pub calm : is_calm letters [] seen ≡ true → IsCalm letters calls seen sight runners
+  pub calm : is_calm letters [] seen ≡ true → AreCalm letters calls seen sight runners
   pub enters : EntersFirst calls letters seen sight.trail
 
-pub told_first : (letters : List ℕ) (calls : List JobCall) (sight : Sight) (runners : List Runner) → IsCalm letters calls [] sight runners → IsToldBy letters calls [] sight runners
+pub told_first : (letters : List ℕ) (calls : List JobCall) (sight : Sight) (runners : List Runner) → AreCalm letters calls [] sight runners → IsToldBy letters calls [] sight runners
 told_first letters calls sight runners calm = record { calm = λ so. calm; enters = tt }
 
-module _ (letters : List ℕ) (calls : List JobCall) (seen : List ℕ) (character : ℕ) (old new : Sight) (before now : List Runner) (told : IsToldBy letters calls seen old before) (goes : Continues old.trail new.trail)
+module _ (letters : List ℕ) (calls : List JobCall) (seen : List ℕ) (character : ℕ) (old new : Sight) (before now : List Runner) (told : IsToldBy letters calls seen old before) (goes : TrailGoesOn old.trail new.trail)
     (keeps : KeepsCalm letters calls character old new before now) (plain : AreAllPlain new.history) where
-  calm_on : is_calm letters [] seen ≡ true → is_calm_next letters seen character ≡ true → IsCalm letters calls (seen ++ character ∷ []) new now
+  calm_on : is_calm letters [] seen ≡ true → is_calm_next letters seen character ≡ true → AreCalm letters calls (seen ++ character ∷ []) new now
   calm_on calm next = keeps seen next (told.calm calm) plain
 
   -- the characters that tell are the same
@@ -438,7 +438,7 @@ module _ (letters : List ℕ) (calls : List JobCall) (seen : List ℕ) (characte
   }
 
 -- the same of the characters of an order
-pub told_take : (letters : List ℕ) (calls : List JobCall) (order : List ℕ) (index : ℕ) (old new : Sight) (before now : List Runner) → index < length order → IsToldBy letters calls (take index order) old before → Continues old.trail new.trail
+pub told_take : (letters : List ℕ) (calls : List JobCall) (order : List ℕ) (index : ℕ) (old new : Sight) (before now : List Runner) → index < length order → IsToldBy letters calls (take index order) old before → TrailGoesOn old.trail new.trail
     → KeepsCalm letters calls (get_or order index 0) old new before now → AreAllPlain new.history → IsToldBy letters calls (take (index + 1) order) new now
 told_take letters calls order index old new before now within told goes keeps plain =
     subst (λ (seen : List ℕ). IsToldBy letters calls seen new now) (sym (take_more order index 0 within)) (told_on letters calls (take index order) (get_or order index 0) old new before now told goes keeps plain)
@@ -459,14 +459,14 @@ module _ (callers : List Caller) (calls : List JobCall) (old new : Sight) (befor
   -- a character that is no letter
   pub no_letter_keeps : (character : ℕ) → ((letter : ℕ) → 97 ≤ letter → letter ≤ 122 → (character ≡ letter) ⊎ (character + 32 ≡ letter) → ⊥) → IsStill old new → now ≡ before
       → KeepsCalm (letters_of callers) calls character old new before now
-  no_letter_keeps character other still runners = λ seen next calm plain. subst (IsCalm (letters_of callers) calls (seen ++ character ∷ []) new) (sym runners)
+  no_letter_keeps character other still runners = λ seen next calm plain. subst (AreCalm (letters_of callers) calls (seen ++ character ∷ []) new) (sym runners)
       (no_letter_calm (letters_of callers) calls seen character old new before calm still
       (none_matches character (λ caller letter has is. (let small = small_at caller letter has in other letter small.0 small.1 (letter_or letter character is)))))
 
   -- a letter that no caller has
   pub lacked_keeps : (character : ℕ) → LacksLetter callers (to_ascii_lowercase character) → new ≡ old → now ≡ before → KeepsCalm (letters_of callers) calls character old new before now
-  lacked_keeps character lacks same runners = λ seen next calm plain. subst (λ (s : Sight). IsCalm (letters_of callers) calls (seen ++ character ∷ []) s now) (sym same)
-      (subst (IsCalm (letters_of callers) calls (seen ++ character ∷ []) old) (sym runners)
+  lacked_keeps character lacks same runners = λ seen next calm plain. subst (λ (s : Sight). AreCalm (letters_of callers) calls (seen ++ character ∷ []) s now) (sym same)
+      (subst (AreCalm (letters_of callers) calls (seen ++ character ∷ []) old) (sym runners)
       (no_letter_calm (letters_of callers) calls seen character old old before calm (still_same old)
       (none_matches character (λ caller letter has is. (let small = small_at caller letter has in let found = lettered_at callers caller letter has in
       lacks caller found.0 found.1 (found.2 ∙ sym (lower_is letter character small.0 small.1 is)))))))
@@ -508,11 +508,11 @@ flushed_still old new flushed.Device flushes = subst (IsStill old) (sym flushes)
 
 -- ---- one caller of all
 
-module _ (calls : List JobCall) (test : Option (Crossing → Bool)) (old new : Sight) (runners : List Runner) (caller : ℕ) (x d now : Runner) (underway : Underway calls test old runners) (low : caller < length runners) where
+module _ (calls : List JobCall) (test : Option (Crossing → Bool)) (old new : Sight) (runners : List Runner) (caller : ℕ) (x d now : Runner) (underway : AllUnderWay calls test old runners) (low : caller < length runners) where
   own : (get_or runners caller d).crossings.caller ≡ caller
   own = (underway.served caller (get_or runners caller d) (got runners caller d low)).caller_is
 
-  pub letter_turns : (capital : Bool) (call : Call) → slice_get (calls_of calls caller) (get_or runners caller x).done ≡ Some call → Moves calls test old new (get_or runners caller d) now
+  pub letter_turns : (capital : Bool) (call : Call) → slice_get (calls_of calls caller) (get_or runners caller x).done ≡ Some call → MovesCall calls test old new (get_or runners caller d) now
       → StepsCalmly capital test old new (get_or runners caller d) now → TurnsCalmly calls test capital caller old new runners (slice_set runners caller now)
   letter_turns capital call next moves steps = inl (record {
     runner = get_or runners caller d;
@@ -533,7 +533,7 @@ module _ (calls : List JobCall) (test : Option (Crossing → Bool)) (old new : S
 -- ---- a job at its beginning
 
 pub first_calm : (letters : List ℕ) (calls : List JobCall) (sight : Sight) (runners : List Runner) → sight.stage ≡ stage.Running → sight.trail ≡ [] → ((caller : ℕ) → sight.seats caller ≡ record { begun = 0; flight = None })
-    → ((caller : ℕ) (runner : Runner) → slice_get runners caller ≡ Some runner → runner ≡ new_runner caller) → IsCalm letters calls [] sight runners
+    → ((caller : ℕ) (runner : Runner) → slice_get runners caller ≡ Some runner → runner ≡ new_runner caller) → AreCalm letters calls [] sight runners
 first_calm letters calls sight runners runs trail seats new = record {
   runs = runs;
   tickets = [];

@@ -14,11 +14,11 @@ use Rattle.mb_kinds.specs.declared.faults.Ticket.{Ticket}
 use Rattle.mb_kinds.specs.declared.replies.Reply.{Reply}
 use Rattle.mb_kinds.specs.declared.replies.Reply.TheVariants as reply
 use Rattle.mb_run.specs.Calm.{AreAllPlain, CalmlyFrom, HoldsNowhere, PassesBy, StepsCalmly}
-use Rattle.mb_run.specs.Events.{Answers, Enters, EntersInside, Gathers, IsUnplain, entry_of}
+use Rattle.mb_run.specs.Events.{Answers, EntersInSight, EntersInside, GathersInSight, IsUnplain, entry_of}
 use Rattle.mb_run.specs.Pages.{has}
 use Rattle.mb_run.specs.Recovering.{next_of}
 use Rattle.mb_run.specs.Seals.{is_plain}
-use Rattle.mb_run.specs.Served.{Acts, Asks, MayStep}
+use Rattle.mb_run.specs.Served.{ActsAlone, Asks, MayStep}
 use Rattle.mb_run.specs.Sights.{IsOld, Sight, flight_of}
 use Rattle.mb_run.specs.declared.answers.Enter.TheVariants as enter
 use Rattle.mb_run.specs.declared.runner.At.{At}
@@ -81,13 +81,13 @@ module _ (test : Option (Crossing → Bool)) (old new : Sight) (before : Runner)
   from_outside : (now : Runner) → CalmlyFrom false old new before now at.Outside → CalmlyFrom false old new before now before.at
   from_outside now calmly = subst (CalmlyFrom false old new before now) (sym outside) calmly
 
-  pub entered_done : (now : Runner) (answer : Reply) → Enters old new before.crossings.caller call (enter.Done answer) → StepsCalmly false test old new before now
+  pub entered_done : (now : Runner) (answer : Reply) → EntersInSight old new before.crossings.caller call (enter.Done answer) → StepsCalmly false test old new before now
   entered_done now answer enters = λ nowhere plain. from_outside now (λ runs free. absurd (elim enters [
     | inl left ↦ never_flight left.0 (sym free ∙ left.1.was)
     | inr made ↦ answers_unplain before.crossings.caller (flight_of old before.crossings.caller call (old.seats before.crossings.caller).flight) answer old new made.2 made.1 plain
   ]))
 
-  pub entered_shut : (now : Runner) → Enters old new before.crossings.caller call enter.Shut → StepsCalmly false test old new before now
+  pub entered_shut : (now : Runner) → EntersInSight old new before.crossings.caller call enter.Shut → StepsCalmly false test old new before now
   entered_shut now enters = λ nowhere plain. from_outside now (λ runs free. absurd (not_running old enters.0 runs))
 
 -- a new flight
@@ -119,15 +119,15 @@ module _ (calls : List JobCall) (test : Option (Crossing → Bool)) (old mid new
   from_inside : CalmlyFrom true old new before now (at.Inside ticket) → CalmlyFrom true old new before now before.at
   from_inside calmly = subst (CalmlyFrom true old new before now) (sym inside) calmly
 
-  pub gathered_skip : (mine was : ℕ) → Gathers mid new ticket need m.pages pages (gathered.Skip mine was) → StepsCalmly true test old new before now
+  pub gathered_skip : (mine was : ℕ) → GathersInSight mid new ticket need m.pages pages (gathered.Skip mine was) → StepsCalmly true test old new before now
   gathered_skip mine was gathers = λ nowhere plain. from_inside (λ present any. absurd (gathers.0 (present ∙ ap (λ (s : Sight). s.incarnation) (sym asks.0))))
 
-  pub gathered_device : Gathers mid new ticket need m.pages pages gathered.Device → StepsCalmly true test old new before now
+  pub gathered_device : GathersInSight mid new ticket need m.pages pages gathered.Device → StepsCalmly true test old new before now
   gathered_device gathers = λ nowhere plain. from_inside (λ present any.
       (let has_it = has_ticket calls test old before call may ticket inside in
       absurd (answers_unplain ticket.caller has_it.flight reply.Device mid new (gathers.1 has_it.flight (ap (λ (s : Sight). (s.seats ticket.caller).flight) asks.0 ∙ has_it.here)) tt plain)))
 
-  pub gathered_done : now.at ≡ m.at → Gathers mid new ticket need m.pages pages gathered.Done → StepsCalmly true test old new before now
+  pub gathered_done : now.at ≡ m.at → GathersInSight mid new ticket need m.pages pages gathered.Done → StepsCalmly true test old new before now
   gathered_done stands gathers = λ nowhere plain. from_inside (λ present any. record {
     stands = stands ∙ ap (λ (r : Runner). r.at) asks.1 ∙ inside;
     incarnation = gathers.1.stays.incarnation ∙ ap (λ (s : Sight). s.incarnation) asks.0;
@@ -184,7 +184,7 @@ module _ (test : Option (Crossing → Bool)) (old mid new : Sight) (before m now
       record { stands = two.stands; incarnation = two.incarnation ∙ one.incarnation; stage = two.stage ∙ one.stage; trail = two.trail ∙ one.trail })
   next_from (at.Logged ticket) first then = tt
 
-  pub next_calm : IsCalmSoFar test old mid before m → (acts : Acts m.crossings.caller mid new) → StepsCalmly true test mid new m now → StepsCalmly true test old new before now
+  pub next_calm : IsCalmSoFar test old mid before m → (acts : ActsAlone m.crossings.caller mid new) → StepsCalmly true test mid new m now → StepsCalmly true test old new before now
   next_calm so_far acts steps = λ nowhere plain. elim (so_far nowhere (plain_before mid new acts.entries acts.grown plain)) [
     | inl same ↦ subst (λ (s : Sight). CalmlyFrom true s new before now before.at) same.0 (subst (λ (r : Runner). CalmlyFrom true mid new r now r.at) same.1 (steps nowhere plain))
     | inr first ↦ next_from before.at first (steps nowhere plain)

@@ -10,9 +10,9 @@ use Rattle.mb_kinds.specs.declared.calls.Call.{Call}
 use Rattle.mb_kinds.specs.declared.entries.Entry.{Entry}
 use Rattle.mb_kinds.specs.declared.entries.Flight.{Flight}
 use Rattle.mb_run.specs.Drives.{HasEachMoment, IsComplete}
-use Rattle.mb_run.specs.Orders.{AreCounted, AreRunOut, Grows, IsReached, done_at, done_by}
-use Rattle.mb_run.specs.Served.{IsAtBy, IsBalanced, Underway, calls_in, calls_of}
-use Rattle.mb_run.specs.Sights.{IsOrderly, Sight}
+use Rattle.mb_run.specs.Orders.{AreCounted, AreRunOut, AnswersGrow, ReachesCount, done_at, done_by}
+use Rattle.mb_run.specs.Served.{IsAtBy, IsBalanced, AllUnderWay, calls_in, calls_of}
+use Rattle.mb_run.specs.Sights.{IsOrderlyInSight, Sight}
 use Rattle.mb_run.specs.declared.runner.Runner.{Runner}
 use Rattle.mb_run.proofs.Counting.{same_or_not}
 use Rattle.mb_run.proofs.Everybody.{own_calls}
@@ -67,13 +67,13 @@ module _ (calls : List JobCall) (index : ℕ) (made : JobCall) (here : slice_get
     | inr apart ↦ get_or-set_other passed made.caller caller count 0 apart ∙ counted caller few ∙ sym (theirs caller apart)
   ]
 
-  out_next : (old new : List Runner) → AreRunOut calls old index → Grows old new → length new ≡ length old → length (calls_of (take (index + 1) calls) made.caller) ≤ done_at new made.caller → AreRunOut calls new (index + 1)
+  out_next : (old new : List Runner) → AreRunOut calls old index → AnswersGrow old new → length new ≡ length old → length (calls_of (take (index + 1) calls) made.caller) ≤ done_at new made.caller → AreRunOut calls new (index + 1)
   out_next old new out grows size enough caller low = elim (same_or_not caller made.caller) [
     | inl same ↦ subst (λ c. length (calls_of (take (index + 1) calls) c) ≤ done_at new c) (sym same) enough
     | inr apart ↦ (let below : caller < length old = omega (arith, low, size) in omega (arith, theirs caller apart, out caller below, grows caller))
   ]
 
-  pub out_reached : (old new : List Runner) (count : ℕ) → made.caller < length old → Grows old new → length new ≡ length old → count ≡ length (calls_of (take index calls) made.caller) + 1 → IsReached calls made.caller count old new
+  pub out_reached : (old new : List Runner) (count : ℕ) → made.caller < length old → AnswersGrow old new → length new ≡ length old → count ≡ length (calls_of (take index calls) made.caller) + 1 → ReachesCount calls made.caller count old new
       → AreRunOut calls old index → AreRunOut calls new (index + 1)
   out_reached old new count low grows size is reached out = out_next old new out grows size (elim reached [
     | inl done ↦ omega (arith, is, done, mine)
@@ -103,7 +103,7 @@ free_by : (list made : List Call) (done begun : ℕ) (flight : Option Flight) �
 free_by list made done begun None past at = refl
 free_by list made done begun (Some flight) past at = let low = slice_get_within list done flight.call at.2 in absurd (omega (arith, low, past))
 
-pub complete : (calls : List JobCall) (test : Option (Crossing → Bool)) (sight : Sight) (runners : List Runner) → Underway calls test sight runners → IsBalanced sight → AreRunOut calls runners (length calls) → IsComplete calls (length runners) test sight
+pub complete : (calls : List JobCall) (test : Option (Crossing → Bool)) (sight : Sight) (runners : List Runner) → AllUnderWay calls test sight runners → IsBalanced sight → AreRunOut calls runners (length calls) → IsComplete calls (length runners) test sight
 complete calls test sight runners underway even out =
     let past : (caller : ℕ) (low : caller < length runners) → length (calls_of calls caller) ≤ (runner_at runners caller low).0.done =
     λ caller low. (let is = ap done_by (runner_at runners caller low).1 in let all = ap (λ ms. length (calls_of ms caller)) (take_all (length calls) calls (omega arith)) in
@@ -119,7 +119,7 @@ complete calls test sight runners underway even out =
       sound = underway.sound;
     }
 
-pub each_moment : (sight : Sight) → IsOrderly sight → sight.begun ≡ length sight.history → HasEachMoment sight.config.start sight.history
+pub each_moment : (sight : Sight) → IsOrderlyInSight sight → sight.begun ≡ length sight.history → HasEachMoment sight.config.start sight.history
 each_moment sight right begun = record {
   above = right.above;
   below = subst (λ n. AllByRecursion (λ (entry : Entry). entry.moment ≤ sight.config.start + n) sight.history) begun right.below;

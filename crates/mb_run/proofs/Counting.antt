@@ -10,8 +10,8 @@ use Rattle.mb_edge.specs.declared.crossings.Crossings.{Crossings}
 use Rattle.mb_kinds.specs.declared.faults.FaultRecord.{FaultRecord}
 use Rattle.mb_kinds.specs.declared.faults.Kind.{Kind}
 use Rattle.mb_kinds.specs.declared.faults.Kind.TheVariants.{Enter, Gather, Finish, Leave, Remount, Replay}
-use Rattle.mb_run.specs.Recovering.{GoesOn, IsTaken, crossing_of}
-use Rattle.mb_run.specs.Served.{AreCounts, AreApart, AreSound, IsApart, IsCounted, counted}
+use Rattle.mb_run.specs.Recovering.{CrossingsGoOn, FaultIsTaken, crossing_of}
+use Rattle.mb_run.specs.Served.{AreSixCounts, AreApart, AreSound, IsApart, IsCounted, counted}
 use Rattle.mb_run.proofs.Lists.{all_map, all_both}
 
 pub place_below : (kind : Kind) → place_of kind < 6
@@ -23,18 +23,18 @@ place_below Remount = omega arith
 place_below Replay = omega arith
 
 -- records that were counted are still counted later
-pub counted_on : (before now : Crossings) (records : List FaultRecord) → GoesOn before now → AllByRecursion (IsCounted before) records → AllByRecursion (IsCounted now) records
+pub counted_on : (before now : Crossings) (records : List FaultRecord) → CrossingsGoOn before now → AllByRecursion (IsCounted before) records → AllByRecursion (IsCounted now) records
 counted_on before now records on all = all_map (IsCounted before) (IsCounted now) records
     (λ fault is mine. elim (is (mine ∙ on.caller)) [ inl earlier ↦ inl (subst (λ n. fault.ordinal < n) (sym on.ordinal) earlier) | inr here ↦ inr (here.0 ∙ sym on.ordinal, (omega (arith, here.1, on.counts fault.kind))) ]) all
 
 -- one record more
-pub counted_push : (test : Option (Crossing → Bool)) (before now : Crossings) (records : List FaultRecord) (fault : FaultRecord) → GoesOn before now → IsTaken test before now fault
+pub counted_push : (test : Option (Crossing → Bool)) (before now : Crossings) (records : List FaultRecord) (fault : FaultRecord) → CrossingsGoOn before now → FaultIsTaken test before now fault
     → AllByRecursion (IsCounted before) records → AllByRecursion (IsCounted now) (records ++ fault ∷ [])
 counted_push test before now records fault on taken all =
     all_both (IsCounted now) records (fault ∷ []) (counted_on before now records on all) (λ mine. inr (taken.ordinal ∙ sym on.ordinal, taken.counted), tt)
 
 -- a new record is at no crossing of the earlier ones
-apart_one : (test : Option (Crossing → Bool)) (before now : Crossings) (fault one : FaultRecord) → IsTaken test before now fault → IsCounted before one → IsApart one fault
+apart_one : (test : Option (Crossing → Bool)) (before now : Crossings) (fault one : FaultRecord) → FaultIsTaken test before now fault → IsCounted before one → IsApart one fault
 apart_one test before now fault one taken is = λ same.
     elim taken.later [
       | inr greatest ↦ ap (λ (r : FaultRecord). r.nth) same ∙ greatest
@@ -48,7 +48,7 @@ apart_push : (records : List FaultRecord) (fault : FaultRecord) → AllByRecursi
 apart_push [] fault all apart = (tt, tt)
 apart_push (one ∷ records) fault all apart = (all_both (IsApart one) records (fault ∷ []) apart.0 (all.0, tt), apart_push records fault all.1 apart.1)
 
-pub sound_push : (test : Option (Crossing → Bool)) (before now : Crossings) (records : List FaultRecord) (fault : FaultRecord) → IsTaken test before now fault
+pub sound_push : (test : Option (Crossing → Bool)) (before now : Crossings) (records : List FaultRecord) (fault : FaultRecord) → FaultIsTaken test before now fault
     → AllByRecursion (IsCounted before) records → AreSound test records → AreSound test (records ++ fault ∷ [])
 sound_push test before now records fault taken all sound = record {
   holds = all_both (λ (r : FaultRecord). IfSome test (λ fires. fires (crossing_of r) ≡ true)) records (fault ∷ []) sound.holds (taken.holds, tt);
@@ -73,13 +73,13 @@ next_is counts kind fits = elim (two_cases (slice_index counts (place_of kind)) 
 abbrev after : Crossings → Kind → ℕ → ℕ
 after crossings kind place = slice_index (counted crossings kind).counts place
 
-pub here : (crossings : Crossings) (kind : Kind) → AreCounts crossings → after crossings kind (place_of kind) ≡ next_nth crossings.counts kind
+pub here : (crossings : Crossings) (kind : Kind) → AreSixCounts crossings → after crossings kind (place_of kind) ≡ next_nth crossings.counts kind
 here crossings kind are = let low : place_of kind < length crossings.counts = omega (arith, place_below kind, are.six) in get_or-set_same crossings.counts (place_of kind) (next_nth crossings.counts kind) 0 low
 
 pub there : (crossings : Crossings) (kind other : Kind) → place_of other ≢ place_of kind → after crossings kind (place_of other) ≡ slice_index crossings.counts (place_of other)
 there crossings kind other apart = get_or-set_other crossings.counts (place_of kind) (place_of other) (next_nth crossings.counts kind) 0 apart
 
-each : (crossings : Crossings) (kind other : Kind) → AreCounts crossings → (slice_index crossings.counts (place_of other) ≤ after crossings kind (place_of other)) × (after crossings kind (place_of other) ≤ 4294967295)
+each : (crossings : Crossings) (kind other : Kind) → AreSixCounts crossings → (slice_index crossings.counts (place_of other) ≤ after crossings kind (place_of other)) × (after crossings kind (place_of other) ≤ 4294967295)
 each crossings kind other are = elim (same_or_not (place_of other) (place_of kind)) [
   | inl same ↦ (let is : after crossings kind (place_of other) ≡ next_nth crossings.counts kind = ap (after crossings kind) same ∙ here crossings kind are in
       let was : slice_index crossings.counts (place_of other) ≡ slice_index crossings.counts (place_of kind) = ap (slice_index crossings.counts) same in
@@ -87,18 +87,18 @@ each crossings kind other are = elim (same_or_not (place_of other) (place_of kin
   | inr apart ↦ (let is = there crossings kind other apart in (omega (arith, is), omega (arith, is, are.fits other)))
 ]
 
-pub counted_goes : (crossings : Crossings) (kind : Kind) → AreCounts crossings → GoesOn crossings (counted crossings kind)
+pub counted_goes : (crossings : Crossings) (kind : Kind) → AreSixCounts crossings → CrossingsGoOn crossings (counted crossings kind)
 counted_goes crossings kind are = record { caller = refl; ordinal = refl; counts = λ other. (each crossings kind other are).0; six = length-set crossings.counts (place_of kind) (next_nth crossings.counts kind); fits = λ other. (each crossings kind other are).1 }
 
-pub counted_are : (crossings : Crossings) (kind : Kind) → AreCounts crossings → AreCounts (counted crossings kind)
+pub counted_are : (crossings : Crossings) (kind : Kind) → AreSixCounts crossings → AreSixCounts (counted crossings kind)
 counted_are crossings kind are = record {
   six = length-set crossings.counts (place_of kind) (next_nth crossings.counts kind) ∙ are.six;
   fits = λ other. (each crossings kind other are).1;
 }
 
-pub counted_taken : (test : Option (Crossing → Bool)) (crossings : Crossings) (kind : Kind) → AreCounts crossings
+pub counted_taken : (test : Option (Crossing → Bool)) (crossings : Crossings) (kind : Kind) → AreSixCounts crossings
     → IfSome test (λ fires. fires (record { caller = crossings.caller; ordinal = crossings.ordinal; kind = kind; nth = next_nth crossings.counts kind }) ≡ true)
-    → IsTaken test crossings (counted crossings kind) (record { caller = crossings.caller; ordinal = crossings.ordinal; kind = kind; nth = next_nth crossings.counts kind })
+    → FaultIsTaken test crossings (counted crossings kind) (record { caller = crossings.caller; ordinal = crossings.ordinal; kind = kind; nth = next_nth crossings.counts kind })
 counted_taken test crossings kind are holds = record {
   caller = refl;
   ordinal = refl;

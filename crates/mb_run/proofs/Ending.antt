@@ -9,8 +9,8 @@ use Rattle.mb_edge.specs.declared.crossings.Crossings.{Crossings}
 use Rattle.mb_run.specs.Events.{FlushesWith, sealed}
 use Rattle.mb_run.specs.Orders.{IsQuiet, IsSealedNow}
 use Rattle.mb_run.specs.Recovering.{GoOn, Steps, StrikesBy}
-use Rattle.mb_run.specs.Settling.{IsFlushed, IsSettled, Keeps}
-use Rattle.mb_run.specs.Sights.{IsOrderly, Sight, recovers}
+use Rattle.mb_run.specs.Settling.{IsFlushed, IsSettled, KeepsHistory}
+use Rattle.mb_run.specs.Sights.{IsOrderlyInSight, Sight, recovers}
 use Rattle.mb_run.specs.declared.answers.Stepped.{Stepped}
 use Rattle.mb_run.specs.declared.settles.SettleEnd.{SettleEnd}
 use Rattle.mb_run.specs.declared.settles.SettleEnd.TheVariants as end
@@ -18,20 +18,20 @@ use Rattle.mb_cache.specs.declared.answers.Flushed.TheVariants as flushed
 use Rattle.mb_run.proofs.Quiet.{quiet_alone}
 use Rattle.mb_run.proofs.Trails.{trail_put, trail_same, trail_then}
 
-quiet_keeps : (old new : Sight) → IsQuiet old new → Keeps old new
+quiet_keeps : (old new : Sight) → IsQuiet old new → KeepsHistory old new
 quiet_keeps old new quiet = record { history = quiet.counts.history; records = quiet.records; config = quiet.config; seats = quiet.seats; trail = quiet.trail }
 
-pub alone_keeps : (test : Option (Crossing → Bool)) (old new : Sight) (by : Option Crossings) (answer : Stepped) → GoOn None by → Steps test None by old new answer → Keeps old new
+pub alone_keeps : (test : Option (Crossing → Bool)) (old new : Sight) (by : Option Crossings) (answer : Stepped) → GoOn None by → Steps test None by old new answer → KeepsHistory old new
 alone_keeps test old new by answer on steps = quiet_keeps old new (quiet_alone test old new by answer on steps)
 
 pub never_struck : (test : Option (Crossing → Bool)) (by : Option Crossings) (old new : Sight) → StrikesBy test None by old new → ⊥
 never_struck test None old new strikes = strikes
 never_struck test (Some now) old new strikes = strikes
 
-pub keeps_same : (s : Sight) → Keeps s s
+pub keeps_same : (s : Sight) → KeepsHistory s s
 keeps_same s = record { history = refl; records = refl; config = refl; seats = λ caller. refl; trail = trail_same s.trail }
 
-pub keeps_then : (a b d : Sight) → Keeps a b → Keeps b d → Keeps a d
+pub keeps_then : (a b d : Sight) → KeepsHistory a b → KeepsHistory b d → KeepsHistory a d
 keeps_then a b d one two = record { history = two.history ∙ one.history; records = two.records ∙ one.records; config = two.config ∙ one.config; seats = λ caller. two.seats caller ∙ one.seats caller; trail = trail_then a.trail b.trail d.trail one.trail two.trail }
 
 pub rose_later : (a b d : ℕ) → a ≤ b → Rose b d → Rose a d
@@ -44,16 +44,16 @@ flushed_one old mid new so_far flushes = flushes.1 ∙ ap (λ (s : Sight). recor
 pub flushed_end : (old mid new : Sight) → mid ≡ record old { sealed = mid.sealed } → new ≡ mid → new ≡ record old { sealed = new.sealed }
 flushed_end old mid new so_far same = same ∙ so_far ∙ ap (λ n. record old { sealed = n }) (ap (λ (s : Sight). s.sealed) (sym same))
 
-sealed_keeps : (old new : Sight) → IsSealedNow old new → Keeps old new
+sealed_keeps : (old new : Sight) → IsSealedNow old new → KeepsHistory old new
 sealed_keeps old new is = elim is [
-  | inl taken ↦ subst (Keeps old) (sym taken.1) (record { history = refl; records = refl; config = refl; seats = λ caller. refl; trail = trail_put old.trail (step.Sealed (length old.history) ∷ []) (sealed old new).trail refl })
-  | inr none ↦ subst (Keeps old) (sym none.1) (keeps_same old)
+  | inl taken ↦ subst (KeepsHistory old) (sym taken.1) (record { history = refl; records = refl; config = refl; seats = λ caller. refl; trail = trail_put old.trail (step.Sealed (length old.history) ∷ []) (sealed old new).trail refl })
+  | inr none ↦ subst (KeepsHistory old) (sym none.1) (keeps_same old)
 ]
 
-pub flushed_keeps : (old new : Sight) (came : SettleEnd) → IsFlushed old new came → Keeps old new
-flushed_keeps old new came is = subst (Keeps old) (sym is.rest) (record { history = refl; records = refl; config = refl; seats = λ caller. refl; trail = trail_same old.trail })
+pub flushed_keeps : (old new : Sight) (came : SettleEnd) → IsFlushed old new came → KeepsHistory old new
+flushed_keeps old new came is = subst (KeepsHistory old) (sym is.rest) (record { history = refl; records = refl; config = refl; seats = λ caller. refl; trail = trail_same old.trail })
 
-pub quiet_kept : (old new : Sight) → IsQuiet old new → Keeps old new
+pub quiet_kept : (old new : Sight) → IsQuiet old new → KeepsHistory old new
 quiet_kept old new quiet = quiet_keeps old new quiet
 
 no_both : true ≡ false → ⊥
@@ -68,7 +68,7 @@ stopped_by stage.Remounted over stopped = absurd (no_both over)
 stopped_by (stage.Restored done) over stopped = absurd (no_both over)
 stopped_by stage.Failed over stopped = refl
 
-pub settled : (first a b d : Sight) (came : SettleEnd) → Keeps first a → recovers a.stage ≡ false → IsOrderly a → IsSealedNow a b → IsFlushed b d came → came ≡ end.Clean → IsSettled first d
+pub settled : (first a b d : Sight) (came : SettleEnd) → KeepsHistory first a → recovers a.stage ≡ false → IsOrderlyInSight a → IsSealedNow a b → IsFlushed b d came → came ≡ end.Clean → IsSettled first d
 settled first a b d came kept over right seal flush clean = record {
   keeps = keeps_then first b d (keeps_then first a b kept (sealed_keeps a b seal)) (flushed_keeps b d came flush);
   over = ap (λ (s : Sight). recovers s.stage) flush.rest ∙ elim seal [

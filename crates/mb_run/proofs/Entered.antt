@@ -14,10 +14,10 @@ use Rattle.mb_kinds.specs.declared.replies.Reply.{Reply}
 use Rattle.std.proofs.lemmas.Bool.{eq-eqb}
 use Rattle.mb_core_spec.specs.Copies.{PagesState, no_pages}
 use Rattle.mb_run.specs.Pages.{has}
-use Rattle.mb_run.specs.Events.{Answers, Begins, Enters, EntersInside, Leaves, entry_of}
+use Rattle.mb_run.specs.Events.{Answers, BeginsFlight, EntersInSight, EntersInside, EndsFlight, entry_of}
 use Rattle.mb_run.specs.Firsts.{KeepsFirsts}
-use Rattle.mb_run.specs.Served.{Acts, AreCounts, Did, GoesIn, IsAtBy, IsCounted, InLine, IsBalanced, IsStanding, LineBy, MayStep, Nears, advanced, busy, calls_in, calls_of, missing, rank, work}
-use Rattle.mb_run.specs.Sights.{IsOld, IsOrderly, Limits, Seat, Sight, flight_of, one_if, recovers, undue_in}
+use Rattle.mb_run.specs.Served.{ActsAlone, AreSixCounts, Did, AsksAtEntry, IsAtBy, IsCounted, InLine, IsBalanced, IsStanding, LineBy, MayStep, Nears, advanced, busy, calls_in, calls_of, missing, rank, work}
+use Rattle.mb_run.specs.Sights.{IsOld, IsOrderlyInSight, Limits, Seat, Sight, flight_of, one_if, recovers, undue_in}
 use Rattle.mb_run.specs.declared.runner.At.{At}
 use Rattle.mb_run.specs.declared.runner.At.TheVariants as at
 use Rattle.mb_run.specs.declared.answers.Enter.TheVariants as enter
@@ -44,7 +44,7 @@ counted_next : (crossings next : Crossings) (records : List FaultRecord) → nex
 counted_next crossings next records same more all = all_map (IsCounted crossings) (IsCounted next) records
     (λ fault is mine. elim (is (mine ∙ same)) [ inl earlier ↦ inl (omega (arith, earlier)) | inr here ↦ inl (omega (arith, here.0)) ]) all
 
-pub no_counts : (crossings : Crossings) → AreCounts (record crossings { counts = 0 ∷ 0 ∷ 0 ∷ 0 ∷ 0 ∷ 0 ∷ [] })
+pub no_counts : (crossings : Crossings) → AreSixCounts (record crossings { counts = 0 ∷ 0 ∷ 0 ∷ 0 ∷ 0 ∷ 0 ∷ [] })
 no_counts crossings = record {
   six = refl;
   fits = λ kind. elim kind as (λ (k : Kind). slice_index (0 ∷ 0 ∷ 0 ∷ 0 ∷ 0 ∷ 0 ∷ []) (place_of k) ≤ 4294967295) [
@@ -62,7 +62,7 @@ rank_outside incarnation stales pages a outside = ap (rank incarnation stales pa
 
 module _ (calls : List JobCall) (test : Option (Crossing → Bool)) (old : Sight) (runner : Runner) (call : Call) (may : MayStep calls test old runner call) where
   -- the call has its entry and its flight ends
-  pub did_end : (new : Sight) → Acts runner.crossings.caller old new → (InLine runner.crossings.caller old → InLine runner.crossings.caller new) → (IsBalanced old → IsBalanced new) → undue_in new ≤ undue_in old → new.records ≡ old.records
+  pub did_end : (new : Sight) → ActsAlone runner.crossings.caller old new → (InLine runner.crossings.caller old → InLine runner.crossings.caller new) → (IsBalanced old → IsBalanced new) → undue_in new ≤ undue_in old → new.records ≡ old.records
       → IsAtBy (calls_of calls runner.crossings.caller) (calls_in new.history runner.crossings.caller) (runner.done + 1) (new.seats runner.crossings.caller).begun (new.seats runner.crossings.caller).flight
       → (new.seats runner.crossings.caller).flight ≡ None → Did calls test old new runner (advanced runner) went.Ended
   did_end new acts lined balanced seals records here gone = record {
@@ -86,7 +86,7 @@ module _ (calls : List JobCall) (test : Option (Crossing → Bool)) (old : Sight
     goes = (refl, gone);
   }
 
-  pub did_leave : (new : Sight) (flight : Flight) → Leaves runner.crossings.caller flight old new → Did calls test old new runner (advanced runner) went.Ended
+  pub did_leave : (new : Sight) (flight : Flight) → EndsFlight runner.crossings.caller flight old new → Did calls test old new runner (advanced runner) went.Ended
   did_leave new flight leaves =
       let was = subst (IsAtBy (calls_of calls runner.crossings.caller) (calls_in old.history runner.crossings.caller) runner.done (old.seats runner.crossings.caller).begun) leaves.was may.served.calls in
       did_end new (acts_stays runner.crossings.caller old new leaves.stays leaves.counts.history (elim leaves.floor [ inl none ↦ inl none | inr same ↦ inr (inr same) ]) (firsts_leaves old new runner.crossings.caller flight may.within (counted_from flight.ordinal runner.done was.1) (was.0 ∙ sym was.1) leaves) (trail_marks old.trail new.trail leaves.log.trail)) (line_leaves runner.crossings.caller flight old new leaves) (balanced_same old new leaves.counts) (still_undue old new leaves.stays.config leaves.log leaves.counts.history) leaves.stays.records
@@ -115,13 +115,13 @@ module _ (calls : List JobCall) (test : Option (Crossing → Bool)) (old : Sight
       at_begins (calls_of calls runner.crossings.caller) (calls_in old.history runner.crossings.caller) runner.done old runner.crossings.caller call (old.seats runner.crossings.caller).flight flight may.served.calls may.next ordinal called answered
 
   firsts_in : (new : Sight) (flight : Flight) → flight.ordinal ≡ (flight_of old runner.crossings.caller call (old.seats runner.crossings.caller).flight).ordinal → flight.moment ≡ (flight_of old runner.crossings.caller call (old.seats runner.crossings.caller).flight).moment → flight.call ≡ (flight_of old runner.crossings.caller call (old.seats runner.crossings.caller).flight).call → flight.answered ≡ (flight_of old runner.crossings.caller call (old.seats runner.crossings.caller).flight).answered
-      → Begins runner.crossings.caller flight old new → KeepsFirsts old new
+      → BeginsFlight runner.crossings.caller flight old new → KeepsFirsts old new
   firsts_in new flight ordinal moment called answered begins =
       let here = begun flight ordinal called answered in
       firsts_begins old new runner.crossings.caller flight may.within (counted_from flight.ordinal runner.done here.1)
       (came_from old new runner.crossings.caller call (old.seats runner.crossings.caller).flight flight refl ordinal moment begins.begun) begins
 
-  pub did_done : (new : Sight) (answer : Reply) → Enters old new runner.crossings.caller call (enter.Done answer) → Did calls test old new runner (advanced runner) went.Ended
+  pub did_done : (new : Sight) (answer : Reply) → EntersInSight old new runner.crossings.caller call (enter.Done answer) → Did calls test old new runner (advanced runner) went.Ended
   did_done new answer enters = elim enters [
     | inl left ↦ did_leave new left.0 left.1
     | inr made ↦ did_answer new (flight_of old runner.crossings.caller call (old.seats runner.crossings.caller).flight) answer made.2 made.0 (begun (flight_of old runner.crossings.caller call (old.seats runner.crossings.caller).flight) refl refl refl)
@@ -134,7 +134,7 @@ module _ (calls : List JobCall) (test : Option (Crossing → Bool)) (old : Sight
     was_old : IsOld old.incarnation (old.seats runner.crossings.caller).flight
     was_old = subst (IsStanding old runner.crossings.caller runner.pages) outside may.served.stands
 
-    pub did_shut : (new : Sight) → Enters old new runner.crossings.caller call enter.Shut → Did calls test old new runner runner went.Shut
+    pub did_shut : (new : Sight) → EntersInSight old new runner.crossings.caller call enter.Shut → Did calls test old new runner runner went.Shut
     did_shut new enters =
         let begins = enters.2 in
         let limit : new.config.limit ≡ old.config.limit = ap (λ (l : Limits). l.limit) begins.stays.config in
@@ -173,7 +173,7 @@ module _ (calls : List JobCall) (test : Option (Crossing → Bool)) (old : Sight
     abbrev pub within : Ticket → Runner
     within ticket = record runner { at = at.Inside ticket; asked = false; pages = no_pages }
 
-    pub may_inside : (mid : Sight) (ticket : Ticket) → EntersInside old mid runner.crossings.caller call ticket → IsOrderly mid → MayStep calls test mid (within ticket) call
+    pub may_inside : (mid : Sight) (ticket : Ticket) → EntersInside old mid runner.crossings.caller call ticket → IsOrderlyInSight mid → MayStep calls test mid (within ticket) call
     may_inside mid ticket enters right =
         let begins = enters.begins in
         record {
@@ -203,7 +203,7 @@ module _ (calls : List JobCall) (test : Option (Crossing → Bool)) (old : Sight
           right = right;
         }
 
-    pub did_inside : (mid new : Sight) (now : Runner) (came : Went) (ticket : Ticket) → EntersInside old mid runner.crossings.caller call ticket → GoesIn calls test mid new (within ticket) now came → Did calls test old new runner now came
+    pub did_inside : (mid new : Sight) (now : Runner) (came : Went) (ticket : Ticket) → EntersInside old mid runner.crossings.caller call ticket → AsksAtEntry calls test mid new (within ticket) now came → Did calls test old new runner now came
     did_inside mid new now came ticket enters goes =
         let begins = enters.begins in
         let limit : mid.config.limit ≡ old.config.limit = ap (λ (l : Limits). l.limit) begins.stays.config in
@@ -238,5 +238,5 @@ module _ (calls : List JobCall) (test : Option (Crossing → Bool)) (old : Sight
   })
 
   -- it did not enter, for want of memory
-  pub did_not_enter : (new : Sight) → Enters old new runner.crossings.caller call enter.NoMemory → Did calls test old new runner runner went.NoMemory
+  pub did_not_enter : (new : Sight) → EntersInSight old new runner.crossings.caller call enter.NoMemory → Did calls test old new runner runner went.NoMemory
   did_not_enter new enters = did_nothing new enters.0 (marked_lacks runner.answered old runner.crossings.caller call (old.seats runner.crossings.caller).flight may.served.marked enters.1)

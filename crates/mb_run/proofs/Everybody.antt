@@ -7,8 +7,8 @@ use Rattle.std.proofs.lemmas.Option.{same_Some, slice_get_within, slice_get-get_
 use Rattle.mb_edge.specs.declared.crossings.Crossing.{Crossing}
 use Rattle.mb_kinds.specs.declared.calls.Call.{Call}
 use Rattle.mb_kinds.specs.declared.entries.Flight.{Flight}
-use Rattle.mb_run.specs.Served.{Acts, AreCounts, HasRun, IsAtBy, IsMine, IsServed, Turns, MayStep, Nears, Underway, busy, calls_in, calls_of, rank, work}
-use Rattle.mb_run.specs.Sights.{IsOrderly, Limits, Sight, one_if, recovers}
+use Rattle.mb_run.specs.Served.{ActsAlone, AreSixCounts, HasRun, IsAtBy, IsFloorOf, IsServedSoFar, Turns, MayStep, Nears, AllUnderWay, busy, calls_in, calls_of, rank, work}
+use Rattle.mb_run.specs.Sights.{IsOrderlyInSight, Limits, Sight, one_if, recovers}
 use Rattle.mb_jobs.specs.declared.jobs.JobCall.{JobCall}
 use Rattle.mb_core_spec.specs.declared.stages.Stage.TheVariants as stage
 use Rattle.mb_run.specs.declared.runner.Runner.{Runner}
@@ -19,13 +19,13 @@ use Rattle.mb_run.proofs.Rolling.{other_served}
 use Rattle.mb_run.proofs.Struck.{one_most, rank_most}
 
 -- what one caller of the list may do
-pub may_of : (calls : List JobCall) (test : Option (Crossing → Bool)) (sight : Sight) (runners : List Runner) (caller : ℕ) (runner : Runner) (call : Call) → Underway calls test sight runners → slice_get runners caller ≡ Some runner
+pub may_of : (calls : List JobCall) (test : Option (Crossing → Bool)) (sight : Sight) (runners : List Runner) (caller : ℕ) (runner : Runner) (call : Call) → AllUnderWay calls test sight runners → slice_get runners caller ≡ Some runner
     → slice_get (calls_of calls caller) runner.done ≡ Some call → MayStep calls test sight runner call
 may_of calls test sight runners caller runner call underway here next =
     let served = underway.served caller runner here in
     let low : caller < length runners = slice_get_within runners caller runner here in
     record {
-      served = subst (λ n. IsServed (calls_of calls n) sight n runner) (sym served.caller_is) served;
+      served = subst (λ n. IsServedSoFar (calls_of calls n) sight n runner) (sym served.caller_is) served;
       sound = underway.sound;
       within = omega (arith, low, served.caller_is, underway.callers);
       most = underway.most runner.crossings.caller;
@@ -51,7 +51,7 @@ own_by : (list made : List Call) (done begun : ℕ) (flight : Option Flight) →
 own_by list made done begun None past at = at.1 ∙ take_all done list past
 own_by list made done begun (Some flight) past at = at.3 ∙ take_all (done + one_if flight.answered) list (omega arith)
 
-not_held : (holder : ℕ) (sight : Sight) → IsOrderly sight → (sight.seats holder).flight ≡ None → sight.floor ≡ Some holder → ⊥
+not_held : (holder : ℕ) (sight : Sight) → IsOrderlyInSight sight → (sight.seats holder).flight ≡ None → sight.floor ≡ Some holder → ⊥
 not_held holder sight right free held = let found = right.floor holder held in never_some found.0 (sym free ∙ found.1)
 
 -- the runner of a caller, after one was put in its place
@@ -68,17 +68,17 @@ put_get runners caller other now found low here =
     ]
 
 -- after steps of one caller
-pub underway_on : (calls : List JobCall) (test : Option (Crossing → Bool)) (old new : Sight) (runners : List Runner) (caller : ℕ) (before now : Runner) → Underway calls test old runners → slice_get runners caller ≡ Some before → before.crossings.caller ≡ caller
-    → Nears calls test old new before now → IsOrderly new → Underway calls test new (slice_set runners caller now)
+pub underway_on : (calls : List JobCall) (test : Option (Crossing → Bool)) (old new : Sight) (runners : List Runner) (caller : ℕ) (before now : Runner) → AllUnderWay calls test old runners → slice_get runners caller ≡ Some before → before.crossings.caller ≡ caller
+    → Nears calls test old new before now → IsOrderlyInSight new → AllUnderWay calls test new (slice_set runners caller now)
 underway_on calls test old new runners caller before now underway here own nears right =
     let low : caller < length runners = slice_get_within runners caller before here in
     record {
       served = λ other found is. elim (put_get runners caller other now found low is) [
-        | inl mine ↦ subst (λ (r : Runner). IsServed (calls_of calls other) new other r) (sym mine.1) (subst (λ n. IsServed (calls_of calls n) new n now) (own ∙ sym mine.0) nears.served)
-        | inr theirs ↦ other_served (calls_of calls other) caller other old new found theirs.0 (subst (λ n. Acts n old new) own nears.acts) (underway.served other found theirs.1)
+        | inl mine ↦ subst (λ (r : Runner). IsServedSoFar (calls_of calls other) new other r) (sym mine.1) (subst (λ n. IsServedSoFar (calls_of calls n) new n now) (own ∙ sym mine.0) nears.served)
+        | inr theirs ↦ other_served (calls_of calls other) caller other old new found theirs.0 (subst (λ n. ActsAlone n old new) own nears.acts) (underway.served other found theirs.1)
       ];
       counts = λ other found is. elim (put_get runners caller other now found low is) [
-        | inl mine ↦ subst (λ (r : Runner). AreCounts r.crossings) (sym mine.1) nears.counts
+        | inl mine ↦ subst (λ (r : Runner). AreSixCounts r.crossings) (sym mine.1) nears.counts
         | inr theirs ↦ underway.counts other found theirs.1
       ];
       sound = nears.sound;
@@ -89,13 +89,13 @@ underway_on calls test old new runners caller before now underway here own nears
     }
 
 -- each caller's calls, once its list is done
-pub own_calls : (calls : List JobCall) (test : Option (Crossing → Bool)) (sight : Sight) (runners : List Runner) (caller : ℕ) (runner : Runner) → Underway calls test sight runners → slice_get runners caller ≡ Some runner
+pub own_calls : (calls : List JobCall) (test : Option (Crossing → Bool)) (sight : Sight) (runners : List Runner) (caller : ℕ) (runner : Runner) → AllUnderWay calls test sight runners → slice_get runners caller ≡ Some runner
     → length (calls_of calls caller) ≤ runner.done → calls_in sight.history caller ≡ calls_of calls caller
 own_calls calls test sight runners caller runner underway here past =
     own_by (calls_of calls caller) (calls_in sight.history caller) runner.done (sight.seats caller).begun (sight.seats caller).flight past (underway.served caller runner here).calls
 
 -- once the holder of the floor has run, a caller that waited for it has less to do
-pub holder_ran : (calls : List JobCall) (test : Option (Crossing → Bool)) (old new : Sight) (holder_before holder_now waits : Runner) (caller : ℕ) → HasRun calls test old new holder_before holder_now → IsOrderly new
+pub holder_ran : (calls : List JobCall) (test : Option (Crossing → Bool)) (old new : Sight) (holder_before holder_now waits : Runner) (caller : ℕ) → HasRun calls test old new holder_before holder_now → IsOrderlyInSight new
     → old.floor ≡ Some holder_before.crossings.caller → holder_before.crossings.caller ≢ caller → old.stage ≡ stage.Running → work new caller waits < work old caller waits
 holder_ran calls test old new holder_before holder_now waits caller ran right held apart running =
     let acts = ran.nears.acts in
@@ -147,11 +147,11 @@ got runners caller d low = slice_get-get_or runners caller d low
 pub same_got : (runners : List Runner) (caller : ℕ) (x d : Runner) → caller < length runners → x ≡ get_or runners caller x → x ≡ get_or runners caller d
 same_got runners caller x d low is = is ∙ some_same (get_or runners caller x) (get_or runners caller d) (sym (got runners caller x low) ∙ got runners caller d low)
 
-module _ (calls : List JobCall) (test : Option (Crossing → Bool)) (old new : Sight) (runners : List Runner) (caller : ℕ) (d now : Runner) (underway : Underway calls test old runners) (low : caller < length runners) where
+module _ (calls : List JobCall) (test : Option (Crossing → Bool)) (old new : Sight) (runners : List Runner) (caller : ℕ) (d now : Runner) (underway : AllUnderWay calls test old runners) (low : caller < length runners) where
   own_caller : (get_or runners caller d).crossings.caller ≡ caller
   own_caller = (underway.served caller (get_or runners caller d) (got runners caller d low)).caller_is
 
-  pub put_underway : Nears calls test old new (get_or runners caller d) now → IsOrderly new → Underway calls test new (slice_set runners caller now)
+  pub put_underway : Nears calls test old new (get_or runners caller d) now → IsOrderlyInSight new → AllUnderWay calls test new (slice_set runners caller now)
   put_underway nears right = underway_on calls test old new runners caller (get_or runners caller d) now underway (got runners caller d low) own_caller nears right
 
   pub turned_less : Turns calls test old new (get_or runners caller d) now turn.Again → work_at new caller (slice_set runners caller now) < work_at old caller runners
@@ -162,11 +162,11 @@ module _ (calls : List JobCall) (test : Option (Crossing → Bool)) (old new : S
       omega (arith, was, is, less)
 
   -- the holder of the floor
-  module _ (holder : ℕ) (turns : Turns calls test old new (get_or runners caller d) now (turn.Busy holder)) (right : IsOrderly new) where
+  module _ (holder : ℕ) (turns : Turns calls test old new (get_or runners caller d) now (turn.Busy holder)) (right : IsOrderlyInSight new) where
     apart : holder ≢ caller
     apart = λ same. turns.goes.4 (same ∙ sym own_caller)
 
-    pub mid : Underway calls test new (slice_set runners caller now)
+    pub mid : AllUnderWay calls test new (slice_set runners caller now)
     mid = put_underway turns.nears right
 
     pub holder_low : holder < length (slice_set runners caller now)
@@ -190,10 +190,10 @@ module _ (calls : List JobCall) (test : Option (Crossing → Bool)) (old new : S
     holder_is : (e : Runner) → (get_or (slice_set runners caller now) holder e).crossings.caller ≡ holder
     holder_is e = (mid.served holder (get_or (slice_set runners caller now) holder e) (got (slice_set runners caller now) holder e holder_low)).caller_is
 
-    pub holder_mine : (e : Runner) → IsMine (get_or (slice_set runners caller now) holder e).crossings.caller new.floor
+    pub holder_mine : (e : Runner) → IsFloorOf (get_or (slice_set runners caller now) holder e).crossings.caller new.floor
     holder_mine e = inr (turns.goes.3 ∙ ap Some (sym (holder_is e)))
 
-    pub held_less : (last : Sight) (e after : Runner) → HasRun calls test new last (get_or (slice_set runners caller now) holder e) after → IsOrderly last
+    pub held_less : (last : Sight) (e after : Runner) → HasRun calls test new last (get_or (slice_set runners caller now) holder e) after → IsOrderlyInSight last
         → work_at last caller (slice_set (slice_set runners caller now) holder after) < work_at old caller runners
     held_less last e after ran ordered =
         let was = work_is old caller runners (get_or runners caller d) (got runners caller d low) in

@@ -15,9 +15,9 @@ use Rattle.mb_kinds.specs.declared.entries.Flight.{Flight}
 use Rattle.mb_kinds.specs.declared.faults.Kind.{Kind}
 use Rattle.mb_kinds.specs.declared.faults.Ticket.{Ticket}
 use Rattle.mb_run.specs.Events.{IsCallOf, IsReadyAt, SealsIf, sealed}
-use Rattle.mb_run.specs.Pages.{HasTablesFor, Performs, has}
-use Rattle.mb_run.specs.Served.{Acts, Asks, Did, IsAtBy, IsHeld, IsServed, IsStanding, MayStep, calls_in, calls_of}
-use Rattle.mb_run.specs.Sights.{HasTicket, Sight, undue_in}
+use Rattle.mb_run.specs.Pages.{HasTablesFor, PerformsOver, has}
+use Rattle.mb_run.specs.Served.{ActsAlone, Asks, Did, IsAtBy, IsHeld, IsServedSoFar, IsStanding, MayStep, calls_in, calls_of}
+use Rattle.mb_run.specs.Sights.{SeatHasTicket, Sight, undue_in}
 use Rattle.mb_run.specs.declared.progress.Went.TheVariants as went
 use Rattle.mb_run.specs.declared.runner.At.{At}
 use Rattle.mb_run.specs.declared.runner.At.TheVariants as at
@@ -40,7 +40,7 @@ need_lacks pages need is =
     ∙ no_copy (kept_at pages.blocks need.first) is.lacking
 
 module _ (calls : List JobCall) (test : Option (Crossing → Bool)) (old : Sight) (runner : Runner) (call : Call) (may : MayStep calls test old runner call) (ticket : Ticket) (inside : runner.at ≡ at.Inside ticket) where
-  stood : HasTicket false (old.seats runner.crossings.caller) ticket × IsHeld old runner.crossings.caller runner.pages ticket
+  stood : SeatHasTicket false (old.seats runner.crossings.caller) ticket × IsHeld old runner.crossings.caller runner.pages ticket
   stood = subst (IsStanding old runner.crossings.caller runner.pages) inside may.served.stands
 
   pub held_tables : HasTablesFor old.config.callers runner.pages
@@ -60,25 +60,25 @@ module _ (calls : List JobCall) (test : Option (Crossing → Bool)) (old : Sight
       ap (λ (f : Flight). f.call) is ∙ sym (same_Some call stood.0.flight.call (sym may.next ∙ at_it.2))
 
   -- what was performed is of the call in flight
-  pub ready_at : (ready : Ready) → Performs runner.pages ticket.caller call ticket.moment (performed.Ready ready) → IsReadyAt old ticket runner.pages ready
+  pub ready_at : (ready : Ready) → PerformsOver runner.pages ticket.caller call ticket.moment (performed.Ready ready) → IsReadyAt old ticket runner.pages ready
   ready_at ready performs flight here =
       let is : flight ≡ stood.0.flight = same_Some flight stood.0.flight (sym here ∙ ap (λ n. (old.seats n).flight) stood.1.mine ∙ stood.0.here) in
       let moment_is : ticket.moment ≡ flight.moment = stood.0.moment ∙ ap (λ (f : Flight). f.moment) (sym is) in
-      subst (λ m. Performs runner.pages ticket.caller flight.call m (performed.Ready ready)) moment_is
-      (subst (λ made. Performs runner.pages ticket.caller made ticket.moment (performed.Ready ready)) (sym (call_at flight here)) performs)
+      subst (λ m. PerformsOver runner.pages ticket.caller flight.call m (performed.Ready ready)) moment_is
+      (subst (λ made. PerformsOver runner.pages ticket.caller made ticket.moment (performed.Ready ready)) (sym (call_at flight here)) performs)
 
 -- the fault injector let the call go on: its pages are as before
 pub asked_ready : (test : Option (Crossing → Bool)) (old mid : Sight) (before m : Runner) (ticket : Ticket) (kind : Kind) (call : Call) (ready : Ready) → Asks test old mid before m ticket kind false
-    → Performs before.pages ticket.caller call ticket.moment (performed.Ready ready) → Performs m.pages ticket.caller call ticket.moment (performed.Ready ready)
+    → PerformsOver before.pages ticket.caller call ticket.moment (performed.Ready ready) → PerformsOver m.pages ticket.caller call ticket.moment (performed.Ready ready)
 asked_ready test old mid before m ticket kind call ready asks performs =
-    subst (λ (r : Runner). Performs r.pages ticket.caller call ticket.moment (performed.Ready ready)) (sym asks.1) performs
+    subst (λ (r : Runner). PerformsOver r.pages ticket.caller call ticket.moment (performed.Ready ready)) (sym asks.1) performs
 
 pub asked_there : (test : Option (Crossing → Bool)) (old mid : Sight) (before m : Runner) (ticket : Ticket) (kind : Kind) → Asks test old mid before m ticket kind false → has before.pages 0 ≡ true → has m.pages 0 ≡ true
 asked_there test old mid before m ticket kind asks there = subst (λ (r : Runner). has r.pages 0 ≡ true) (sym asks.1) there
 
 -- ---- a checkpoint
 
-acts_sealed : (caller : ℕ) (old mid new : Sight) → Acts caller old mid → Acts caller old (sealed mid new)
+acts_sealed : (caller : ℕ) (old mid new : Sight) → ActsAlone caller old mid → ActsAlone caller old (sealed mid new)
 acts_sealed caller old mid new acts = record {
   trail = trail_then old.trail mid.trail (sealed mid new).trail acts.trail (trail_put mid.trail (step.Sealed (length mid.history) ∷ []) (sealed mid new).trail refl);
   config = acts.config;
@@ -104,7 +104,7 @@ stands_sealed mid new caller pages at.Outside was = was
 stands_sealed mid new caller pages (at.Inside ticket) was = (was.0, record { mine = was.1.mine; past = was.1.past; runs = was.1.runs; same = was.1.same; tables = was.1.tables })
 stands_sealed mid new caller pages (at.Logged ticket) was = was
 
-served_sealed : (list : List Call) (mid new : Sight) (caller : ℕ) (runner : Runner) → IsServed list mid caller runner → IsServed list (sealed mid new) caller runner
+served_sealed : (list : List Call) (mid new : Sight) (caller : ℕ) (runner : Runner) → IsServedSoFar list mid caller runner → IsServedSoFar list (sealed mid new) caller runner
 served_sealed list mid new caller runner served = record {
   caller_is = served.caller_is;
   ordinal = served.ordinal;

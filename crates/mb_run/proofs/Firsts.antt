@@ -5,7 +5,7 @@ use Rattle.mb_kinds.specs.declared.calls.Call.{Call}
 use Rattle.mb_kinds.specs.declared.entries.Entry.{Entry}
 use Rattle.mb_kinds.specs.declared.entries.Flight.{Flight}
 use Rattle.mb_kinds.specs.declared.replies.Reply.{Reply}
-use Rattle.mb_run.specs.Events.{Answers, Begins, Leaves, Logs, entry_of}
+use Rattle.mb_run.specs.Events.{Answers, BeginsFlight, EndsFlight, Logs, entry_of}
 use Rattle.mb_kinds.specs.declared.faults.Ticket.{Ticket}
 use Rattle.mb_run.specs.Firsts.{BeginsFirst, HasFirst, IsFirstEntry, IsFirstFlight, KeepsFirsts}
 use Rattle.mb_run.specs.Sights.{Limits, Seat, Sight, flight_of, is_new, one_if}
@@ -139,7 +139,7 @@ pub more_begun : (old new : Sight) (flight : Option Flight) → new.begun ≡ ol
 more_begun old new flight begun = omega (arith, begun)
 
 -- the call is in flight
-pub firsts_begins : (old new : Sight) (caller : ℕ) (flight : Flight) → caller < old.config.callers → flight.ordinal ≢ 0 → CameFrom old new caller flight → Begins caller flight old new → KeepsFirsts old new
+pub firsts_begins : (old new : Sight) (caller : ℕ) (flight : Flight) → caller < old.config.callers → flight.ordinal ≢ 0 → CameFrom old new caller flight → BeginsFlight caller flight old new → KeepsFirsts old new
 firsts_begins old new caller flight within counted came begins =
     firsts_by old new caller flight within counted (ap (λ (s : Seat). s.begun) begins.mine) came (more_begun old new (old.seats caller).flight begins.begun) begins.stays.seats
     (λ place entry here. inl (subst (λ h. slice_get h place ≡ Some entry) begins.history here))
@@ -167,7 +167,7 @@ firsts_logs old new caller ticket within logs counted =
     (ap (λ (f : Flight). f.ordinal) (sym is), ap (λ (f : Flight). f.moment) (sym is))))
 
 -- it has its entry and ends
-pub firsts_leaves : (old new : Sight) (caller : ℕ) (flight : Flight) → caller < old.config.callers → flight.ordinal ≢ 0 → (old.seats caller).begun ≡ flight.ordinal → Leaves caller flight old new → KeepsFirsts old new
+pub firsts_leaves : (old new : Sight) (caller : ℕ) (flight : Flight) → caller < old.config.callers → flight.ordinal ≢ 0 → (old.seats caller).begun ≡ flight.ordinal → EndsFlight caller flight old new → KeepsFirsts old new
 firsts_leaves old new caller flight within counted last leaves =
     firsts_by old new caller flight within counted (ap (λ (s : Seat). s.begun) leaves.mine ∙ last) (inl (record { was = flight; here = leaves.was; ordinal = refl; moment = refl })) (omega (arith, leaves.counts.begun)) leaves.stays.seats
     (λ place entry here. inl (subst (λ h. slice_get h place ≡ Some entry) leaves.counts.history here))

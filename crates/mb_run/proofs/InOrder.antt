@@ -10,8 +10,8 @@ use Rattle.mb_kinds.specs.declared.entries.Flight.{Flight}
 use Rattle.mb_run.proofs.Listing.{listed_next}
 use Rattle.mb_kinds.specs.declared.entries.Entry.{Entry}
 use Rattle.std.specs.List.{AllByRecursion}
-use Rattle.mb_run.specs.Served.{IsListed, IsServed, HasRun, InLine, IsAfter, IsMine, IsRunInOrder, LineBy, MayStep, calls_of}
-use Rattle.mb_run.specs.Sights.{IsOrderly, Limits, Seat, Sight}
+use Rattle.mb_run.specs.Served.{EntriesAreCalls, IsServedSoFar, HasRun, InLine, IsAfter, IsFloorOf, IsRunInOrder, LineBy, MayStep, calls_of}
+use Rattle.mb_run.specs.Sights.{IsOrderlyInSight, Limits, Seat, Sight}
 use Rattle.mb_jobs.specs.declared.jobs.JobCall.{JobCall}
 use Rattle.mb_run.specs.declared.runner.Runner.{Runner}
 use Rattle.mb_run.proofs.Everybody.{find_here, got, may_of, own_calls, put_get, put_underway}
@@ -57,13 +57,13 @@ module _ (calls : List JobCall) (test : Option (Crossing → Bool)) (old : Sight
   free_floor None is = refl
   free_floor (Some holder) is = let held = after.underway.right.floor holder is in absurd (never held.0 (sym (after.free holder held.2) ∙ held.1))
 
-  pub order_mine : IsMine (get_or runners made.caller d).crossings.caller old.floor
+  pub order_mine : IsFloorOf (get_or runners made.caller d).crossings.caller old.floor
   order_mine = inl (free_floor old.floor refl)
 
   own : (get_or runners made.caller d).crossings.caller ≡ made.caller
   own = (after.underway.served made.caller (get_or runners made.caller d) it).caller_is
 
-  pub order_after : (new : Sight) (now : Runner) → HasRun calls test old new (get_or runners made.caller d) now → IsOrderly new → IsAfter calls test new (slice_set runners made.caller now) (index + 1)
+  pub order_after : (new : Sight) (now : Runner) → HasRun calls test old new (get_or runners made.caller d) now → IsOrderlyInSight new → IsAfter calls test new (slice_set runners made.caller now) (index + 1)
   order_after new now ran right =
       let within : index < length calls = slice_get_within calls index made here in
       let is : made ≡ get_or calls index made = same_Some made (get_or calls index made) (sym here ∙ slice_get-get_or calls index made within) in
@@ -79,7 +79,7 @@ module _ (calls : List JobCall) (test : Option (Crossing → Bool)) (old : Sight
         ];
         listed = listed_next calls index made old.history new.history ran.nears.acts.entries (calls_of calls made.caller) (get_or runners made.caller d).done now.done (old.seats made.caller).begun (new.seats made.caller).begun (old.seats made.caller).flight (new.seats made.caller).flight here within
             after.listed ran.nears.acts.grown (subst (λ n. AllByRecursion (λ (entry : Entry). entry.caller ≡ n) ran.nears.acts.entries) own ran.nears.acts.theirs) (subst (λ n. slice_get (calls_of calls n) (get_or runners made.caller d).done ≡ Some made.call) own order_may.next) ran.done
-            (after.free made.caller inside) (after.underway.served made.caller (get_or runners made.caller d) it).calls freed (subst (λ n. IsServed (calls_of calls n) new n now) own ran.nears.served).calls;
+            (after.free made.caller inside) (after.underway.served made.caller (get_or runners made.caller d) it).calls freed (subst (λ n. IsServedSoFar (calls_of calls n) new n now) own ran.nears.served).calls;
         lined = (let was : InLine made.caller old = subst (LineBy old.config.start old.history old.begun) (sym (after.free made.caller inside)) after.lined in
             let line : InLine made.caller new = subst (λ n. InLine n new) own (ran.nears.lined (subst (λ n. InLine n old) (sym own) was)) in
             subst (LineBy new.config.start new.history new.begun) freed line);
@@ -105,7 +105,7 @@ order_over calls test sight runners index past after = record {
       let done : there.0.done ≡ length (calls_of (take index calls) caller) = after.done caller there.0 there.1 in
       let all : length (calls_of (take index calls) caller) ≡ length (calls_of calls caller) = ap (λ ms. length (calls_of ms caller)) (take_all index calls past) in
       own_calls calls test sight runners caller there.0 after.underway there.1 (omega (arith, done, all)));
-  listed = subst (IsListed sight.history) (take_all index calls past) after.listed;
+  listed = subst (EntriesAreCalls sight.history) (take_all index calls past) after.listed;
   moments = after.lined.1;
   begun = after.lined.0;
   sound = after.underway.sound;

@@ -24,10 +24,10 @@ use Rattle.mb_kinds.specs.declared.faults.Kind.{Kind}
 use Rattle.mb_kinds.specs.declared.faults.Ticket.{Ticket}
 use Rattle.mb_kinds.specs.declared.replies.Reply.{Reply}
 use Rattle.mb_kinds.specs.declared.replies.Reply.TheVariants as reply
-use Rattle.mb_run.specs.Events.{Answers, Enters, FaultsWith, Finishes, FlushesWith, Gathers, IsCallOf, IsUnplain, KeepsLog, LeavesWith, LogsInTime, Quits, SealsIf, entry_of, sealed}
-use Rattle.mb_run.specs.Recovering.{EndsByDevice, RunsFor, Steps, StrikesBy, Waits}
+use Rattle.mb_run.specs.Events.{Answers, EntersInSight, FaultsWith, FinishesInSight, FlushesWith, GathersInSight, IsCallOf, IsUnplain, KeepsLog, LeavesWith, LogsInTime, Quits, SealsIf, entry_of, sealed}
+use Rattle.mb_run.specs.Recovering.{StepEndsByDevice, RunsForFlight, Steps, StrikesBy, Waits}
 use Rattle.mb_run.specs.Seals.{AreInTime, is_due, is_plain, is_sync, is_synced}
-use Rattle.mb_run.specs.Sights.{HasTicket, Limits, Sight, flight_of}
+use Rattle.mb_run.specs.Sights.{SeatHasTicket, Limits, Sight, flight_of}
 use Rattle.mb_run.specs.declared.answers.Enter.{Enter}
 use Rattle.mb_run.specs.declared.answers.Enter.TheVariants as enter
 use Rattle.mb_run.specs.declared.answers.Stepped.{Stepped}
@@ -108,14 +108,14 @@ answered_time caller flight answer old new is answers was =
 
 -- ---- the events
 
-pub enters_time : (old new : Sight) (caller : ℕ) (call : Call) (answer : Enter) → Enters old new caller call answer → InTime old → InTime new
+pub enters_time : (old new : Sight) (caller : ℕ) (call : Call) (answer : Enter) → EntersInSight old new caller call answer → InTime old → InTime new
 enters_time old new caller call (enter.Done answer) (inl left) was = kept_time old new left.1.stays.config was left.1.log left.1.counts.history
 enters_time old new caller call (enter.Done answer) (inr ended) was = answered_time caller (flight_of old caller call (old.seats caller).flight) answer old new ended.1 ended.2 was
 enters_time old new caller call enter.Shut shut was = kept_time old new shut.2.stays.config was shut.2.log shut.2.history
 enters_time old new caller call (enter.Inside ticket) inside was = kept_time old new inside.begins.stays.config was inside.begins.log inside.begins.history
 enters_time old new caller call enter.NoMemory none was = same_time old new none.0 was
 
-pub gathers_time : (old new : Sight) (ticket : Ticket) (need : Need) (before now : PagesState) (answer : Gathered) → HasTicket false (old.seats ticket.caller) ticket → Gathers old new ticket need before now answer → InTime old → InTime new
+pub gathers_time : (old new : Sight) (ticket : Ticket) (need : Need) (before now : PagesState) (answer : Gathered) → SeatHasTicket false (old.seats ticket.caller) ticket → GathersInSight old new ticket need before now answer → InTime old → InTime new
 gathers_time old new ticket need before now (gathered.Skip mine present) has gathers was = same_time old new gathers.1 was
 gathers_time old new ticket need before now gathered.Device has gathers was = answered_time ticket.caller has.flight reply.Device old new tt (gathers.1 has.flight has.here) was
 gathers_time old new ticket need before now gathered.NoMemory has gathers was = same_time old new gathers.0 was
@@ -151,7 +151,7 @@ logged_time old new ticket call of in_time was = sealed_if (is_due in_time.logge
   sealed_if true is seals = sealed_time logged new (let few = was.few in omega (arith, same, few)) seals
   sealed_if false is seals = same_time logged new seals (unsealed is)
 
-pub finishes_time : (old new : Sight) (ticket : Ticket) (pages : PagesState) (call : Call) (answer : Finished) → IsCallOf (old.seats ticket.caller) call → Finishes old new ticket pages call answer → InTime old → InTime new
+pub finishes_time : (old new : Sight) (ticket : Ticket) (pages : PagesState) (call : Call) (answer : Finished) → IsCallOf (old.seats ticket.caller) call → FinishesInSight old new ticket pages call answer → InTime old → InTime new
 finishes_time old new ticket pages call (finished.Skip mine present) of finishes was = same_time old new finishes.1 was
 finishes_time old new ticket pages call (finished.Busy holder) of finishes was = same_time old new finishes.3 was
 finishes_time old new ticket pages call (finished.Stale block) of finishes was = kept_time old new finishes.1.stays.config was finishes.1.log finishes.1.counts.history
@@ -184,14 +184,14 @@ strikes_time test (Some before) (Some now) old new strikes was = waits_time old 
 strikes_time test (Some before) None old new strikes was = absurd strikes
 strikes_time test None now old new strikes was = absurd strikes
 
-device_time : (before : Option Crossings) (old new : Sight) → ((c : Crossings) → before ≡ Some c → RunsFor old c) → EndsByDevice before old new → InTime old → InTime new
+device_time : (before : Option Crossings) (old new : Sight) → ((c : Crossings) → before ≡ Some c → RunsForFlight old c) → StepEndsByDevice before old new → InTime old → InTime new
 device_time None old new runs ends was = same_time old new ends was
 device_time (Some before) old new runs ends was = let of = runs before refl in answered_time before.caller of.0 reply.Device old new tt (ends of.0 of.1) was
 
 pub if_some_at : {X : Type 0} (P : X → Type 0) (found : Option X) → IfSome found P → (x : X) → found ≡ Some x → P x
 if_some_at {X = X} P found holds x is = subst (λ (o : Option X). IfSome o P) is holds
 
-pub steps_time : (test : Option (Crossing → Bool)) (before now : Option Crossings) (old new : Sight) (answer : Stepped) → ((c : Crossings) → before ≡ Some c → RunsFor old c) → Steps test before now old new answer → InTime old → InTime new
+pub steps_time : (test : Option (Crossing → Bool)) (before now : Option Crossings) (old new : Sight) (answer : Stepped) → ((c : Crossings) → before ≡ Some c → RunsForFlight old c) → Steps test before now old new answer → InTime old → InTime new
 steps_time test before now old new stepped.Idle runs steps was = same_time old new steps.1 was
 steps_time test before now old new (stepped.Failed faults) runs steps was = elim steps.1 [ inl waited ↦ waits_time old new waited.1 was | inr strikes ↦ strikes_time test before now old new strikes was ]
 steps_time test before now old new stepped.Resumed runs steps was = waits_time old new steps.2.waits was

@@ -8,7 +8,7 @@ use Rattle.std.proofs.lemmas.Option.{slice_get-map, slice_get-get_or, slice_get_
 use Rattle.std.specs.List.{AllByRecursion}
 use Rattle.mb_kinds.specs.declared.calls.Call.{Call}
 use Rattle.mb_jobs.specs.declared.jobs.JobCall.{JobCall}
-use Rattle.mb_run.specs.Indexes.{IsIndexOf, LeadsTo, call_at}
+use Rattle.mb_run.specs.Indexes.{IsIndexOf, PlacesLeadTo, call_at}
 use Rattle.mb_run.specs.Served.{calls_of}
 use Rattle.mb_run.proofs.Counting.{same_or_not}
 use Rattle.mb_run.proofs.InOrder.{all_callers}
@@ -55,8 +55,8 @@ calls_more calls index made caller here =
     ∙ map-append (λ (m : JobCall). m.call) (filter (λ (m : JobCall). nat_eq m.caller caller) (take index calls)) (filter (λ (m : JobCall). nat_eq m.caller caller) (made ∷ []))
     ∙ ap (λ more. calls_of (take index calls) caller ++ more) (elim (nat_eq made.caller caller) as (λ b. map (λ (m : JobCall). m.call) (cond b (made ∷ []) []) ≡ if_mine made b) [ true ↦ refl | false ↦ refl ])
 
-leads_next : (calls : List JobCall) (index : ℕ) (made : JobCall) → slice_get calls index ≡ Some made → (places : List (List ℕ)) (mine : List ℕ) → slice_get places made.caller ≡ Some mine → LeadsTo calls index places
-    → LeadsTo calls (index + 1) (slice_set places made.caller (mine ++ index ∷ []))
+leads_next : (calls : List JobCall) (index : ℕ) (made : JobCall) → slice_get calls index ≡ Some made → (places : List (List ℕ)) (mine : List ℕ) → slice_get places made.caller ≡ Some mine → PlacesLeadTo calls index places
+    → PlacesLeadTo calls (index + 1) (slice_set places made.caller (mine ++ index ∷ []))
 unfolding if_mine
 leads_next calls index made here places mine there leads =
     let low : made.caller < length places = slice_get_within places made.caller mine there in
@@ -82,13 +82,13 @@ leads_next calls index made here places mine there leads =
 
 -- a caller's places with one more
 pub leads_more : (calls : List JobCall) (index place : ℕ) (made : JobCall) → slice_get calls index ≡ Some made → place ≡ index → AllByRecursion (λ (m : JobCall). m.caller < 8) calls → (places : List (List ℕ)) (mine : List ℕ)
-    → mine ≡ get_or places made.caller mine → (now : List ℕ) → now ≡ get_or places made.caller mine ++ place ∷ [] → LeadsTo calls index places → LeadsTo calls (index + 1) (slice_set places made.caller now)
+    → mine ≡ get_or places made.caller mine → (now : List ℕ) → now ≡ get_or places made.caller mine ++ place ∷ [] → PlacesLeadTo calls index places → PlacesLeadTo calls (index + 1) (slice_set places made.caller now)
 leads_more calls index place made here same named places mine is now pushed leads =
     let low : made.caller < length places = omega (arith, leads.eight, all_callers calls 8 index made named here) in
-    subst (λ (ps : List ℕ). LeadsTo calls (index + 1) (slice_set places made.caller ps)) (ap (λ n. mine ++ n ∷ []) (sym same) ∙ ap (λ (m : List ℕ). m ++ place ∷ []) is ∙ sym pushed)
+    subst (λ (ps : List ℕ). PlacesLeadTo calls (index + 1) (slice_set places made.caller ps)) (ap (λ n. mine ++ n ∷ []) (sym same) ∙ ap (λ (m : List ℕ). m ++ place ∷ []) is ∙ sym pushed)
     (leads_next calls index made here places mine (some_here places made.caller mine low is) leads)
 
-pub leads_none : (calls : List JobCall) → LeadsTo calls 0 ([] ∷ [] ∷ [] ∷ [] ∷ [] ∷ [] ∷ [] ∷ [] ∷ [])
+pub leads_none : (calls : List JobCall) → PlacesLeadTo calls 0 ([] ∷ [] ∷ [] ∷ [] ∷ [] ∷ [] ∷ [] ∷ [] ∷ [])
 leads_none calls = record { eight = refl; each = λ caller mine is. ap (map (call_at calls)) (none caller mine is) } where
   none : (caller : ℕ) (mine : List ℕ) → slice_get ([] ∷ [] ∷ [] ∷ [] ∷ [] ∷ [] ∷ [] ∷ [] ∷ []) caller ≡ Some mine → mine ≡ []
   none zero mine same = cc
@@ -108,7 +108,7 @@ none_past (made ∷ calls) caller past named =
     ap (λ b. map (λ (m : JobCall). m.call) (cond b (made ∷ filter (λ (m : JobCall). nat_eq m.caller caller) calls) (filter (λ (m : JobCall). nat_eq m.caller caller) calls))) (neq made.caller caller (λ same. let low = named.0 in omega (arith, low, same, past)))
     ∙ none_past calls caller past named.1
 
-pub leads_all : (calls : List JobCall) (index : ℕ) (places : List (List ℕ)) → length calls ≤ index → index ≤ length calls → AllByRecursion (λ (m : JobCall). m.caller < 8) calls → LeadsTo calls index places → IsIndexOf calls places
+pub leads_all : (calls : List JobCall) (index : ℕ) (places : List (List ℕ)) → length calls ≤ index → index ≤ length calls → AllByRecursion (λ (m : JobCall). m.caller < 8) calls → PlacesLeadTo calls index places → IsIndexOf calls places
 leads_all calls index places all few named leads =
     let size : index ≡ length calls = omega (arith, all, few) in
-    record { leads = subst (λ n. LeadsTo calls n places) size leads; past = λ caller past. none_past calls caller past named }
+    record { leads = subst (λ n. PlacesLeadTo calls n places) size leads; past = λ caller past. none_past calls caller past named }

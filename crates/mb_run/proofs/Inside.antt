@@ -12,9 +12,9 @@ use Rattle.mb_kinds.specs.declared.replies.Reply.{Reply}
 use Rattle.mb_kinds.specs.declared.replies.Reply.TheVariants as reply
 use Rattle.mb_core_spec.specs.Copies.{PagesState, no_pages}
 use Rattle.mb_run.specs.Pages.{has}
-use Rattle.mb_run.specs.Events.{Answers, Finishes, Gains, Gathers, IsStale, LeavesWith, Leaves, Logs, entry_of}
-use Rattle.mb_run.specs.Served.{Asks, Did, Goes, GoesIn, IsAtBy, IsHeld, IsStanding, MayStep, advanced, backed, busy, calls_in, calls_of, counted, missing, rank}
-use Rattle.mb_run.specs.Sights.{HasTicket, IsOrderly, Limits, Sight, one_if, recovers}
+use Rattle.mb_run.specs.Events.{Answers, FinishesInSight, Gains, GathersInSight, IsStale, LeavesWith, EndsFlight, Logs, entry_of}
+use Rattle.mb_run.specs.Served.{Asks, Did, StepComesTo, AsksAtEntry, IsAtBy, IsHeld, IsStanding, MayStep, advanced, backed, busy, calls_in, calls_of, counted, missing, rank}
+use Rattle.mb_run.specs.Sights.{SeatHasTicket, IsOrderlyInSight, Limits, Sight, one_if, recovers}
 use Rattle.mb_run.specs.declared.runner.At.{At}
 use Rattle.mb_run.specs.declared.runner.At.TheVariants as at
 use Rattle.mb_core_state.specs.declared.answers.Finished.TheVariants as finished
@@ -46,7 +46,7 @@ pub asked_may : (calls : List JobCall) (test : Option (Crossing → Bool)) (old 
 asked_may calls test old mid before m call ticket kind may asks =
     subst (λ (s : Sight). MayStep calls test s m call) (sym asks.0) (subst (λ (r : Runner). MayStep calls test old r call) (sym asks.1) (may_counted calls test old before call may kind))
 
-goes_on : (old new : Sight) (before now : Runner) (kind : Kind) (came : Went) → Goes before.crossings.caller old new (record before { crossings = counted before.crossings kind }) now came → Goes before.crossings.caller old new before now came
+goes_on : (old new : Sight) (before now : Runner) (kind : Kind) (came : Went) → StepComesTo before.crossings.caller old new (record before { crossings = counted before.crossings kind }) now came → StepComesTo before.crossings.caller old new before now came
 goes_on old new before now kind went.Ended goes = goes
 goes_on old new before now kind went.On goes = goes
 goes_on old new before now kind went.Back goes = goes
@@ -71,14 +71,14 @@ module _ (calls : List JobCall) (test : Option (Crossing → Bool)) (old : Sight
   -- ---- inside
 
   module _ (ticket : Ticket) (inside : runner.at ≡ at.Inside ticket) where
-    stood : HasTicket false (old.seats runner.crossings.caller) ticket × IsHeld old runner.crossings.caller runner.pages ticket
+    stood : SeatHasTicket false (old.seats runner.crossings.caller) ticket × IsHeld old runner.crossings.caller runner.pages ticket
     stood = subst (IsStanding old runner.crossings.caller runner.pages) inside may.served.stands
 
     pub own_ticket : ticket.caller ≡ runner.crossings.caller
     own_ticket = stood.1.mine
 
-    pub has_ticket : HasTicket false (old.seats ticket.caller) ticket
-    has_ticket = subst (λ n. HasTicket false (old.seats n) ticket) (sym own_ticket) stood.0
+    pub has_ticket : SeatHasTicket false (old.seats ticket.caller) ticket
+    has_ticket = subst (λ n. SeatHasTicket false (old.seats n) ticket) (sym own_ticket) stood.0
 
     pub own_ordinal : ticket.ordinal ≡ runner.crossings.ordinal
     own_ordinal =
@@ -91,7 +91,7 @@ module _ (calls : List JobCall) (test : Option (Crossing → Bool)) (old : Sight
     pub inside_back : ticket.incarnation ≢ old.incarnation → Did calls test old old runner (backed runner) went.Back
     inside_back older = did_back calls test old runner call may ticket stands_inside older
 
-    pub inside_asked : (new : Sight) (now : Runner) (kind : Kind) → IsOrderly new → Asks test old new runner now ticket kind true → Did calls test old new runner now went.Back
+    pub inside_asked : (new : Sight) (now : Runner) (kind : Kind) → IsOrderlyInSight new → Asks test old new runner now ticket kind true → Did calls test old new runner now went.Back
     inside_asked new now kind right asks = did_asked calls test old runner call may new now ticket kind stands_inside own_ticket own_ordinal right asks
 
     rank_now : (incarnation stales : ℕ) (pages : PagesState) → ticket.incarnation ≡ incarnation → rank incarnation stales pages (at.Inside ticket) ≡ 2 * ((4 - stales) * 262146 + missing (has pages) 262144 + 1)
@@ -156,7 +156,7 @@ module _ (calls : List JobCall) (test : Option (Crossing → Bool)) (old : Sight
         (λ made line. line_open runner.crossings.caller stood.0.flight reply.Device old new made stood.0.here line)
         (λ made. inl (record { was = stood.0.flight; here = stood.0.here; ordinal = refl; moment = refl }))
 
-    pub did_busy : (new : Sight) (holder : Ticket) → Finishes old new ticket runner.pages call (finished.Busy holder) → Did calls test old new runner (record runner { asked = true }) (went.Busy holder)
+    pub did_busy : (new : Sight) (holder : Ticket) → FinishesInSight old new ticket runner.pages call (finished.Busy holder) → Did calls test old new runner (record runner { asked = true }) (went.Busy holder)
     did_busy new holder finishes = subst (λ (s : Sight). Did calls test old s runner (record runner { asked = true }) (went.Busy holder)) (sym finishes.3) (record {
       nears = record {
         same = refl;
@@ -171,7 +171,7 @@ module _ (calls : List JobCall) (test : Option (Crossing → Bool)) (old : Sight
       goes = (refl, omega arith, refl, finishes.1, (λ same. finishes.2 (same ∙ sym own_ticket)), stood.1.runs finishes.0);
     })
 
-    pub did_stale : (new : Sight) (block : ℕ) → Finishes old new ticket runner.pages call (finished.Stale block) → Did calls test old new runner (record runner { asked = false; pages = no_pages }) went.On
+    pub did_stale : (new : Sight) (block : ℕ) → FinishesInSight old new ticket runner.pages call (finished.Stale block) → Did calls test old new runner (record runner { asked = false; pages = no_pages }) went.On
     did_stale new block finishes =
         let present = finishes.0 in
         let stale = subst (λ n. IsStale n old new runner.pages) own_ticket finishes.1 in
@@ -259,14 +259,14 @@ module _ (calls : List JobCall) (test : Option (Crossing → Bool)) (old : Sight
   -- ---- with its entry
 
   module _ (ticket : Ticket) (logged : runner.at ≡ at.Logged ticket) where
-    stood_on : HasTicket true (old.seats runner.crossings.caller) ticket × (ticket.caller ≡ runner.crossings.caller) × (ticket.incarnation ≤ old.incarnation)
+    stood_on : SeatHasTicket true (old.seats runner.crossings.caller) ticket × (ticket.caller ≡ runner.crossings.caller) × (ticket.incarnation ≤ old.incarnation)
     stood_on = subst (IsStanding old runner.crossings.caller runner.pages) logged may.served.stands
 
     pub own_logged : ticket.caller ≡ runner.crossings.caller
     own_logged = stood_on.1
 
-    pub has_logged : HasTicket true (old.seats ticket.caller) ticket
-    has_logged = subst (λ n. HasTicket true (old.seats n) ticket) (sym own_logged) stood_on.0
+    pub has_logged : SeatHasTicket true (old.seats ticket.caller) ticket
+    has_logged = subst (λ n. SeatHasTicket true (old.seats n) ticket) (sym own_logged) stood_on.0
 
     pub ordinal_logged : ticket.ordinal ≡ runner.crossings.ordinal
     ordinal_logged =
@@ -279,20 +279,20 @@ module _ (calls : List JobCall) (test : Option (Crossing → Bool)) (old : Sight
     pub logged_back : ticket.incarnation ≢ old.incarnation → Did calls test old old runner (backed runner) went.Back
     logged_back older = did_back calls test old runner call may ticket stands_logged older
 
-    pub logged_asked : (new : Sight) (now : Runner) (kind : Kind) → IsOrderly new → Asks test old new runner now ticket kind true → Did calls test old new runner now went.Back
+    pub logged_asked : (new : Sight) (now : Runner) (kind : Kind) → IsOrderlyInSight new → Asks test old new runner now ticket kind true → Did calls test old new runner now went.Back
     logged_asked new now kind right asks = did_asked calls test old runner call may new now ticket kind stands_logged own_logged ordinal_logged right asks
 
     pub did_left : (new : Sight) (answer : Reply) → LeavesWith old new ticket (left.Left answer) → Did calls test old new runner (advanced runner) went.Ended
-    did_left new answer leaves = let made = subst (λ n. Leaves n leaves.1.0 old new) own_logged leaves.1.1 in did_leave calls test old runner call may new leaves.1.0 made
+    did_left new answer leaves = let made = subst (λ n. EndsFlight n leaves.1.0 old new) own_logged leaves.1.1 in did_leave calls test old runner call may new leaves.1.0 made
 
-pub in_back : (calls : List JobCall) (test : Option (Crossing → Bool)) (old new : Sight) (before now : Runner) → Did calls test old new before now went.Back → GoesIn calls test old new before now went.Back
+pub in_back : (calls : List JobCall) (test : Option (Crossing → Bool)) (old new : Sight) (before now : Runner) → Did calls test old new before now went.Back → AsksAtEntry calls test old new before now went.Back
 in_back calls test old new before now did = record { nears = did.nears; done = did.goes.0; goes = inr refl; less = omega (arith, did.goes.1) }
 
 pub in_on : (calls : List JobCall) (test : Option (Crossing → Bool)) (old mid : Sight) (before m : Runner) (call : Call) (ticket : Ticket) (kind : Kind) → MayStep calls test old before call → Asks test old mid before m ticket kind false
-    → GoesIn calls test old mid before m went.On
+    → AsksAtEntry calls test old mid before m went.On
 in_on calls test old mid before m call ticket kind may asks =
     let counted_may = may_counted calls test old before call may kind in
-    subst (λ (s : Sight). GoesIn calls test old s before m went.On) (sym asks.0) (subst (λ (r : Runner). GoesIn calls test old old before r went.On) (sym asks.1) (record {
+    subst (λ (s : Sight). AsksAtEntry calls test old s before m went.On) (sym asks.0) (subst (λ (r : Runner). AsksAtEntry calls test old old before r went.On) (sym asks.1) (record {
       nears = record { same = refl; counts = counted_may.counts; acts = acts_same before.crossings.caller old; lined = λ line. line; balanced = λ even. even; served = counted_may.served; sound = may.sound; seals = omega arith };
       done = refl;
       goes = inl refl;
@@ -325,7 +325,7 @@ gathered_went gathered.NoMemory = went.NoMemory
 gathered_went gathered.Done = went.On
 
 module _ (calls : List JobCall) (test : Option (Crossing → Bool)) (old : Sight) (runner : Runner) (call : Call) (may : MayStep calls test old runner call) (ticket : Ticket) (inside : runner.at ≡ at.Inside ticket) where
-  did_gather : (new : Sight) (need : Need) (now : PagesState) (answer : Gathered) → has runner.pages need.first ≡ false → need.first < 262144 → Gathers old new ticket need runner.pages now answer
+  did_gather : (new : Sight) (need : Need) (now : PagesState) (answer : Gathered) → has runner.pages need.first ≡ false → need.first < 262144 → GathersInSight old new ticket need runner.pages now answer
       → Did calls test old new runner (gathered_runner runner now answer) (gathered_went answer)
   did_gather new need now (gathered.Skip mine was) lacks low gathers =
       subst (λ (s : Sight). Did calls test old s runner (backed runner) went.Back) (sym gathers.1) (inside_back calls test old runner call may ticket inside gathers.0)
@@ -337,7 +337,7 @@ module _ (calls : List JobCall) (test : Option (Crossing → Bool)) (old : Sight
 
 pub asked_gather : (calls : List JobCall) (test : Option (Crossing → Bool)) (old mid new : Sight) (before m : Runner) (call : Call) (ticket : Ticket) (kind : Kind) (need : Need) (now : PagesState) (answer : Gathered)
     → MayStep calls test old before call → before.at ≡ at.Inside ticket → Asks test old mid before m ticket kind false → has before.pages need.first ≡ false → need.first < 262144
-    → Gathers mid new ticket need m.pages now answer → Did calls test old new before (gathered_runner m now answer) (gathered_went answer)
+    → GathersInSight mid new ticket need m.pages now answer → Did calls test old new before (gathered_runner m now answer) (gathered_went answer)
 asked_gather calls test old mid new before m call ticket kind need now answer may inside asks lacks low gathers =
     asked_did calls test old mid new before m (gathered_runner m now answer) ticket kind (gathered_went answer) asks
     (did_gather calls test mid m call (asked_may calls test old mid before m call ticket kind may asks) ticket (asked_at test old mid before m ticket kind asks inside) new need now answer
@@ -362,8 +362,8 @@ module _ (calls : List JobCall) (test : Option (Crossing → Bool)) (old mid new
   asked_left answer logged leaves = asked_did calls test old mid new before m (advanced m) ticket kind went.Ended asks
       (did_left calls test mid m call (asked_may calls test old mid before m call ticket kind may asks) ticket (asked_logged logged) new answer leaves)
 
-  pub asked_ticket : before.at ≡ at.Inside ticket → HasTicket false (mid.seats ticket.caller) ticket
+  pub asked_ticket : before.at ≡ at.Inside ticket → SeatHasTicket false (mid.seats ticket.caller) ticket
   asked_ticket inside = has_ticket calls test mid m call (asked_may calls test old mid before m call ticket kind may asks) ticket (asked_inside inside)
 
-  pub asked_entry : before.at ≡ at.Logged ticket → HasTicket true (mid.seats ticket.caller) ticket
+  pub asked_entry : before.at ≡ at.Logged ticket → SeatHasTicket true (mid.seats ticket.caller) ticket
   asked_entry logged = has_logged calls test mid m call (asked_may calls test old mid before m call ticket kind may asks) ticket (asked_logged logged)

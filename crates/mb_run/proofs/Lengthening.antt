@@ -1,9 +1,9 @@
 -- The steps of a recovery, counted.
 use Rattle.std.proofs.Common.{◌≡◌, ℕ, zero, suc, ◌+◌, ◌≤◌, ◌⊎◌, inl, inr, refl, subst, sym, arith}
 use Rattle.mb_core_spec.specs.declared.stages.Stage.TheVariants as stage
-use Rattle.mb_run.specs.Lengths.{Forward, GoesForward, GoesSince, RecoversSoon, Stands, StandsOn, WentForward}
+use Rattle.mb_run.specs.Lengths.{Forward, GoesForward, GoesSince, RecoversSoon, ComesNoFurther, StandsOn, WentForward}
 use Rattle.mb_run.specs.Recovering.{Rolls}
-use Rattle.mb_run.specs.Sights.{IsOrderly, Sight}
+use Rattle.mb_run.specs.Sights.{IsOrderlyInSight, Sight}
 use Rattle.mb_run.specs.declared.progress.Went.TheVariants as went
 
 -- each step brings the end nearer, by more than the log grew shorter
@@ -23,19 +23,19 @@ recovers_soon steps fault now right forward = (
 
 -- ---- rows of steps
 
-pub stands_still : (old new : Sight) → new ≡ old → Stands old new
+pub stands_still : (old new : Sight) → new ≡ old → ComesNoFurther old new
 stands_still old new same = record { nearer = subst (λ (s : Sight). s.left + old.ops ≤ old.left + s.ops) (sym same) (omega arith) }
 
 pub stands_on : StandsOn
 stands_on old mid new one other = record { nearer = (let first = one.nearer in let second = other.nearer in omega (arith, first, second)) }
 
-pub no_step : (old new : Sight) → Stands old new → GoesForward old new
+pub no_step : (old new : Sight) → ComesNoFurther old new → GoesForward old new
 no_step old new stands = record { steps = 0; forward = stands }
 
 pub one_step : (old new : Sight) → Rolls old new → GoesForward old new
 one_step old new rolls = record { steps = 1; forward = (old, new, stands_still old old refl, rolls, stands_still new new refl) }
 
-later_on : (old mid new : Sight) (steps : ℕ) → Stands old mid → Forward steps mid new → Forward steps old new
+later_on : (old mid new : Sight) (steps : ℕ) → ComesNoFurther old mid → Forward steps mid new → Forward steps old new
 later_on old mid new zero stands forward = stands_on old mid new stands forward
 later_on old mid new (suc steps) stands (before, after, more, rolls, later) = (before, after, stands_on old mid before stands more, rolls, later)
 
@@ -51,7 +51,7 @@ forward_then old mid new one other = record { steps = one.steps + other.steps; f
 
 -- from where it began, or from the last fault, to now
 abbrev pub RanSince : Sight → Sight → Type 0
-RanSince old new = GoesForward old new ⊎ ((fault : Sight) × IsOrderly fault × (fault.stage ≡ stage.Again) × GoesForward fault new)
+RanSince old new = GoesForward old new ⊎ ((fault : Sight) × IsOrderlyInSight fault × (fault.stage ≡ stage.Again) × GoesForward fault new)
 
 pub since_begins : (old : Sight) → RanSince old old
 since_begins old = inl (no_step old old (stands_still old old refl))
@@ -62,7 +62,7 @@ since_on old mid new since more = elim since [
   | inr fault ↦ inr (fault.0, fault.1, fault.2, forward_then fault.0 mid new fault.3 more)
 ]
 
-pub since_goes : (old mid new : Sight) → RanSince old mid → IsOrderly new → WentForward mid new went.On → RanSince old new
+pub since_goes : (old mid new : Sight) → RanSince old mid → IsOrderlyInSight new → WentForward mid new went.On → RanSince old new
 since_goes old mid new since right came = elim came [
   | inl row ↦ since_on old mid new since row
   | inr again ↦ inr (new, right, again, no_step new new (stands_still new new refl))

@@ -6,7 +6,7 @@ use Rattle.std.proofs.lemmas.List.FromFn.{map-range_with_len_more}
 use Rattle.mb_kinds.specs.declared.calls.Call.{Call}
 use Rattle.mb_kinds.specs.declared.entries.Entry.{Entry}
 use Rattle.mb_kinds.specs.declared.entries.Flight.{Flight}
-use Rattle.mb_run.specs.Events.{Begins, Counts, Leaves}
+use Rattle.mb_run.specs.Events.{BeginsFlight, SameCalls, EndsFlight}
 use Rattle.mb_run.specs.Served.{InLine, IsLined, LineBy, LineOf, moments_in}
 use Rattle.mb_run.specs.Sights.{Sight, flight_of, is_new, one_if}
 
@@ -40,15 +40,15 @@ line_begins start history sight caller call (Some f) flight begins line moment a
     subst (λ n. LineOf start history n flight flight.answered) (sym (add-zero sight.begun)) (subst (λ b. LineOf start history sight.begun flight b) (sym answered)
     (same_line start history sight.begun f flight f.answered moment line))
 
-pub line_same : (caller : ℕ) (old new : Sight) → new.config ≡ old.config → Counts old new → new.seats caller ≡ old.seats caller → InLine caller old → InLine caller new
+pub line_same : (caller : ℕ) (old new : Sight) → new.config ≡ old.config → SameCalls old new → new.seats caller ≡ old.seats caller → InLine caller old → InLine caller new
 line_same caller old new config counts mine line = rw (config, counts.history, counts.begun, mine) line
 
-pub line_enters : (caller : ℕ) (call : Call) (flight : Flight) (old new : Sight) → Begins caller flight old new → flight.moment ≡ (flight_of old caller call (old.seats caller).flight).moment → flight.answered ≡ (flight_of old caller call (old.seats caller).flight).answered
+pub line_enters : (caller : ℕ) (call : Call) (flight : Flight) (old new : Sight) → BeginsFlight caller flight old new → flight.moment ≡ (flight_of old caller call (old.seats caller).flight).moment → flight.answered ≡ (flight_of old caller call (old.seats caller).flight).answered
     → InLine caller old → InLine caller new
 line_enters caller call flight old new begins moment answered line =
     rw (begins.stays.config, begins.mine, begins.history, begins.begun) (line_begins old.config.start old.history old caller call (old.seats caller).flight flight refl line moment answered)
 
-pub line_leaves : (caller : ℕ) (flight : Flight) (old new : Sight) → Leaves caller flight old new → InLine caller old → InLine caller new
+pub line_leaves : (caller : ℕ) (flight : Flight) (old new : Sight) → EndsFlight caller flight old new → InLine caller old → InLine caller new
 line_leaves caller flight old new leaves line =
     let was : LineOf old.config.start old.history old.begun flight flight.answered = subst (LineBy old.config.start old.history old.begun) leaves.was line in
     rw (leaves.stays.config, leaves.mine, leaves.counts.history, leaves.counts.begun) (subst (LineOf old.config.start old.history old.begun flight) leaves.answered was)

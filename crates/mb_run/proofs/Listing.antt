@@ -9,7 +9,7 @@ use Rattle.mb_kinds.specs.Own.{own}
 use Rattle.mb_kinds.specs.declared.calls.Call.{Call}
 use Rattle.mb_kinds.specs.declared.entries.Entry.{Entry}
 use Rattle.mb_kinds.specs.declared.entries.Flight.{Flight}
-use Rattle.mb_run.specs.Served.{IsAtBy, IsListed, calls_in}
+use Rattle.mb_run.specs.Served.{IsAtBy, EntriesAreCalls, calls_in}
 use Rattle.mb_run.proofs.Lists.{take_next}
 
 own_all : (entries : List Entry) (caller : ℕ) → AllByRecursion (λ (entry : Entry). entry.caller ≡ caller) entries → own entries caller ≡ entries
@@ -32,8 +32,8 @@ made_by list made done begun flight free at = (subst (IsAtBy list made done begu
 
 -- one call more in list order
 pub listed_next : (calls : List JobCall) (index : ℕ) (made : JobCall) (old new entries : List Entry) (list : List Call) (done now begun after : ℕ) (flight later : Option Flight) → slice_get calls index ≡ Some made → index < length calls
-    → IsListed old (take index calls) → new ≡ old ++ entries → AllByRecursion (λ (entry : Entry). entry.caller ≡ made.caller) entries → slice_get list done ≡ Some made.call → now ≡ done + 1
-    → flight ≡ None → IsAtBy list (calls_in old made.caller) done begun flight → later ≡ None → IsAtBy list (calls_in new made.caller) now after later → IsListed new (take (index + 1) calls)
+    → EntriesAreCalls old (take index calls) → new ≡ old ++ entries → AllByRecursion (λ (entry : Entry). entry.caller ≡ made.caller) entries → slice_get list done ≡ Some made.call → now ≡ done + 1
+    → flight ≡ None → IsAtBy list (calls_in old made.caller) done begun flight → later ≡ None → IsAtBy list (calls_in new made.caller) now after later → EntriesAreCalls new (take (index + 1) calls)
 listed_next calls index made old new entries list done now begun after flight later here low listed grown theirs next more free was gone is =
     let first : calls_in old made.caller ≡ take done list = made_by list (calls_in old made.caller) done begun flight free was in
     let last : calls_in new made.caller ≡ take now list = made_by list (calls_in new made.caller) now after later gone is in

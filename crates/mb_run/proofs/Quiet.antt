@@ -12,8 +12,8 @@ use Rattle.mb_kinds.specs.Own.{own}
 use Rattle.mb_run.specs.Events.{FlushesWith, sealed}
 use Rattle.mb_run.specs.Orders.{IsQuiet, IsWhole}
 use Rattle.mb_run.specs.Recovering.{GoOn, Steps, Waits}
-use Rattle.mb_run.specs.Served.{Acts, Underway, calls_of}
-use Rattle.mb_run.specs.Sights.{IsOrderly, Limits, Sight, recovers, undue_in}
+use Rattle.mb_run.specs.Served.{ActsAlone, AllUnderWay, calls_of}
+use Rattle.mb_run.specs.Sights.{IsOrderlyInSight, Limits, Sight, recovers, undue_in}
 use Rattle.mb_run.specs.declared.answers.Stepped.{Stepped}
 use Rattle.mb_run.specs.declared.answers.Stepped.TheVariants as stepped
 use Rattle.mb_run.specs.declared.runner.Runner.{Runner}
@@ -23,7 +23,7 @@ use Rattle.mb_run.proofs.Moving.{grows_same}
 use Rattle.mb_run.proofs.Rolling.{not_running, other_served}
 use Rattle.mb_run.proofs.Trails.{trail_marks, trail_put, trail_same}
 
-pub quiet_acts : (caller : ℕ) (old new : Sight) → IsQuiet old new → Acts caller old new
+pub quiet_acts : (caller : ℕ) (old new : Sight) → IsQuiet old new → ActsAlone caller old new
 quiet_acts caller old new quiet = record {
   config = quiet.config;
   seats = λ other apart. quiet.seats other;
@@ -44,7 +44,7 @@ quiet_acts caller old new quiet = record {
   trail = quiet.trail;
 }
 
-pub quiet_whole : (calls : List JobCall) (test : Option (Crossing → Bool)) (asked : ℕ) (old new : Sight) (runners : List Runner) → Underway calls test old runners → IsQuiet old new → undue_in new ≤ undue_in old + asked → IsOrderly new → IsWhole calls test asked old new runners runners
+pub quiet_whole : (calls : List JobCall) (test : Option (Crossing → Bool)) (asked : ℕ) (old new : Sight) (runners : List Runner) → AllUnderWay calls test old runners → IsQuiet old new → undue_in new ≤ undue_in old + asked → IsOrderlyInSight new → IsWhole calls test asked old new runners runners
 quiet_whole calls test asked old new runners underway quiet seals right = record {
   underway = record {
     served = λ caller runner here. other_served (calls_of calls caller) (length runners) caller old new runner

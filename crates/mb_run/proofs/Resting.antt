@@ -17,7 +17,7 @@ use Rattle.mb_run.specs.Recovering.{awaits_remount}
 use Rattle.mb_run.specs.Runs.{HasTakenTested, TakesTested, is_of, is_plain, is_struck, is_struck_inside}
 use Rattle.mb_run.specs.Served.{IsAfter, IsCounted, Nears}
 use Rattle.mb_run.specs.Sights.{Sight, one_if}
-use Rattle.mb_run.specs.Tallies.{AreRested, AreTallied, HasPassed, HasTallied, IsBetween, IsPast, IsRested, IsTallied, count_of}
+use Rattle.mb_run.specs.Tallies.{AreRested, AreTallied, HasPassedPoints, HasTallied, IsBetween, IsPast, IsRested, IsTallied, count_of}
 use Rattle.mb_run.specs.declared.runner.At.TheVariants as at
 use Rattle.mb_run.specs.declared.runner.Runner.{Runner}
 use Rattle.mb_run.proofs.Counting.{same_or_not}
@@ -81,7 +81,7 @@ rest_tally test sight runner tallied rested counted =
       enters = omega (arith, enters);
       finishes = omega (arith, finishes);
       remounts = omega (arith, remounts, fewer);
-      passed = subst (λ (b : Bool). HasPassed runner.crossings runner.pages b at.Outside) (sym rested.lacks) (zero_count runner.crossings zeros Leave);
+      passed = subst (λ (b : Bool). HasPassedPoints runner.crossings runner.pages b at.Outside) (sym rested.lacks) (zero_count runner.crossings zeros Leave);
       taken = λ kind some. absurd (some (zero_count runner.crossings zeros kind));
       restarted = λ struck. absurd (let wrong : true ≡ false = sym struck ∙ none in cc);
       entries = past_all test sight.records runner.crossings runner.answered sight.history rested.earlier tallied.taken;

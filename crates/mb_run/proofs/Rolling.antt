@@ -10,9 +10,9 @@ use Rattle.mb_kinds.specs.declared.entries.Flight.{Flight}
 use Rattle.mb_kinds.specs.declared.faults.FaultRecord.{FaultRecord}
 use Rattle.mb_kinds.specs.declared.faults.Ticket.{Ticket}
 use Rattle.mb_kinds.specs.declared.replies.Reply.TheVariants as reply
-use Rattle.mb_run.specs.Recovering.{EndsByDevice, GoOn, GoesOn, Rolls, RunsFor, Steps, Strikes, Waits}
-use Rattle.mb_run.specs.Served.{Acts, AreCounts, AreSound, Did, IsAtBy, IsCounted, IsResting, IsServed, IsStanding, Keeps, MayStep, Nears, Rolled, advanced, with_crossings, busy, calls_in, calls_of, rank}
-use Rattle.mb_run.specs.Sights.{IsOld, IsOrderly, IsWaiting, Limits, Sight, one_if, recovers}
+use Rattle.mb_run.specs.Recovering.{StepEndsByDevice, GoOn, CrossingsGoOn, Rolls, RunsForFlight, Steps, StrikesStep, Waits}
+use Rattle.mb_run.specs.Served.{ActsAlone, AreSixCounts, AreSound, Did, IsAtBy, IsCounted, IsResting, IsServedSoFar, IsStanding, CrossingsAreKept, MayStep, Nears, Rolled, advanced, with_crossings, busy, calls_in, calls_of, rank}
+use Rattle.mb_run.specs.Sights.{IsOld, IsOrderlyInSight, IsWaiting, Limits, Sight, one_if, recovers}
 use Rattle.mb_core_spec.specs.Copies.{PagesState}
 use Rattle.mb_run.specs.declared.runner.At.{At}
 use Rattle.mb_run.specs.declared.runner.At.TheVariants as at
@@ -38,7 +38,7 @@ use Rattle.mb_run.proofs.Undue.{waits_undue}
 pub not_running : (s : Sight) → recovers s.stage ≡ true → s.stage ≡ stage.Running → ⊥
 not_running s recovered runs = let stopped : recovers s.stage ≡ false = ap recovers runs in let both : true ≡ false = sym recovered ∙ stopped in cc
 
-acts_waits : (caller : ℕ) (old new : Sight) (more : List FaultRecord) → Waits old new → recovers old.stage ≡ true → new.records ≡ old.records ++ more → AllByRecursion (λ (fault : FaultRecord). fault.caller ≡ caller) more → Acts caller old new
+acts_waits : (caller : ℕ) (old new : Sight) (more : List FaultRecord) → Waits old new → recovers old.stage ≡ true → new.records ≡ old.records ++ more → AllByRecursion (λ (fault : FaultRecord). fault.caller ≡ caller) more → ActsAlone caller old new
 acts_waits caller old new more waits recovered records mine = record {
   config = waits.config;
   seats = λ other apart. waits.seats other;
@@ -80,7 +80,7 @@ rank_rests incarnation one other pages (at.Inside ticket) rests = rank_old incar
 rank_rests incarnation one other pages (at.Logged ticket) rests = refl
 
 module _ (calls : List JobCall) (test : Option (Crossing → Bool)) (old : Sight) (runner : Runner) (call : Call) (may : MayStep calls test old runner call) (rests : IsResting old.incarnation runner.at) where
-  waited : (new : Sight) (crossings : Crossings) → GoesOn runner.crossings crossings → Waits old new → AllByRecursion (IsCounted crossings) new.records → IsServed (calls_of calls runner.crossings.caller) new runner.crossings.caller (with_crossings runner crossings)
+  waited : (new : Sight) (crossings : Crossings) → CrossingsGoOn runner.crossings crossings → Waits old new → AllByRecursion (IsCounted crossings) new.records → IsServedSoFar (calls_of calls runner.crossings.caller) new runner.crossings.caller (with_crossings runner crossings)
   waited new crossings on waits all = record {
     caller_is = on.caller;
     ordinal = on.ordinal ∙ may.served.ordinal;
@@ -91,16 +91,16 @@ module _ (calls : List JobCall) (test : Option (Crossing → Bool)) (old : Sight
   }
 
   -- the crossings are those of its call in flight
-  pub runs_for : IsWaiting (old.seats runner.crossings.caller) → RunsFor old runner.crossings
+  pub runs_for : IsWaiting (old.seats runner.crossings.caller) → RunsForFlight old runner.crossings
   runs_for waiting =
       let at_it = subst (IsAtBy (calls_of calls runner.crossings.caller) (calls_in old.history runner.crossings.caller) runner.done (old.seats runner.crossings.caller).begun) waiting.1 may.served.calls in
       (waiting.0, waiting.1, waiting.2, may.served.ordinal ∙ sym at_it.1)
 
-  counts_on : (crossings : Crossings) → GoesOn runner.crossings crossings → AreCounts crossings
+  counts_on : (crossings : Crossings) → CrossingsGoOn runner.crossings crossings → AreSixCounts crossings
   counts_on crossings on = record { six = on.six ∙ may.counts.six; fits = on.fits }
 
   -- a step forward
-  pub rolls_near : (new : Sight) (crossings : Crossings) → GoesOn runner.crossings crossings → Rolls old new → Nears calls test old new runner (with_crossings runner crossings)
+  pub rolls_near : (new : Sight) (crossings : Crossings) → CrossingsGoOn runner.crossings crossings → Rolls old new → Nears calls test old new runner (with_crossings runner crossings)
   rolls_near new crossings on rolls = record {
     same = on.caller;
     counts = counts_on crossings on;
@@ -113,7 +113,7 @@ module _ (calls : List JobCall) (test : Option (Crossing → Bool)) (old : Sight
   }
 
   -- the hook's fault in a recovery
-  pub strikes_near : (new : Sight) (crossings : Crossings) → GoesOn runner.crossings crossings → Strikes test runner.crossings crossings old new → Nears calls test old new runner (with_crossings runner crossings)
+  pub strikes_near : (new : Sight) (crossings : Crossings) → CrossingsGoOn runner.crossings crossings → StrikesStep test runner.crossings crossings old new → Nears calls test old new runner (with_crossings runner crossings)
   strikes_near new crossings on strikes = record {
     same = on.caller;
     counts = counts_on crossings on;
@@ -143,7 +143,7 @@ module _ (calls : List JobCall) (test : Option (Crossing → Bool)) (old : Sight
   left_less : (new : Sight) → Rolls old new → new.left < old.left
   left_less new rolls = let shorter = rolls.waits.log.ops in let fewer = rolls.fewer in omega (arith, shorter, fewer)
 
-  pub rolled_on : (new : Sight) (crossings : Crossings) → GoesOn runner.crossings crossings → IsWaiting (old.seats runner.crossings.caller) → Rolls old new → recovers new.stage ≡ true → Rolled calls test old new runner (with_crossings runner crossings) went.On
+  pub rolled_on : (new : Sight) (crossings : Crossings) → CrossingsGoOn runner.crossings crossings → IsWaiting (old.seats runner.crossings.caller) → Rolls old new → recovers new.stage ≡ true → Rolled calls test old new runner (with_crossings runner crossings) went.On
   rolled_on new crossings on waiting rolls still =
       let same : length new.records ≡ length old.records = ap length rolls.records in
       let now : one_if (recovers new.stage) ≡ 1 = ap one_if still in
@@ -160,10 +160,10 @@ module _ (calls : List JobCall) (test : Option (Crossing → Bool)) (old : Sight
         );
       }
 
-  records_more : (new : Sight) (crossings : Crossings) (strikes : Strikes test runner.crossings crossings old new) → length new.records ≡ length old.records + 1
+  records_more : (new : Sight) (crossings : Crossings) (strikes : StrikesStep test runner.crossings crossings old new) → length new.records ≡ length old.records + 1
   records_more new crossings strikes = ap length strikes.records ∙ length-append old.records (strikes.fault ∷ [])
 
-  pub rolled_again : (new : Sight) (crossings : Crossings) → GoesOn runner.crossings crossings → IsWaiting (old.seats runner.crossings.caller) → Strikes test runner.crossings crossings old new → IsOrderly new → recovers new.stage ≡ true
+  pub rolled_again : (new : Sight) (crossings : Crossings) → CrossingsGoOn runner.crossings crossings → IsWaiting (old.seats runner.crossings.caller) → StrikesStep test runner.crossings crossings old new → IsOrderlyInSight new → recovers new.stage ≡ true
       → Rolled calls test old new runner (with_crossings runner crossings) went.On
   rolled_again new crossings on waiting strikes right still =
       let more = records_more new crossings strikes in
@@ -179,7 +179,7 @@ module _ (calls : List JobCall) (test : Option (Crossing → Bool)) (old : Sight
         );
       }
 
-  pub rolled_back : (new : Sight) (crossings : Crossings) → GoesOn runner.crossings crossings → (waits : Waits old new) → new.records ≡ old.records → recovers old.stage ≡ true → recovers new.stage ≡ false
+  pub rolled_back : (new : Sight) (crossings : Crossings) → CrossingsGoOn runner.crossings crossings → (waits : Waits old new) → new.records ≡ old.records → recovers old.stage ≡ true → recovers new.stage ≡ false
       → Rolled calls test old new runner (with_crossings runner crossings) went.Back
   rolled_back new crossings on waits records recovered over =
       let same : length new.records ≡ length old.records = ap length records in
@@ -199,7 +199,7 @@ module _ (calls : List JobCall) (test : Option (Crossing → Bool)) (old : Sight
         goes = (refl, refl, (omega (arith, same, limits new waits, now, was, busy_less new waits, ranks new waits)));
       }
 
-  pub rolled_struck : (new : Sight) (crossings : Crossings) → GoesOn runner.crossings crossings → Strikes test runner.crossings crossings old new → IsOrderly new → Rolled calls test old new runner (with_crossings runner crossings) went.Back
+  pub rolled_struck : (new : Sight) (crossings : Crossings) → CrossingsGoOn runner.crossings crossings → StrikesStep test runner.crossings crossings old new → IsOrderlyInSight new → Rolled calls test old new runner (with_crossings runner crossings) went.Back
   rolled_struck new crossings on strikes right =
       let more = records_more new crossings strikes in
       record {
@@ -208,7 +208,7 @@ module _ (calls : List JobCall) (test : Option (Crossing → Bool)) (old : Sight
       }
 
   -- the disk failed: the call is answered
-  pub device_ends : (new : Sight) (crossings : Crossings) → GoesOn runner.crossings crossings → EndsByDevice (Some runner.crossings) old new → (flight : Flight) → (old.seats runner.crossings.caller).flight ≡ Some flight → flight.answered ≡ false
+  pub device_ends : (new : Sight) (crossings : Crossings) → CrossingsGoOn runner.crossings crossings → StepEndsByDevice (Some runner.crossings) old new → (flight : Flight) → (old.seats runner.crossings.caller).flight ≡ Some flight → flight.answered ≡ false
       → Did calls test old new runner (advanced runner) went.Ended
   device_ends new crossings on ends flight here lacks =
       let at_it = subst (IsAtBy (calls_of calls runner.crossings.caller) (calls_in old.history runner.crossings.caller) runner.done (old.seats runner.crossings.caller).begun) here may.served.calls in
@@ -225,7 +225,7 @@ older was now (Some flight) later old = elim flight.ticket as (λ (t : Option Ti
   | Some ticket ↦ λ h. omega (arith, h, later)
 ] old
 
-pub other_served : (list : List Call) (caller other : ℕ) (old new : Sight) (runner : Runner) → other ≢ caller → Acts caller old new → IsServed list old other runner → IsServed list new other runner
+pub other_served : (list : List Call) (caller other : ℕ) (old new : Sight) (runner : Runner) → other ≢ caller → ActsAlone caller old new → IsServedSoFar list old other runner → IsServedSoFar list new other runner
 other_served list caller other old new runner apart acts served = record {
   caller_is = served.caller_is;
   ordinal = served.ordinal;
@@ -267,7 +267,7 @@ Ends stepped.NoMemory = Unit {0}
 Ends _ = ⊥
 
 module _ (calls : List JobCall) (test : Option (Crossing → Bool)) (old : Sight) (runner : Runner) (call : Call) (may : MayStep calls test old runner call) (rests : IsResting old.incarnation runner.at) (waiting : IsWaiting (old.seats runner.crossings.caller)) where
-  pub did_roll : (new : Sight) (now : Crossings) (answer : Stepped) → GoesOn runner.crossings now → IsOrderly new → Steps test (Some runner.crossings) (Some now) old new answer → (Ends answer → ⊥)
+  pub did_roll : (new : Sight) (now : Crossings) (answer : Stepped) → CrossingsGoOn runner.crossings now → IsOrderlyInSight new → Steps test (Some runner.crossings) (Some now) old new answer → (Ends answer → ⊥)
       → Rolled calls test old new runner (with_crossings runner now) (rolled_went answer)
   did_roll new now stepped.Idle on right steps goes = absurd (goes tt)
   did_roll new now (stepped.Unwound ticket) on right steps goes = rolled_on calls test old runner call may rests new now on waiting steps.1 steps.0
@@ -285,7 +285,7 @@ module _ (calls : List JobCall) (test : Option (Crossing → Bool)) (old : Sight
   did_roll new now stepped.NoMemory on right steps goes = absurd (goes tt)
 
 module _ (calls : List JobCall) (test : Option (Crossing → Bool)) (old : Sight) (runner : Runner) (call : Call) (may : MayStep calls test old runner call) (rests : IsResting old.incarnation runner.at) (waiting : IsWaiting (old.seats runner.crossings.caller)) where
-  pub kept_roll : (new : Sight) (by : Option Crossings) (now : Runner) (answer : Stepped) → GoOn (Some runner.crossings) by → IsOrderly new → Steps test (Some runner.crossings) by old new answer → (Ends answer → ⊥) → Keeps runner by now
+  pub kept_roll : (new : Sight) (by : Option Crossings) (now : Runner) (answer : Stepped) → GoOn (Some runner.crossings) by → IsOrderlyInSight new → Steps test (Some runner.crossings) by old new answer → (Ends answer → ⊥) → CrossingsAreKept runner by now
       → Rolled calls test old new runner now (rolled_went answer)
   kept_roll new None now answer on right steps goes keeps = absurd keeps
   kept_roll new (Some crossings) now answer on right steps goes keeps =

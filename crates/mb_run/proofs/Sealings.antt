@@ -9,7 +9,7 @@ use Rattle.mb_core_spec.specs.declared.steps.Step.TheVariants as step
 use Rattle.mb_kinds.specs.declared.calls.Call.{Call}
 use Rattle.mb_kinds.specs.declared.entries.Entry.{Entry}
 use Rattle.mb_kinds.specs.declared.faults.Ticket.{Ticket}
-use Rattle.mb_run.specs.Seals.{Marks, Sealing, is_due, is_other, is_sync, is_sync_of, logged_since, sealing_after, sealing_next, undue, unsealed}
+use Rattle.mb_run.specs.Seals.{MarksTrail, Sealing, is_due, is_other, is_sync, is_sync_of, logged_since, sealing_after, sealing_next, undue, unsealed}
 
 -- ---- one part of a trace after another
 
@@ -81,11 +81,11 @@ module _ (threshold : ℕ) (history more : List Entry) (trail : List Step) where
   grown : IsBelow (sealing_after threshold (history ++ more) unsealed trail) (sealing_after threshold history unsealed trail)
   grown = below_after threshold history more unsealed unsealed trail (below_same unsealed)
 
-  marked : (now : List Step) (marks : Marks trail now) → sealing_after threshold (history ++ more) unsealed now ≡ sealing_after threshold (history ++ more) (sealing_after threshold (history ++ more) unsealed trail) marks.steps
+  marked : (now : List Step) (marks : MarksTrail trail now) → sealing_after threshold (history ++ more) unsealed now ≡ sealing_after threshold (history ++ more) (sealing_after threshold (history ++ more) unsealed trail) marks.steps
   marked now marks = ap (sealing_after threshold (history ++ more) unsealed) marks.whole ∙ after_both threshold (history ++ more) unsealed trail marks.steps
 
   -- other steps, and entries
-  pub marks_undue : (now : List Step) → Marks trail now → undue threshold (history ++ more) now ≤ undue threshold history trail
+  pub marks_undue : (now : List Step) → MarksTrail trail now → undue threshold (history ++ more) now ≤ undue threshold history trail
   unfolding undue
   marks_undue now marks =
       let low = grown.undue in

@@ -13,9 +13,9 @@ use Rattle.mb_kinds.specs.declared.entries.Flight.{Flight}
 use Rattle.mb_kinds.specs.declared.faults.Ticket.{Ticket}
 use Rattle.mb_run.specs.Firsts.{KeepsFirsts}
 use Rattle.mb_run.specs.Letters.{AreLetters, BeginsAlone, BeginsByLetter, HasBegun, LacksLetter, letters_of}
-use Rattle.mb_run.specs.Orders.{HasLetter, IsOpenAt, IsQuiet, Moves}
+use Rattle.mb_run.specs.Orders.{HasLetter, HasCallOpen, IsQuiet, MovesCall}
 use Rattle.mb_run.specs.Runs.{is_letter_of, letter_of}
-use Rattle.mb_run.specs.Served.{Acts, Did, IsAtBy, IsServed, IsStanding, MayStep, Rolled, Underway, calls_in, calls_of}
+use Rattle.mb_run.specs.Served.{ActsAlone, Did, IsAtBy, IsServedSoFar, IsStanding, MayStep, Rolled, AllUnderWay, calls_in, calls_of}
 use Rattle.mb_run.specs.Sights.{AreApart, Seat, Sight}
 use Rattle.mb_run.specs.declared.progress.Went.{Went}
 use Rattle.mb_run.specs.declared.progress.Went.TheVariants as went
@@ -40,7 +40,7 @@ ends_begun : (list made : List Call) (done begun : ℕ) (held : Option Flight) �
 ends_begun list made done begun held none some at nil = some (sym (subst (IsAtBy list made done begun) none at).0 ∙ nil)
 
 -- a call inside was begun
-stands_begun : (sight : Sight) (list : List Call) (caller : ℕ) (runner : Runner) (a : At) → IsServed list sight caller runner → IsStanding sight caller runner.pages a → (a ≡ at.Outside) ⊎ ((sight.seats caller).begun ≢ 0)
+stands_begun : (sight : Sight) (list : List Call) (caller : ℕ) (runner : Runner) (a : At) → IsServedSoFar list sight caller runner → IsStanding sight caller runner.pages a → (a ≡ at.Outside) ⊎ ((sight.seats caller).begun ≢ 0)
 stands_begun sight list caller runner at.Outside served stands = inl refl
 stands_begun sight list caller runner (at.Inside ticket) served stands = inr (flight_begun list (calls_in sight.history caller) runner.done (sight.seats caller).begun (sight.seats caller).flight stands.0.flight stands.0.here served.calls)
 stands_begun sight list caller runner (at.Logged ticket) served stands = inr (flight_begun list (calls_in sight.history caller) runner.done (sight.seats caller).begun (sight.seats caller).flight stands.0.flight stands.0.here served.calls)
@@ -93,7 +93,7 @@ busy_goes holder same = cc
 -- ---- among all callers
 
 -- a caller whose list is done has begun, where it has a call
-pub past_begun : (calls : List JobCall) (test : Option (Crossing → Bool)) (sight : Sight) (runners : List Runner) (caller : ℕ) (x : Runner) → Underway calls test sight runners → caller < length runners
+pub past_begun : (calls : List JobCall) (test : Option (Crossing → Bool)) (sight : Sight) (runners : List Runner) (caller : ℕ) (x : Runner) → AllUnderWay calls test sight runners → caller < length runners
     → slice_get (calls_of calls caller) (get_or runners caller x).done ≡ None → HasBegun calls caller sight
 past_begun calls test sight runners caller x underway low none called nil =
     let served = underway.served caller (get_or runners caller x) (got runners caller x low) in
@@ -104,17 +104,17 @@ past_begun calls test sight runners caller x underway low none called nil =
       done_begun list made done begun (Some flight) some at nil = (let is = at.0 in omega (arith, is, nil))
 
 -- steps of one caller
-pub acts_alone : (caller : ℕ) (old new : Sight) → Acts caller old new → BeginsAlone (Some caller) old new
+pub acts_alone : (caller : ℕ) (old new : Sight) → ActsAlone caller old new → BeginsAlone (Some caller) old new
 acts_alone caller old new acts other apart nil = ap (λ (s : Seat). s.begun) (acts.seats other (λ same. apart (ap Some (sym same)))) ∙ nil
 
 -- of the caller at a place of the list
-pub letter_begun : (calls : List JobCall) (test : Option (Crossing → Bool)) (old new : Sight) (runners : List Runner) (caller : ℕ) (d now : Runner) → Underway calls test old runners → caller < length runners
-    → Moves calls test old new (get_or runners caller d) now → (new.seats (get_or runners caller d).crossings.caller).begun ≢ 0 → HasBegun calls caller new
+pub letter_begun : (calls : List JobCall) (test : Option (Crossing → Bool)) (old new : Sight) (runners : List Runner) (caller : ℕ) (d now : Runner) → AllUnderWay calls test old runners → caller < length runners
+    → MovesCall calls test old new (get_or runners caller d) now → (new.seats (get_or runners caller d).crossings.caller).begun ≢ 0 → HasBegun calls caller new
 letter_begun calls test old new runners caller d now underway low moves some called =
     subst (λ n. (new.seats n).begun ≢ 0) (underway.served caller (get_or runners caller d) (got runners caller d low)).caller_is some
 
-pub letter_acts : (calls : List JobCall) (test : Option (Crossing → Bool)) (old new : Sight) (runners : List Runner) (caller : ℕ) (d now : Runner) → Underway calls test old runners → caller < length runners
-    → Moves calls test old new (get_or runners caller d) now → BeginsAlone (Some caller) old new
+pub letter_acts : (calls : List JobCall) (test : Option (Crossing → Bool)) (old new : Sight) (runners : List Runner) (caller : ℕ) (d now : Runner) → AllUnderWay calls test old runners → caller < length runners
+    → MovesCall calls test old new (get_or runners caller d) now → BeginsAlone (Some caller) old new
 letter_acts calls test old new runners caller d now underway low moves =
     subst (λ n. BeginsAlone (Some n) old new) (underway.served caller (get_or runners caller d) (got runners caller d low)).caller_is (acts_alone (get_or runners caller d).crossings.caller old new moves.nears.acts)
 
@@ -122,18 +122,18 @@ pub quiet_alone : (old new : Sight) → IsQuiet old new → BeginsAlone None old
 quiet_alone old new quiet other apart nil = ap (λ (s : Seat). s.begun) (quiet.seats other) ∙ nil
 
 -- steps of a caller that had begun
-pub open_alone : (sight new : Sight) (runners : List Runner) (caller : ℕ) → IsOpenAt sight runners caller → Acts caller sight new → BeginsAlone None sight new
+pub open_alone : (sight new : Sight) (runners : List Runner) (caller : ℕ) → HasCallOpen sight runners caller → ActsAlone caller sight new → BeginsAlone None sight new
 open_alone sight new runners caller open_at acts other apart nil = elim (same_or_not other caller) [
   | inl same ↦ (let is : (sight.seats caller).begun ≡ 0 = ap (λ n. (sight.seats n).begun) (sym same) ∙ nil in absurd (omega (arith, is, open_at.more)))
   | inr other_one ↦ ap (λ (s : Seat). s.begun) (acts.seats other other_one) ∙ nil
 ]
 
-pub open_rolls : (calls : List JobCall) (test : Option (Crossing → Bool)) (old new : Sight) (runners : List Runner) (caller : ℕ) (d now : Runner) (came : Went) → Underway calls test old runners → IsOpenAt old runners caller
+pub open_rolls : (calls : List JobCall) (test : Option (Crossing → Bool)) (old new : Sight) (runners : List Runner) (caller : ℕ) (d now : Runner) (came : Went) → AllUnderWay calls test old runners → HasCallOpen old runners caller
     → Rolled calls test old new (get_or runners caller d) now came → BeginsAlone None old new
 open_rolls calls test old new runners caller d now came underway open_at rolled =
     let low : caller < length runners = slice_get_within runners caller open_at.runner open_at.here in
     let own = (underway.served caller (get_or runners caller d) (got runners caller d low)).caller_is in
-    open_alone old new runners caller open_at (subst (λ n. Acts n old new) own rolled.nears.acts)
+    open_alone old new runners caller open_at (subst (λ n. ActsAlone n old new) own rolled.nears.acts)
 
 -- ---- the caller of a letter
 

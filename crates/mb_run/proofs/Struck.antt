@@ -9,9 +9,9 @@ use Rattle.mb_kinds.specs.declared.faults.Kind.{Kind}
 use Rattle.mb_kinds.specs.declared.faults.Ticket.{Ticket}
 use Rattle.mb_core_spec.specs.Copies.{PagesState}
 use Rattle.mb_run.specs.Pages.{has}
-use Rattle.mb_run.specs.Events.{Strikes}
+use Rattle.mb_run.specs.Events.{StrikesCall}
 use Rattle.mb_run.specs.Served.{Asks, AreSound, Did, IsCounted, MayStep, Nears, backed, busy, counted, missing, rank, work}
-use Rattle.mb_run.specs.Sights.{HasTicket, IsOld, IsOrderly, Limits, Seat, Sight, one_if, recovers}
+use Rattle.mb_run.specs.Sights.{SeatHasTicket, IsOld, IsOrderlyInSight, Limits, Seat, Sight, one_if, recovers}
 use Rattle.mb_run.specs.declared.runner.At.{At}
 use Rattle.mb_run.specs.declared.runner.At.TheVariants as at
 use Rattle.mb_jobs.specs.declared.jobs.JobCall.{JobCall}
@@ -63,10 +63,10 @@ strike_at ticket kind nth = record { caller = ticket.caller; ordinal = ticket.or
 pub record Stands (sight : Sight) (caller : ℕ) (runner : Runner) (ticket : Ticket) : Type 0 where
   pub is : IsIn runner.at ticket
   pub done : Bool
-  pub has : HasTicket done (sight.seats caller) ticket
+  pub has : SeatHasTicket done (sight.seats caller) ticket
   pub past : ticket.incarnation ≤ sight.incarnation
 
-old_flight : (incarnation : ℕ) (seat : Seat) (done : Bool) (ticket : Ticket) → HasTicket done seat ticket → ticket.incarnation < incarnation → IsOld incarnation seat.flight
+old_flight : (incarnation : ℕ) (seat : Seat) (done : Bool) (ticket : Ticket) → SeatHasTicket done seat ticket → ticket.incarnation < incarnation → IsOld incarnation seat.flight
 old_flight incarnation seat done ticket here past = rw here.here (rw here.mine past)
 
 module _ (calls : List JobCall) (test : Option (Crossing → Bool)) (old : Sight) (runner : Runner) (call : Call) (may : MayStep calls test old runner call) where
@@ -138,7 +138,7 @@ module _ (calls : List JobCall) (test : Option (Crossing → Bool)) (old : Sight
   -- the call is struck
   pub struck_near : (new : Sight) (ticket : Ticket) (kind : Kind) → Stands old runner.crossings.caller runner ticket → ticket.caller ≡ runner.crossings.caller → ticket.ordinal ≡ runner.crossings.ordinal
       → IfSome test (λ fires. fires (record { caller = runner.crossings.caller; ordinal = runner.crossings.ordinal; kind = kind; nth = next_nth runner.crossings.counts kind }) ≡ true)
-      → Strikes old new ticket kind (next_nth runner.crossings.counts kind)
+      → StrikesCall old new ticket kind (next_nth runner.crossings.counts kind)
       → Nears calls test old new runner (backed (record runner { crossings = counted runner.crossings kind }))
   struck_near new ticket kind stands own ordinal holds strikes =
       let fault : FaultRecord = record { caller = runner.crossings.caller; ordinal = runner.crossings.ordinal; kind = kind; nth = next_nth runner.crossings.counts kind } in
@@ -164,7 +164,7 @@ module _ (calls : List JobCall) (test : Option (Crossing → Bool)) (old : Sight
         seals = still_undue old new strikes.config strikes.log strikes.counts.history;
       }
 
-  pub struck_less : (new : Sight) (ticket : Ticket) (kind : Kind) (nth : ℕ) (now : Runner) → IsOrderly new → Strikes old new ticket kind nth → work new runner.crossings.caller now < work old runner.crossings.caller runner
+  pub struck_less : (new : Sight) (ticket : Ticket) (kind : Kind) (nth : ℕ) (now : Runner) → IsOrderlyInSight new → StrikesCall old new ticket kind nth → work new runner.crossings.caller now < work old runner.crossings.caller runner
   struck_less new ticket kind nth now right strikes =
       let more : length new.records ≡ length old.records + 1 = ap length strikes.records ∙ length-append old.records (record { caller = ticket.caller; ordinal = ticket.ordinal; kind = kind; nth = nth } ∷ []) in
       let limit : new.config.limit ≡ old.config.limit = ap (λ (l : Limits). l.limit) strikes.config in
@@ -172,7 +172,7 @@ module _ (calls : List JobCall) (test : Option (Crossing → Bool)) (old : Sight
 
   -- where the hook was asked: the call is back
   pub did_asked : (new : Sight) (now : Runner) (ticket : Ticket) (kind : Kind) → Stands old runner.crossings.caller runner ticket → ticket.caller ≡ runner.crossings.caller → ticket.ordinal ≡ runner.crossings.ordinal
-      → IsOrderly new → Asks test old new runner now ticket kind true → Did calls test old new runner now went.Back
+      → IsOrderlyInSight new → Asks test old new runner now ticket kind true → Did calls test old new runner now went.Back
   did_asked new now ticket kind stands own ordinal right asks = elim asks.2 [
     | inl skipped ↦ subst (λ (s : Sight). Did calls test old s runner now went.Back) (sym skipped.1) (subst (λ (r : Runner). Did calls test old old runner r went.Back) (sym asks.0) (record {
       nears = back_counted ticket kind stands skipped.0;

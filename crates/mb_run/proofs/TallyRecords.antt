@@ -12,7 +12,7 @@ use Rattle.mb_kinds.specs.declared.faults.Kind.{Kind}
 use Rattle.mb_kinds.specs.declared.faults.Kind.TheVariants.{Enter, Gather, Finish, Leave, Remount, Replay}
 use Rattle.mb_plan.specs.Fires.{same_kind}
 use Rattle.mb_run.specs.Runs.{AreNear, IsTakenFirst, TakesTested, is_near, is_of, is_struck, is_struck_first, is_struck_inside}
-use Rattle.mb_run.specs.Served.{AreCounts, counted}
+use Rattle.mb_run.specs.Served.{AreSixCounts, counted}
 use Rattle.mb_run.specs.Tallies.{AreTallied, IsPast, count_of}
 use Rattle.mb_run.proofs.Counting.{here, same_or_not, there}
 use Rattle.mb_run.proofs.Lists.{all_both, neq}
@@ -154,7 +154,7 @@ next_more counts kind = (omega arith, omega arith)
 pub next_first : (counts : List ℕ) (kind : Kind) → slice_index counts (place_of kind) ≡ 0 → next_nth counts kind ≡ 1
 next_first counts kind none = omega (arith, none)
 
-module _ (crossings : Crossings) (kind : Kind) (are : AreCounts crossings) where
+module _ (crossings : Crossings) (kind : Kind) (are : AreSixCounts crossings) where
   pub counted_here : count_of (counted crossings kind) kind ≡ next_nth crossings.counts kind
   counted_here = here crossings kind are
 

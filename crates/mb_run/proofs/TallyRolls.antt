@@ -15,11 +15,11 @@ use Rattle.mb_kinds.specs.declared.faults.Kind.{Kind}
 use Rattle.mb_kinds.specs.declared.faults.Kind.TheVariants.{Enter, Finish, Leave, Remount, Replay}
 use Rattle.mb_kinds.specs.declared.replies.Reply.TheVariants as reply
 use Rattle.mb_run.specs.Events.{Answers, entry_of}
-use Rattle.mb_run.specs.Recovering.{GoOn, Rolls, Steps, Strikes, awaits_remount, counted, next_of}
+use Rattle.mb_run.specs.Recovering.{GoOn, Rolls, Steps, StrikesStep, awaits_remount, counted, next_of}
 use Rattle.mb_run.specs.Runs.{IsTakenFirst, is_near, is_struck_inside}
-use Rattle.mb_run.specs.Served.{AreCounts, IsAtBy, IsResting, Keeps, MayStep, advanced, calls_in, calls_of, with_crossings}
+use Rattle.mb_run.specs.Served.{AreSixCounts, IsAtBy, IsResting, CrossingsAreKept, MayStep, advanced, calls_in, calls_of, with_crossings}
 use Rattle.mb_run.specs.Sights.{IsWaiting, Sight, one_if, recovers}
-use Rattle.mb_run.specs.Tallies.{AreTallied, IsBetween, IsPast, IsPresent, IsRestarted, IsTallied, TalliedBy, count_of}
+use Rattle.mb_run.specs.Tallies.{AreTallied, IsBetween, IsPast, IsUpToDate, IsRestarted, IsTallied, TalliedBy, count_of}
 use Rattle.mb_run.specs.declared.answers.Stepped.{Stepped}
 use Rattle.mb_run.specs.declared.answers.Stepped.TheVariants as stepped
 use Rattle.mb_run.specs.declared.runner.At.{At}
@@ -32,7 +32,7 @@ use Rattle.mb_run.proofs.Struck.{one_most}
 use Rattle.mb_run.proofs.Tallying.{ends_unplain, lacks_leave, passed_back, with_counted}
 use Rattle.mb_run.proofs.TallyRecords.{counted_most, counted_some, counted_there, fault_at, next_more, past_push, taken_go, taken_struck, tallied_push}
 
-rests_outside : (sight : Sight) (caller : ℕ) (a : At) → IsPresent sight caller a → IsResting sight.incarnation a → a ≡ at.Outside
+rests_outside : (sight : Sight) (caller : ℕ) (a : At) → IsUpToDate sight caller a → IsResting sight.incarnation a → a ≡ at.Outside
 rests_outside sight caller at.Outside present rests = refl
 rests_outside sight caller (at.Inside ticket) present rests = absurd (rests present.0)
 rests_outside sight caller (at.Logged ticket) present rests = absurd (rests present)
@@ -78,7 +78,7 @@ module _ (test : Option (Crossing → Bool)) (old new : Sight) (runner : Runner)
     }
 
     -- at a fault point of the recovery
-    module _ (kind : Kind) (are : AreCounts runner.crossings) (late : 4 ≤ place_of kind) (unfired : IfSome test (λ fires. fires (next_of kind runner.crossings) ≡ false)) where
+    module _ (kind : Kind) (are : AreSixCounts runner.crossings) (late : 4 ≤ place_of kind) (unfired : IfSome test (λ fires. fires (next_of kind runner.crossings) ≡ false)) where
       pub rolls_past : count_of (counted runner.crossings kind) Remount + one_if (awaits_remount new.stage) ≤ length old.records
           → (is_struck_inside old.records runner.crossings.caller runner.crossings.ordinal ≡ true → IsRestarted (counted runner.crossings kind) new.stage runner.answered) → IsTallied test new (with_counted runner kind) at.Outside
       rolls_past remounts restarted = record {
@@ -96,7 +96,7 @@ module _ (test : Option (Crossing → Bool)) (old new : Sight) (runner : Runner)
 
   -- ---- a fault came
 
-  module _ (kind : Kind) (are : AreCounts runner.crossings) (late : 4 ≤ place_of kind) (more : new.records ≡ old.records ++ fault_at runner.crossings kind (next_nth runner.crossings.counts kind) ∷ []) where
+  module _ (kind : Kind) (are : AreSixCounts runner.crossings) (late : 4 ≤ place_of kind) (more : new.records ≡ old.records ++ fault_at runner.crossings kind (next_nth runner.crossings.counts kind) ∷ []) where
     longer : length new.records ≡ length old.records + 1
     longer = ap length more ∙ length-append old.records (fault_at runner.crossings kind (next_nth runner.crossings.counts kind) ∷ [])
 
@@ -121,7 +121,7 @@ module _ (test : Option (Crossing → Bool)) (old new : Sight) (runner : Runner)
 
 -- ---- by the answers of a step
 
-module _ (test : Option (Crossing → Bool)) (old new : Sight) (runner : Runner) (are : AreCounts runner.crossings) (tally : IsTallied test old runner at.Outside) (lacks : runner.answered ≡ false) where
+module _ (test : Option (Crossing → Bool)) (old new : Sight) (runner : Runner) (are : AreSixCounts runner.crossings) (tally : IsTallied test old runner at.Outside) (lacks : runner.answered ≡ false) where
   still_at : (crossings : Crossings) → crossings ≡ runner.crossings → IsTallied test new runner at.Outside → IsTallied test new (with_crossings runner crossings) at.Outside
   still_at crossings is now = subst (λ (c : Crossings). IsTallied test new (with_crossings runner c) at.Outside) (sym is) now
 
@@ -135,7 +135,7 @@ module _ (test : Option (Crossing → Bool)) (old new : Sight) (runner : Runner)
       let kind : Kind = fault.kind in
       ap (λ n. record { caller = n; ordinal = fault.ordinal; kind = kind; nth = fault.nth }) caller ∙ ap (λ n. record { caller = runner.crossings.caller; ordinal = n; kind = kind; nth = fault.nth }) ordinal ∙ ap (fault_at runner.crossings kind) nth
 
-  steps_struck : (crossings : Crossings) → Strikes test runner.crossings crossings old new → (awaits_remount new.stage ≡ true) ⊎ (new.stage ≡ stage.Failed) → IsTallied test new (with_crossings runner crossings) at.Outside
+  steps_struck : (crossings : Crossings) → StrikesStep test runner.crossings crossings old new → (awaits_remount new.stage ≡ true) ⊎ (new.stage ≡ stage.Failed) → IsTallied test new (with_crossings runner crossings) at.Outside
   steps_struck crossings strikes on =
       let kind : Kind = strikes.fault.kind in
       let more : new.records ≡ old.records ++ fault_at runner.crossings kind (next_nth runner.crossings.counts kind) ∷ [] = strikes.records ∙ ap (λ (f : FaultRecord). old.records ++ f ∷ []) (fault_is strikes.fault strikes.taken.caller strikes.taken.ordinal strikes.next.nth) in
@@ -203,12 +203,12 @@ module _ (calls : List JobCall) (test : Option (Crossing → Bool)) (old : Sight
   as_outside : IsTallied test old runner runner.at → IsTallied test old runner at.Outside
   as_outside tally = subst (IsTallied test old runner) (outside_is tally) tally
 
-  tallied_on : (new : Sight) (now : Runner) (by : Option Crossings) (answer : Stepped) → GoOn (Some runner.crossings) by → Steps test (Some runner.crossings) by old new answer → (Ends answer → ⊥) → Keeps runner by now → IsTallied test old runner runner.at
+  tallied_on : (new : Sight) (now : Runner) (by : Option Crossings) (answer : Stepped) → GoOn (Some runner.crossings) by → Steps test (Some runner.crossings) by old new answer → (Ends answer → ⊥) → CrossingsAreKept runner by now → IsTallied test old runner runner.at
       → IsTallied test new now now.at
   tallied_on new now None answer on steps goes keeps tally = absurd keeps
   tallied_on new now (Some crossings) answer on steps goes keeps tally = rolled_by test old new runner may.counts (as_outside tally) lacks_it crossings answer (outside_is tally) steps goes now keeps
 
-  pub tallied_roll : (new : Sight) (now : Runner) (by : Option Crossings) (answer : Stepped) → GoOn (Some runner.crossings) by → Steps test (Some runner.crossings) by old new answer → (Ends answer → ⊥) → Keeps runner by now → IsTallied test old runner runner.at
+  pub tallied_roll : (new : Sight) (now : Runner) (by : Option Crossings) (answer : Stepped) → GoOn (Some runner.crossings) by → Steps test (Some runner.crossings) by old new answer → (Ends answer → ⊥) → CrossingsAreKept runner by now → IsTallied test old runner runner.at
       → TalliedBy test new now (rolled_went answer)
   tallied_roll new now by stepped.Idle on steps goes keeps tally = absurd (goes tt)
   tallied_roll new now by (stepped.Unwound ticket) on steps goes keeps tally = tallied_on new now by (stepped.Unwound ticket) on steps goes keeps tally

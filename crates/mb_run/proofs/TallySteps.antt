@@ -17,13 +17,13 @@ use Rattle.mb_kinds.specs.declared.faults.Kind.TheVariants.{Enter, Gather, Finis
 use Rattle.mb_kinds.specs.declared.faults.Ticket.{Ticket}
 use Rattle.mb_kinds.specs.declared.replies.Reply.{Reply}
 use Rattle.mb_kinds.specs.declared.replies.Reply.TheVariants as reply
-use Rattle.mb_run.specs.Events.{Answers, Enters, EntersInside, Finishes, Gains, Gathers, IsUnplain, LeavesWith, Logs, SealsIf, entry_of}
+use Rattle.mb_run.specs.Events.{Answers, EntersInSight, EntersInside, FinishesInSight, Gains, GathersInSight, IsUnplain, LeavesWith, Logs, SealsIf, entry_of}
 use Rattle.mb_run.specs.Seals.{is_due}
 use Rattle.mb_run.specs.Pages.{has}
 use Rattle.mb_run.specs.Recovering.{awaits_remount}
 use Rattle.mb_run.specs.Runs.{is_plain}
 use Rattle.mb_run.specs.Served.{Asks, IsAtBy, IsHeld, IsMarked, IsStanding, MayStep, advanced, calls_in, calls_of}
-use Rattle.mb_run.specs.Sights.{HasTicket, Sight, flight_of}
+use Rattle.mb_run.specs.Sights.{SeatHasTicket, Sight, flight_of}
 use Rattle.mb_run.specs.Tallies.{IsBetween, IsEntering, IsFinishing, IsPast, IsTallied}
 use Rattle.mb_run.specs.declared.answers.Enter.TheVariants as enter
 use Rattle.mb_run.specs.declared.runner.At.TheVariants as at
@@ -37,7 +37,7 @@ use Rattle.mb_run.proofs.TallyRecords.{counted_some}
 -- ---- a call goes in
 
 module _ (calls : List JobCall) (test : Option (Crossing → Bool)) (old : Sight) (runner : Runner) (call : Call) (may : MayStep calls test old runner call) (ticket : Ticket) (inside : runner.at ≡ at.Inside ticket) where
-  stood : HasTicket false (old.seats runner.crossings.caller) ticket × IsHeld old runner.crossings.caller runner.pages ticket
+  stood : SeatHasTicket false (old.seats runner.crossings.caller) ticket × IsHeld old runner.crossings.caller runner.pages ticket
   stood = subst (IsStanding old runner.crossings.caller runner.pages) inside may.served.stands
 
   lacks : runner.answered ≡ false
@@ -72,20 +72,20 @@ module _ (calls : List JobCall) (test : Option (Crossing → Bool)) (old : Sight
   ]
 
   module _ (mid : Sight) (m : Runner) (asks : Asks test old mid runner m ticket Gather false) where
-    pub gathering_skip : (new : Sight) (need : Need) (got : PagesState) (mine was : ℕ) (now : Runner) → Gathers mid new ticket need m.pages got (gathered.Skip mine was) → IsTallied test old runner runner.at → IsTallied test new now now.at
+    pub gathering_skip : (new : Sight) (need : Need) (got : PagesState) (mine was : ℕ) (now : Runner) → GathersInSight mid new ticket need m.pages got (gathered.Skip mine was) → IsTallied test old runner runner.at → IsTallied test new now now.at
     gathering_skip new need got mine was now gathers tally = absurd (gathers.0 ((here tally).present.0 ∙ ap (λ (s : Sight). s.incarnation) (sym asks.0)))
 
     counted_tally : IsTallied test old runner runner.at → IsTallied test old (with_counted runner Gather) (at.Inside ticket)
     counted_tally tally = gather_go test old runner may.counts ticket (here tally) lacks asks.2
 
-    pub gathering_device : (new : Sight) (need : Need) (got : PagesState) → Gathers mid new ticket need m.pages got gathered.Device → IsTallied test old runner runner.at → IsBetween test new (advanced m)
+    pub gathering_device : (new : Sight) (need : Need) (got : PagesState) → GathersInSight mid new ticket need m.pages got gathered.Device → IsTallied test old runner runner.at → IsBetween test new (advanced m)
     gathering_device new need got gathers tally =
         let given = subst (λ (s : Sight). (flight : Flight) → (s.seats ticket.caller).flight ≡ Some flight → Answers ticket.caller flight reply.Device s new) asks.0 gathers.1 in
         let made : Answers ticket.caller stood.0.flight reply.Device old new = given stood.0.flight (ap (λ n. (old.seats n).flight) own ∙ stood.0.here) in
         subst (λ (r : Runner). IsBetween test new (advanced r)) (sym asks.1)
         (ends_unplain test old new (with_counted runner Gather) made.stays.records made.stays.stage (at.Inside ticket) (counted_tally tally) lacks (entry_of ticket.caller stood.0.flight None reply.Device) (sym stood.0.ordinal ∙ ordinal) refl made.history)
 
-    pub gathering_done : (new : Sight) (need : Need) (got : PagesState) → Gathers mid new ticket need m.pages got gathered.Done → IsTallied test old runner runner.at → IsTallied test new (record m { pages = got }) m.at
+    pub gathering_done : (new : Sight) (need : Need) (got : PagesState) → GathersInSight mid new ticket need m.pages got gathered.Done → IsTallied test old runner runner.at → IsTallied test new (record m { pages = got }) m.at
     gathering_done new need got gathers tally =
         let gains : Gains ticket.caller old new need m.pages got = subst (λ (s : Sight). Gains ticket.caller s new need m.pages got) asks.0 gathers.1 in
         let was = counted_tally tally in
@@ -107,10 +107,10 @@ module _ (calls : List JobCall) (test : Option (Crossing → Bool)) (old : Sight
       subst (λ (s : Sight). IsFinishing test s m ticket) (sym asks.0) (subst (λ (r : Runner). IsFinishing test old r ticket) (sym asks.1)
       (record { tallied = finish_go test old runner may.counts ticket (here tally) lacks asks.2 there; fresh = (here tally).present.1 }))
 
-  pub finishing_skip : (new : Sight) (mine was : ℕ) (now : Runner) → Finishes old new ticket runner.pages call (finished.Skip mine was) → IsFinishing test old runner ticket → IsTallied test new now now.at
+  pub finishing_skip : (new : Sight) (mine was : ℕ) (now : Runner) → FinishesInSight old new ticket runner.pages call (finished.Skip mine was) → IsFinishing test old runner ticket → IsTallied test new now now.at
   finishing_skip new mine was now finishes finishing = absurd (finishes.0 finishing.tallied.present)
 
-  pub finishing_stale : (new : Sight) (block : ℕ) (now : Runner) → Finishes old new ticket runner.pages call (finished.Stale block) → IsFinishing test old runner ticket → IsTallied test new now now.at
+  pub finishing_stale : (new : Sight) (block : ℕ) (now : Runner) → FinishesInSight old new ticket runner.pages call (finished.Stale block) → IsFinishing test old runner ticket → IsTallied test new now now.at
   finishing_stale new block now finishes finishing =
       let spoiled : old.fresh ticket.caller ≡ false = finishes.1.spoiled (ap old.copies own ∙ stood.1.same finishes.0) in
       absurd (let wrong : true ≡ false = sym finishing.fresh ∙ ap old.fresh (sym own) ∙ spoiled in cc)
@@ -160,7 +160,7 @@ module _ (calls : List JobCall) (test : Option (Crossing → Bool)) (old : Sight
       tally_on test mid new logged logged (at.Logged ticket) (at.Logged ticket) was records on history refl refl was.asked (was.present ∙ sym incarnation) was.passed (omega arith) (omega arith)
   seals_tally mid new false was seals = subst (λ (s : Sight). IsTallied test s logged (at.Logged ticket)) (sym seals) was
 
-  pub finishing_logged : (new : Sight) → Finishes old new ticket runner.pages call finished.Logged → IsFinishing test old runner ticket → IsTallied test new logged (at.Logged ticket)
+  pub finishing_logged : (new : Sight) → FinishesInSight old new ticket runner.pages call finished.Logged → IsFinishing test old runner ticket → IsTallied test new logged (at.Logged ticket)
   finishing_logged new finishes finishing =
       let of = finishes.2 in
       seals_tally of.logged new (is_due of.logged.config.threshold of.logged.ops call) (logs_tally of.logged finishes.0 of.logs finishing) of.seals
@@ -223,7 +223,7 @@ module _ (calls : List JobCall) (test : Option (Crossing → Bool)) (old : Sight
       let at_it = subst (IsAtBy (calls_of calls runner.crossings.caller) (calls_in old.history runner.crossings.caller) runner.done (old.seats runner.crossings.caller).begun) is may.served.calls in
       at_it.1 ∙ sym may.served.ordinal
 
-  pub entering_done : (new : Sight) (answer : Reply) → Enters old new runner.crossings.caller call (enter.Done answer) → IsTallied test old runner runner.at → IsBetween test new (advanced runner)
+  pub entering_done : (new : Sight) (answer : Reply) → EntersInSight old new runner.crossings.caller call (enter.Done answer) → IsTallied test old runner runner.at → IsBetween test new (advanced runner)
   entering_done new answer enters tally = elim enters [
     | inl leaves ↦ (
         let went = leaves.1 in
@@ -234,7 +234,7 @@ module _ (calls : List JobCall) (test : Option (Crossing → Bool)) (old : Sight
         ends_unplain test old new runner answers.stays.records answers.stays.stage at.Outside (rests tally) (lacks_it made.0) (entry_of runner.crossings.caller flight None answer) (ordinal_by (old.seats runner.crossings.caller).flight refl) (unplain_is answer made.1) answers.history)
   ]
 
-  pub entering_shut : (new : Sight) → Enters old new runner.crossings.caller call enter.Shut → IsTallied test old runner runner.at → IsTallied test new runner runner.at
+  pub entering_shut : (new : Sight) → EntersInSight old new runner.crossings.caller call enter.Shut → IsTallied test old runner runner.at → IsTallied test new runner runner.at
   entering_shut new enters tally =
       let begins = enters.2 in
       let was = rests tally in

@@ -12,13 +12,13 @@ use Rattle.mb_kinds.specs.declared.faults.FaultRecord.{FaultRecord}
 use Rattle.mb_kinds.specs.declared.faults.Kind.{Kind}
 use Rattle.mb_kinds.specs.declared.faults.Kind.TheVariants.{Enter, Gather, Finish, Leave, Remount}
 use Rattle.mb_kinds.specs.declared.faults.Ticket.{Ticket}
-use Rattle.mb_run.specs.Events.{Strikes}
+use Rattle.mb_run.specs.Events.{StrikesCall}
 use Rattle.mb_run.specs.Pages.{has}
 use Rattle.mb_run.specs.Recovering.{awaits_remount, counted, next_of}
 use Rattle.mb_run.specs.Runs.{IsTakenFirst, TakesTested, is_near, is_plain, is_struck_inside}
-use Rattle.mb_run.specs.Served.{AreCounts, advanced, backed}
+use Rattle.mb_run.specs.Served.{AreSixCounts, advanced, backed}
 use Rattle.mb_run.specs.Sights.{Sight, one_if}
-use Rattle.mb_run.specs.Tallies.{AreTallied, HasFinished, HasPassed, HasTallied, IsBetween, IsPast, IsPresent, IsRestarted, IsTallied, count_of, is_in, is_logged}
+use Rattle.mb_run.specs.Tallies.{AreTallied, HasFinished, HasPassedPoints, HasTallied, IsBetween, IsPast, IsUpToDate, IsRestarted, IsTallied, count_of, is_in, is_logged}
 use Rattle.mb_run.specs.declared.runner.At.{At}
 use Rattle.mb_run.specs.declared.runner.At.TheVariants as at
 use Rattle.mb_run.specs.declared.runner.Runner.{Runner}
@@ -30,23 +30,23 @@ with_counted runner kind = record runner { crossings = counted runner.crossings 
 
 -- ---- which fault points a call passed
 
-pub lacks_leave : (crossings : Crossings) (pages : PagesState) (answered : Bool) → answered ≡ false → HasPassed crossings pages answered at.Outside → count_of crossings Leave ≡ 0
+pub lacks_leave : (crossings : Crossings) (pages : PagesState) (answered : Bool) → answered ≡ false → HasPassedPoints crossings pages answered at.Outside → count_of crossings Leave ≡ 0
 lacks_leave crossings pages true is passed = cc
 lacks_leave crossings pages false is passed = passed
 
-pub passed_back : (crossings : Crossings) (pages : PagesState) (answered : Bool) → answered ≡ false → count_of crossings Leave ≡ 0 → HasPassed crossings pages answered at.Outside
+pub passed_back : (crossings : Crossings) (pages : PagesState) (answered : Bool) → answered ≡ false → count_of crossings Leave ≡ 0 → HasPassedPoints crossings pages answered at.Outside
 passed_back crossings pages true is none = cc
 passed_back crossings pages false is none = none
 
-passed_left : (crossings : Crossings) (pages : PagesState) (answered : Bool) → answered ≡ true → HasFinished crossings → count_of crossings Leave ≢ 0 → HasPassed crossings pages answered at.Outside
+passed_left : (crossings : Crossings) (pages : PagesState) (answered : Bool) → answered ≡ true → HasFinished crossings → count_of crossings Leave ≢ 0 → HasPassedPoints crossings pages answered at.Outside
 passed_left crossings pages true is finished some = (finished, some)
 passed_left crossings pages false is finished some = cc
 
-pub passed_pages : (crossings : Crossings) (one other : PagesState) (answered : Bool) → HasPassed crossings one answered at.Outside → HasPassed crossings other answered at.Outside
+pub passed_pages : (crossings : Crossings) (one other : PagesState) (answered : Bool) → HasPassedPoints crossings one answered at.Outside → HasPassedPoints crossings other answered at.Outside
 passed_pages crossings one other true passed = passed
 passed_pages crossings one other false passed = passed
 
-pub left_passed : (crossings : Crossings) (pages : PagesState) (answered : Bool) → answered ≡ true → HasPassed crossings pages answered at.Outside → HasFinished crossings × (count_of crossings Leave ≢ 0)
+pub left_passed : (crossings : Crossings) (pages : PagesState) (answered : Bool) → answered ≡ true → HasPassedPoints crossings pages answered at.Outside → HasFinished crossings × (count_of crossings Leave ≢ 0)
 left_passed crossings pages true is passed = passed
 left_passed crossings pages false is passed = cc
 
@@ -110,7 +110,7 @@ module _ (test : Option (Crossing → Bool)) (old new : Sight) (runner : Runner)
       (subst (λ (es : List Entry). AllByRecursion (λ (entry : Entry). entry.caller ≡ runner.crossings.caller → entry.ordinal < runner.crossings.ordinal + 1) es) (sym history) (all_earlier test old.records runner.crossings true old.history past))
 
   -- a call that left
-  pub ends_left : AreCounts runner.crossings → (ticket : Ticket) → IsTallied test old runner (at.Logged ticket) → runner.answered ≡ true → IfSome test (λ fires. fires (next_of Leave runner.crossings) ≡ false) → new.history ≡ old.history
+  pub ends_left : AreSixCounts runner.crossings → (ticket : Ticket) → IsTallied test old runner (at.Logged ticket) → runner.answered ≡ true → IfSome test (λ fires. fires (next_of Leave runner.crossings) ≡ false) → new.history ≡ old.history
       → IsBetween test new (advanced (with_counted runner Leave))
   ends_left are ticket tally answered unfired history =
       let crossings : Crossings = counted runner.crossings Leave in
@@ -146,7 +146,7 @@ module _ (test : Option (Crossing → Bool)) (old new : Sight) (runner : Runner)
 
 -- the entries and records stay, and the call stands as before or farther
 pub tally_on : (test : Option (Crossing → Bool)) (old new : Sight) (before now : Runner) (from to : At) → IsTallied test old before from → new.records ≡ old.records → new.stage ≡ old.stage → new.history ≡ old.history → now.crossings ≡ before.crossings
-    → now.answered ≡ before.answered → now.asked ≡ false → IsPresent new now.crossings.caller to → HasPassed now.crossings now.pages now.answered to → is_in from ≤ is_in to → is_logged from ≤ is_logged to → IsTallied test new now to
+    → now.answered ≡ before.answered → now.asked ≡ false → IsUpToDate new now.crossings.caller to → HasPassedPoints now.crossings now.pages now.answered to → is_in from ≤ is_in to → is_logged from ≤ is_logged to → IsTallied test new now to
 tally_on test old new before now from to tally records on history crossings answered asked present passed inner later =
     let size : length new.records ≡ length old.records = ap length records in
     let same : (kind : Kind) → count_of now.crossings kind ≡ count_of before.crossings kind = λ kind. ap (λ (c : Crossings). count_of c kind) crossings in
@@ -166,13 +166,13 @@ tally_on test old new before now from to tally records on history crossings answ
 
 -- ---- the fault injector is asked
 
-module _ (test : Option (Crossing → Bool)) (old : Sight) (runner : Runner) (kind : Kind) (are : AreCounts runner.crossings) (stand : At) (tally : IsTallied test old runner stand) (apart : place_of Remount ≢ place_of kind) where
+module _ (test : Option (Crossing → Bool)) (old : Sight) (runner : Runner) (kind : Kind) (are : AreSixCounts runner.crossings) (stand : At) (tally : IsTallied test old runner stand) (apart : place_of Remount ≢ place_of kind) where
   same_remounts : count_of (counted runner.crossings kind) Remount ≡ count_of runner.crossings Remount
   same_remounts = counted_there runner.crossings kind are Remount apart
 
   -- the call goes on
-  pub tally_go : IfSome test (λ fires. fires (next_of kind runner.crossings) ≡ false) → (to : At) → IsPresent old runner.crossings.caller to → count_of (counted runner.crossings kind) Enter ≤ length old.records + is_in to
-      → count_of (counted runner.crossings kind) Finish ≤ length old.records + is_logged to → HasPassed (counted runner.crossings kind) runner.pages runner.answered to → IsTallied test old (with_counted runner kind) to
+  pub tally_go : IfSome test (λ fires. fires (next_of kind runner.crossings) ≡ false) → (to : At) → IsUpToDate old runner.crossings.caller to → count_of (counted runner.crossings kind) Enter ≤ length old.records + is_in to
+      → count_of (counted runner.crossings kind) Finish ≤ length old.records + is_logged to → HasPassedPoints (counted runner.crossings kind) runner.pages runner.answered to → IsTallied test old (with_counted runner kind) to
   tally_go unfired to present enters finishes passed = record {
     asked = tally.asked;
     present = present;
@@ -187,9 +187,9 @@ module _ (test : Option (Crossing → Bool)) (old : Sight) (runner : Runner) (ki
   }
 
   -- the call is struck
-  pub tally_struck : (new : Sight) (ticket : Ticket) → ticket.caller ≡ runner.crossings.caller → ticket.ordinal ≡ runner.crossings.ordinal → Strikes old new ticket kind (next_nth runner.crossings.counts kind)
+  pub tally_struck : (new : Sight) (ticket : Ticket) → ticket.caller ≡ runner.crossings.caller → ticket.ordinal ≡ runner.crossings.ordinal → StrikesCall old new ticket kind (next_nth runner.crossings.counts kind)
       → is_near (length old.records) kind (next_nth runner.crossings.counts kind) ≡ true → count_of (counted runner.crossings kind) Enter ≤ length old.records + 1 → count_of (counted runner.crossings kind) Finish ≤ length old.records + 1
-      → HasPassed (counted runner.crossings kind) no_pages runner.answered at.Outside → (runner.answered ≡ false) ⊎ (3 ≤ place_of kind) → IsTallied test new (backed (with_counted runner kind)) at.Outside
+      → HasPassedPoints (counted runner.crossings kind) no_pages runner.answered at.Outside → (runner.answered ≡ false) ⊎ (3 ≤ place_of kind) → IsTallied test new (backed (with_counted runner kind)) at.Outside
   tally_struck new ticket own ordinal strikes near enters finishes passed late =
       let nth : ℕ = next_nth runner.crossings.counts kind in
       let fault : FaultRecord = fault_at runner.crossings kind nth in
@@ -228,7 +228,7 @@ near_next n nth low = le-leb nth (n + 1) low
 never_remount : (n : ℕ) → n < 4 → 4 ≢ n
 never_remount n low same = omega (arith, low, same)
 
-module _ (test : Option (Crossing → Bool)) (old : Sight) (runner : Runner) (are : AreCounts runner.crossings) (ticket : Ticket) where
+module _ (test : Option (Crossing → Bool)) (old : Sight) (runner : Runner) (are : AreSixCounts runner.crossings) (ticket : Ticket) where
   abbrev n : ℕ
   n = length old.records
 
@@ -254,7 +254,7 @@ module _ (test : Option (Crossing → Bool)) (old : Sight) (runner : Runner) (ar
         tally_go test old runner Enter are at.Outside tally (never_remount 0 (omega arith)) unfired (at.Inside ticket) (present, fresh) one_more (omega (arith, same_finishes))
         (record { enters = counted_some runner.crossings Enter are; gathers = λ there. absurd (let wrong : false ≡ true = ap (λ (p : PagesState). has p 0) (sym empty) ∙ there in cc); leaves = no_leave })
 
-    pub enter_struck : (new : Sight) → ticket.caller ≡ runner.crossings.caller → ticket.ordinal ≡ runner.crossings.ordinal → Strikes old new ticket Enter (next_nth runner.crossings.counts Enter) → IsTallied test new (backed (with_counted runner Enter)) at.Outside
+    pub enter_struck : (new : Sight) → ticket.caller ≡ runner.crossings.caller → ticket.ordinal ≡ runner.crossings.ordinal → StrikesCall old new ticket Enter (next_nth runner.crossings.counts Enter) → IsTallied test new (backed (with_counted runner Enter)) at.Outside
     enter_struck new own ordinal strikes =
         let here = counted_here runner.crossings Enter are in
         tally_struck test old runner Enter are at.Outside tally (never_remount 0 (omega arith)) new ticket own ordinal strikes (near_next n (next_nth runner.crossings.counts Enter) (omega (arith, one_more, here))) one_more (omega (arith, same_finishes))
@@ -275,7 +275,7 @@ module _ (test : Option (Crossing → Bool)) (old : Sight) (runner : Runner) (ar
         tally_go test old runner Gather are (at.Inside ticket) tally (never_remount 1 (omega arith)) unfired (at.Inside ticket) tally.present (inside_enters Gather (λ same. omega (arith, same))) (omega (arith, same, was))
         (record { enters = counted_stays runner.crossings Gather are Enter tally.passed.enters; gathers = λ there. counted_some runner.crossings Gather are; leaves = inside_leave Gather (λ same. omega (arith, same)) })
 
-    pub gather_struck : (new : Sight) → ticket.caller ≡ runner.crossings.caller → ticket.ordinal ≡ runner.crossings.ordinal → Strikes old new ticket Gather (next_nth runner.crossings.counts Gather) → IsTallied test new (backed (with_counted runner Gather)) at.Outside
+    pub gather_struck : (new : Sight) → ticket.caller ≡ runner.crossings.caller → ticket.ordinal ≡ runner.crossings.ordinal → StrikesCall old new ticket Gather (next_nth runner.crossings.counts Gather) → IsTallied test new (backed (with_counted runner Gather)) at.Outside
     gather_struck new own ordinal strikes =
         let same = counted_there runner.crossings Gather are Finish (λ same. omega (arith, same)) in
         let was = tally.finishes in
@@ -296,7 +296,7 @@ module _ (test : Option (Crossing → Bool)) (old : Sight) (runner : Runner) (ar
           inside_leave Finish (λ same. omega (arith, same)),
         )
 
-    pub finish_struck : (new : Sight) → ticket.caller ≡ runner.crossings.caller → ticket.ordinal ≡ runner.crossings.ordinal → Strikes old new ticket Finish (next_nth runner.crossings.counts Finish) → IsTallied test new (backed (with_counted runner Finish)) at.Outside
+    pub finish_struck : (new : Sight) → ticket.caller ≡ runner.crossings.caller → ticket.ordinal ≡ runner.crossings.ordinal → StrikesCall old new ticket Finish (next_nth runner.crossings.counts Finish) → IsTallied test new (backed (with_counted runner Finish)) at.Outside
     finish_struck new own ordinal strikes =
         let here = counted_here runner.crossings Finish are in
         tally_struck test old runner Finish are (at.Inside ticket) tally (never_remount 2 (omega arith)) new ticket own ordinal strikes (near_next n (next_nth runner.crossings.counts Finish) (omega (arith, finish_most, here)))
@@ -317,7 +317,7 @@ module _ (test : Option (Crossing → Bool)) (old : Sight) (runner : Runner) (ar
       finishes = counted_stays runner.crossings Leave are Finish tally.passed.0.finishes;
     }
 
-    pub leave_struck : (new : Sight) → ticket.caller ≡ runner.crossings.caller → ticket.ordinal ≡ runner.crossings.ordinal → Strikes old new ticket Leave (next_nth runner.crossings.counts Leave) → IsTallied test new (backed (with_counted runner Leave)) at.Outside
+    pub leave_struck : (new : Sight) → ticket.caller ≡ runner.crossings.caller → ticket.ordinal ≡ runner.crossings.ordinal → StrikesCall old new ticket Leave (next_nth runner.crossings.counts Leave) → IsTallied test new (backed (with_counted runner Leave)) at.Outside
     leave_struck new own ordinal strikes =
         let first : next_nth runner.crossings.counts Leave ≡ 1 = (let none = tally.passed.1 in omega (arith, none)) in
         tally_struck test old runner Leave are (at.Logged ticket) tally (never_remount 3 (omega arith)) new ticket own ordinal strikes (ap (λ nth. is_near n Leave nth) first) leave_enters leave_finishes

@@ -3,22 +3,22 @@ use Rattle.std.proofs.Common.{◌≡◌, List, [], ◌++◌, ap, sym, ◌∙◌,
 use Rattle.std.proofs.lemmas.List.{append-nil}
 use Rattle.mb_core_spec.specs.declared.steps.Step.{Step}
 use Rattle.mb_run.specs.Orders.{Lengthens}
-use Rattle.mb_run.specs.Seals.{Continues, Marks}
+use Rattle.mb_run.specs.Seals.{TrailGoesOn, MarksTrail}
 use Rattle.mb_run.specs.Sights.{Sight}
 
-pub trail_same : (trail : List Step) → Continues trail trail
+pub trail_same : (trail : List Step) → TrailGoesOn trail trail
 trail_same trail = record { steps = []; whole = sym (append-nil trail) }
 
-pub trail_is : (before now : List Step) → now ≡ before → Continues before now
+pub trail_is : (before now : List Step) → now ≡ before → TrailGoesOn before now
 trail_is before now same = record { steps = []; whole = same ∙ sym (append-nil before) }
 
-pub trail_then : (a b d : List Step) → Continues a b → Continues b d → Continues a d
+pub trail_then : (a b d : List Step) → TrailGoesOn a b → TrailGoesOn b d → TrailGoesOn a d
 trail_then a b d one two = record { steps = one.steps ++ two.steps; whole = two.whole ∙ ap (λ steps. steps ++ two.steps) one.whole ∙ append_assoc a one.steps two.steps }
 
-pub trail_marks : (before now : List Step) → Marks before now → Continues before now
+pub trail_marks : (before now : List Step) → MarksTrail before now → TrailGoesOn before now
 trail_marks before now marks = record { steps = marks.steps; whole = marks.whole }
 
-pub trail_put : (before steps now : List Step) → now ≡ before ++ steps → Continues before now
+pub trail_put : (before steps now : List Step) → now ≡ before ++ steps → TrailGoesOn before now
 trail_put before steps now put = record { steps = steps; whole = put }
 
 -- history and trace

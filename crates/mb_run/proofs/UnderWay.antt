@@ -7,7 +7,7 @@ use Rattle.mb_cache.specs.Kept.{shown}
 use Rattle.mb_core_spec.specs.Copies.{PagesState, TableCopy, no_pages}
 use Rattle.mb_iface.specs.declared.replies.Need.{Need}
 use Rattle.mb_kinds.specs.declared.calls.Call.{Call}
-use Rattle.mb_run.specs.Pages.{Grows, GrowsBy, IsUnderWay, LacksAll, has}
+use Rattle.mb_run.specs.Pages.{PagesGrow, PagesGrowBy, IsUnderWay, LacksAll, has}
 
 -- ---- a view that grows
 
@@ -23,7 +23,7 @@ given_same None = tt
 given_same (Some given) = refl
 
 -- what was gathered is there
-pub grows_same : (pages : PagesState) → Grows pages pages
+pub grows_same : (pages : PagesState) → PagesGrow pages pages
 grows_same pages = record { blocks = same_view (shown pages.blocks); tables = given_same pages.tables }
 
 -- ---- a call under way
@@ -36,11 +36,11 @@ same_tables None now Was Is there same on had = absurd (never there)
 same_tables (Some given) now Was Is there same on had = subst (λ (o : Option TableCopy). IfSome o Is) (sym same) (on given had)
 
 module _ (before now : PagesState) (caller : ℕ) (call : Call) where
-  grown_on : (on : Performing) → is_some before.tables ≡ true → Grows before now → IsUnderWay before caller call (Some on) → IsUnderWay now caller call (Some on)
+  grown_on : (on : Performing) → is_some before.tables ≡ true → PagesGrow before now → IsUnderWay before caller call (Some on) → IsUnderWay now caller call (Some on)
   grown_on on there grows under = same_tables before.tables now.tables (λ given. IsGoingFor (shown before.blocks) given.sessions caller call on.walks) (λ given. IsGoingFor (shown now.blocks) given.sessions caller call on.walks) there grows.tables
       (λ given going seat here. going_grows (shown before.blocks) (shown now.blocks) seat call on.walks grows.blocks (going seat here)) under
 
-  grown_way : (way : Option Performing) → is_some before.tables ≡ true → Grows before now → IsUnderWay before caller call way → IsUnderWay now caller call way
+  grown_way : (way : Option Performing) → is_some before.tables ≡ true → PagesGrow before now → IsUnderWay before caller call way → IsUnderWay now caller call way
   grown_way None there grows under = tt
   grown_way (Some on) there grows under = grown_on on there grows under
 
@@ -49,7 +49,7 @@ module _ (before now : PagesState) (caller : ℕ) (call : Call) where
   empty_way (Some on) empty = subst (λ (p : PagesState). IsUnderWay p caller call (Some on)) (sym empty) tt
 
   -- after blocks were asked for
-  pub gathered_way : (need : Need) (was way : Option Performing) → has before 0 ≡ true → IsUnderWay before caller call was → (way ≡ None) ⊎ ((way ≡ was) × LacksAll before need) → GrowsBy need before now → IsUnderWay now caller call way
+  pub gathered_way : (need : Need) (was way : Option Performing) → has before 0 ≡ true → IsUnderWay before caller call was → (way ≡ None) ⊎ ((way ≡ was) × LacksAll before need) → PagesGrowBy need before now → IsUnderWay now caller call way
   gathered_way need was way there under (inl none) grown = subst (IsUnderWay now caller call) (sym none) tt
   gathered_way need was way there under (inr kept) (inl empty) = empty_way way empty
   gathered_way need was way there under (inr kept) (inr grows) = subst (IsUnderWay now caller call) (sym kept.0) (grown_way was there (grows kept.1) under)

@@ -26,10 +26,10 @@ use Rattle.mb_kinds.specs.declared.faults.Kind.{Kind}
 use Rattle.mb_kinds.specs.declared.faults.Ticket.{Ticket}
 use Rattle.mb_kinds.specs.declared.replies.Reply.{Reply}
 use Rattle.mb_kinds.specs.declared.replies.Reply.TheVariants as reply
-use Rattle.mb_run.specs.Events.{Answers, Enters, FaultsWith, Finishes, FlushesWith, Gathers, IsCallOf, KeepsLog, LeavesWith, Logs, LogsInTime, Quits, SealsIf, entry_of, sealed}
-use Rattle.mb_run.specs.Recovering.{EndsByDevice, RunsFor, Steps, StrikesBy, Waits}
+use Rattle.mb_run.specs.Events.{Answers, EntersInSight, FaultsWith, FinishesInSight, FlushesWith, GathersInSight, IsCallOf, KeepsLog, LeavesWith, Logs, LogsInTime, Quits, SealsIf, entry_of, sealed}
+use Rattle.mb_run.specs.Recovering.{StepEndsByDevice, RunsForFlight, Steps, StrikesBy, Waits}
 use Rattle.mb_run.specs.Seals.{is_due, is_sync, is_sync_of, logged_since, undue}
-use Rattle.mb_run.specs.Sights.{HasTicket, Limits, Sight, flight_of, since_in, undue_in}
+use Rattle.mb_run.specs.Sights.{SeatHasTicket, Limits, Sight, flight_of, since_in, undue_in}
 use Rattle.mb_run.specs.declared.answers.Enter.{Enter}
 use Rattle.mb_run.specs.declared.answers.Enter.TheVariants as enter
 use Rattle.mb_run.specs.declared.answers.Stepped.{Stepped}
@@ -78,7 +78,7 @@ seal_undue old new is =
     omega (arith, same, more)
 
 -- a call is logged, and the checkpoint that is due is taken
-module _ (old new : Sight) (ticket : Ticket) (call : Call) (has : HasTicket false (old.seats ticket.caller) ticket) (of : IsCallOf (old.seats ticket.caller) call) (covers : old.ops ≤ since_in old) (in_time : LogsInTime ticket.caller old new ticket call) where
+module _ (old new : Sight) (ticket : Ticket) (call : Call) (has : SeatHasTicket false (old.seats ticket.caller) ticket) (of : IsCallOf (old.seats ticket.caller) call) (covers : old.ops ≤ since_in old) (in_time : LogsInTime ticket.caller old new ticket call) where
   abbrev logged : Sight
   logged = in_time.logged
 
@@ -120,21 +120,21 @@ module _ (old new : Sight) (ticket : Ticket) (call : Call) (has : HasTicket fals
 answers_undue : (caller : ℕ) (flight : Flight) (answer : Reply) (old new : Sight) → Answers caller flight answer old new → undue_in new ≤ undue_in old
 answers_undue caller flight answer old new answers = entry_undue old new answers.stays.config (entry_of caller flight None answer) answers.log answers.history
 
-pub enters_undue : (old new : Sight) (caller : ℕ) (call : Call) (answer : Enter) → Enters old new caller call answer → undue_in new ≤ undue_in old
+pub enters_undue : (old new : Sight) (caller : ℕ) (call : Call) (answer : Enter) → EntersInSight old new caller call answer → undue_in new ≤ undue_in old
 enters_undue old new caller call (enter.Done answer) (inl left) = still_undue old new left.1.stays.config left.1.log left.1.counts.history
 enters_undue old new caller call (enter.Done answer) (inr ended) = answers_undue caller (flight_of old caller call (old.seats caller).flight) answer old new ended.2
 enters_undue old new caller call enter.Shut shut = still_undue old new shut.2.stays.config shut.2.log shut.2.history
 enters_undue old new caller call (enter.Inside ticket) inside = still_undue old new inside.begins.stays.config inside.begins.log inside.begins.history
 enters_undue old new caller call enter.NoMemory none = same_undue old new none.0
 
-pub gathers_undue : (old new : Sight) (ticket : Ticket) (need : Need) (before now : PagesState) (answer : Gathered) → HasTicket false (old.seats ticket.caller) ticket → Gathers old new ticket need before now answer → undue_in new ≤ undue_in old
+pub gathers_undue : (old new : Sight) (ticket : Ticket) (need : Need) (before now : PagesState) (answer : Gathered) → SeatHasTicket false (old.seats ticket.caller) ticket → GathersInSight old new ticket need before now answer → undue_in new ≤ undue_in old
 gathers_undue old new ticket need before now (gathered.Skip mine present) has gathers = same_undue old new gathers.1
 gathers_undue old new ticket need before now gathered.Device has gathers = answers_undue ticket.caller has.flight reply.Device old new (gathers.1 has.flight has.here)
 gathers_undue old new ticket need before now gathered.NoMemory has gathers = same_undue old new gathers.0
 gathers_undue old new ticket need before now gathered.Done has gathers = still_undue old new gathers.1.stays.config gathers.1.log gathers.1.counts.history
 
-pub finishes_undue : (old new : Sight) (ticket : Ticket) (pages : PagesState) (call : Call) (answer : Finished) → HasTicket false (old.seats ticket.caller) ticket → IsCallOf (old.seats ticket.caller) call → old.ops ≤ since_in old
-    → Finishes old new ticket pages call answer → undue_in new ≤ undue_in old
+pub finishes_undue : (old new : Sight) (ticket : Ticket) (pages : PagesState) (call : Call) (answer : Finished) → SeatHasTicket false (old.seats ticket.caller) ticket → IsCallOf (old.seats ticket.caller) call → old.ops ≤ since_in old
+    → FinishesInSight old new ticket pages call answer → undue_in new ≤ undue_in old
 finishes_undue old new ticket pages call (finished.Skip mine present) has of covers finishes = same_undue old new finishes.1
 finishes_undue old new ticket pages call (finished.Busy holder) has of covers finishes = same_undue old new finishes.3
 finishes_undue old new ticket pages call (finished.Stale block) has of covers finishes = still_undue old new finishes.1.stays.config finishes.1.log finishes.1.counts.history
@@ -167,11 +167,11 @@ strikes_undue test (Some before) (Some now) old new strikes = waits_undue old ne
 strikes_undue test (Some before) None old new strikes = absurd strikes
 strikes_undue test None now old new strikes = absurd strikes
 
-device_undue : (before : Option Crossings) (old new : Sight) → ((c : Crossings) → before ≡ Some c → RunsFor old c) → EndsByDevice before old new → undue_in new ≤ undue_in old
+device_undue : (before : Option Crossings) (old new : Sight) → ((c : Crossings) → before ≡ Some c → RunsForFlight old c) → StepEndsByDevice before old new → undue_in new ≤ undue_in old
 device_undue None old new runs ends = same_undue old new ends
 device_undue (Some before) old new runs ends = let of = runs before refl in answers_undue before.caller of.0 reply.Device old new (ends of.0 of.1)
 
-pub steps_undue : (test : Option (Crossing → Bool)) (before now : Option Crossings) (old new : Sight) (answer : Stepped) → ((c : Crossings) → before ≡ Some c → RunsFor old c) → Steps test before now old new answer → undue_in new ≤ undue_in old
+pub steps_undue : (test : Option (Crossing → Bool)) (before now : Option Crossings) (old new : Sight) (answer : Stepped) → ((c : Crossings) → before ≡ Some c → RunsForFlight old c) → Steps test before now old new answer → undue_in new ≤ undue_in old
 steps_undue test before now old new stepped.Idle runs steps = same_undue old new steps.1
 steps_undue test before now old new (stepped.Failed faults) runs steps = elim steps.1 [ inl waited ↦ waits_undue old new waited.1 | inr strikes ↦ strikes_undue test before now old new strikes ]
 steps_undue test before now old new stepped.Resumed runs steps = waits_undue old new steps.2.waits

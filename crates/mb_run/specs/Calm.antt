@@ -31,7 +31,7 @@ AreAllPlain history = AllByRecursion (λ (entry : Entry). is_plain entry.reply �
 -- ---- one caller
 
 -- its next call entered; after a small letter it has not gathered the tables
-pub record GoesInside (capital : Bool) (old new : Sight) (caller : ℕ) (now : Runner) : Type 0 where
+pub record WentInside (capital : Bool) (old new : Sight) (caller : ℕ) (now : Runner) : Type 0 where
   pub ticket : Ticket
   pub stands : now.at ≡ at.Inside ticket
   pub own : ticket.caller ≡ caller
@@ -52,7 +52,7 @@ pub record StaysInside (old new : Sight) (ticket : Ticket) (now : Runner) : Type
 -- a call that has not begun enters; one that is inside stays there, if the letter is a capital or the tables are not gathered
 abbrev pub CalmlyFrom : Bool → Sight → Sight → Runner → Runner → At → Type 0
 CalmlyFrom capital old new before now at.Outside =
-    old.stage ≡ stage.Running → (old.seats before.crossings.caller).flight ≡ None → GoesInside capital old new before.crossings.caller now
+    old.stage ≡ stage.Running → (old.seats before.crossings.caller).flight ≡ None → WentInside capital old new before.crossings.caller now
 CalmlyFrom capital old new before now (at.Inside ticket) =
     ticket.incarnation ≡ old.incarnation → (capital ≡ false → has before.pages 0 ≡ false) → StaysInside old new ticket now
 CalmlyFrom capital old new before now (at.Logged ticket) = Unit {0}
@@ -81,7 +81,7 @@ pub record IsTurn (calls : List JobCall) (test : Option (Crossing → Bool)) (ca
   pub seats : (other : ℕ) → other ≢ caller → new.seats other ≡ old.seats other
 
 -- its caller's list is done, and nothing came of it
-pub record IsIdle (calls : List JobCall) (caller : ℕ) (old new : Sight) (before now : List Runner) : Type 0 where
+pub record IsDoneAndIdle (calls : List JobCall) (caller : ℕ) (old new : Sight) (before now : List Runner) : Type 0 where
   pub runner : Runner
   pub here : slice_get before caller ≡ Some runner
   pub none : slice_get (calls_of calls caller) runner.done ≡ None
@@ -89,7 +89,7 @@ pub record IsIdle (calls : List JobCall) (caller : ℕ) (old new : Sight) (befor
   pub runners : now ≡ before
 
 abbrev pub TurnsCalmly : List JobCall → Option (Crossing → Bool) → Bool → ℕ → Sight → Sight → List Runner → List Runner → Type 0
-TurnsCalmly calls test capital caller old new before now = IsTurn calls test capital caller old new before now ⊎ IsIdle calls caller old new before now
+TurnsCalmly calls test capital caller old new before now = IsTurn calls test capital caller old new before now ⊎ IsDoneAndIdle calls caller old new before now
 
 -- no call did anything, and of the trace at most checkpoints came
 pub record IsStill (old new : Sight) : Type 0 where
@@ -122,7 +122,7 @@ pub record IsInTurn (letters : List ℕ) (calls : List JobCall) (seen : List ℕ
 
 -- the volume runs, and the trace tells but for its checkpoints that the callers whose letters stood there entered, in that order,
 -- each with its first call
-pub record IsCalm (letters : List ℕ) (calls : List JobCall) (seen : List ℕ) (sight : Sight) (runners : List Runner) : Type 0 where
+pub record AreCalm (letters : List ℕ) (calls : List JobCall) (seen : List ℕ) (sight : Sight) (runners : List Runner) : Type 0 where
   pub runs : sight.stage ≡ stage.Running
   pub tickets : List Ticket
   pub trail : without_seals sight.trail ≡ map step.Entered tickets
@@ -133,12 +133,12 @@ pub record IsCalm (letters : List ℕ) (calls : List JobCall) (seen : List ℕ) 
 
 -- none was seen yet
 abbrev pub StartsCalm : List Caller → List JobCall → Sight → List Runner → Type 0
-StartsCalm callers calls sight runners = IsCalm (letters_of callers) calls [] sight runners
+StartsCalm callers calls sight runners = AreCalm (letters_of callers) calls [] sight runners
 
 -- one character more, which may follow those that were seen
 abbrev pub KeepsCalm : List ℕ → List JobCall → ℕ → Sight → Sight → List Runner → List Runner → Type 0
 KeepsCalm letters calls character old new before now = (seen : List ℕ) → is_calm_next letters seen character ≡ true
-    → IsCalm letters calls seen old before → AreAllPlain new.history → IsCalm letters calls (seen ++ character ∷ []) new now
+    → AreCalm letters calls seen old before → AreAllPlain new.history → AreCalm letters calls (seen ++ character ∷ []) new now
 
 -- the same for callers with letters of their own, where no fault comes
 abbrev pub KeepsCalmly : List Caller → List JobCall → Option (Crossing → Bool) → ℕ → Sight → Sight → List Runner → List Runner → Type 0

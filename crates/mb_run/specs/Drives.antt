@@ -12,8 +12,8 @@ use Rattle.mb_run.specs.Calm.{AreAllPlain, HoldsNowhere}
 use Rattle.mb_run.specs.Letters.{AreLetters, letters_of}
 use Rattle.mb_run.specs.Orders.{asked_by}
 use Rattle.mb_run.specs.Runs.{EntersFirst, FirstsRise, HasTakenTested}
-use Rattle.mb_run.specs.Served.{AreSound, AreSoundBy, IsListed, calls_in, calls_of, moments_in}
-use Rattle.mb_run.specs.Sights.{AreApart, IsOrderly, Sight, undue_in}
+use Rattle.mb_run.specs.Served.{AreSound, AreSoundBy, EntriesAreCalls, calls_in, calls_of, moments_in}
+use Rattle.mb_run.specs.Sights.{AreApart, IsOrderlyInSight, Sight, undue_in}
 use Rattle.mb_core_spec.specs.Copies.{no_pages}
 use Rattle.mb_run.specs.declared.runner.At.TheVariants as at
 use Rattle.mb_run.specs.declared.runner.Runner.{Runner}
@@ -36,7 +36,7 @@ pub record IsBegun (job : Job) (sight : Sight) : Type 0 where
   pub callers : sight.config.callers ≡ length job.callers
   pub start : sight.config.start ≡ job.start
   pub most : (caller : ℕ) → length (calls_of job.calls caller) ≤ sight.config.most
-  pub right : IsOrderly sight
+  pub right : IsOrderlyInSight sight
 
 -- every call of the job has its entry, and none is in flight; the fault records are sound
 pub record IsComplete (calls : List JobCall) (callers : ℕ) (test : Option (Crossing → Bool)) (sight : Sight) : Type 0 where
@@ -53,7 +53,7 @@ pub record HasEachMoment (start : ℕ) (history : List Entry) : Type 0 where
 
 -- in list order the entries are the job's calls, in their order, and entry i has the moment start + i
 abbrev pub IsLinedUp : Option (List ℕ) → List JobCall → ℕ → List Entry → Type 0
-IsLinedUp None calls start history = IsListed history calls × (moments_in history ≡ range_with_len (start + 1) (length history))
+IsLinedUp None calls start history = EntriesAreCalls history calls × (moments_in history ≡ range_with_len (start + 1) (length history))
 IsLinedUp (Some order) calls start history = Unit {0}
 
 -- under an order the moments of the callers' first calls rise as their letters, small or capital, first stand in it; the letters
@@ -93,10 +93,10 @@ pub record IsDriven (job : Job) (test : Option (Crossing → Bool)) (old new : S
   pub seals : undue_in new ≤ undue_in old + asked_by job.order
 
 -- the end tells whether the volume failed
-abbrev pub Ends : Stage → DriveEnd → Type 0
-Ends now end.AllDone = now ≢ stage.Failed
-Ends now end.VolumeFailed = now ≡ stage.Failed
-Ends now end.NoMemory = Unit {0}
+abbrev pub EndsDrive : Stage → DriveEnd → Type 0
+EndsDrive now end.AllDone = now ≢ stage.Failed
+EndsDrive now end.VolumeFailed = now ≡ stage.Failed
+EndsDrive now end.NoMemory = Unit {0}
 
 -- a caller before its first call
 abbrev pub new_runner : ℕ → Runner

@@ -11,8 +11,8 @@ use Rattle.mb_kinds.specs.declared.replies.Reply.TheVariants as reply
 use Rattle.mb_edge.specs.Causes.{Rose}
 use Rattle.mb_cache.specs.Kept.{shown}
 use Rattle.mb_core_spec.specs.Copies.{PagesState, no_pages}
-use Rattle.mb_run.specs.Pages.{Grows, HasTablesFor, LacksAll, Performs, has}
-use Rattle.mb_run.specs.Seals.{Marks, is_due}
+use Rattle.mb_run.specs.Pages.{PagesGrow, HasTablesFor, LacksAll, PerformsOver, has}
+use Rattle.mb_run.specs.Seals.{MarksTrail, is_due}
 use Rattle.mb_run.specs.Sights.{Seat, Sight, one_if, recovers, flight_of, is_new, IsOld}
 use Rattle.mb_calls.specs.declared.performing.Ready.{Ready}
 use Rattle.mb_calls.specs.declared.performing.Performed.{Performed}
@@ -35,7 +35,7 @@ use Rattle.mb_iface.specs.declared.replies.Need.{Need}
 use Rattle.mb_core_spec.specs.declared.stages.Stage.TheVariants as stage
 
 -- what every event of one caller but a fault leaves as it is
-pub record Stays (caller : ℕ) (old new : Sight) : Type 0 where
+pub record LeavesOthersAlone (caller : ℕ) (old new : Sight) : Type 0 where
   pub config : new.config ≡ old.config
   pub records : new.records ≡ old.records
   pub stage : new.stage ≡ old.stage
@@ -45,7 +45,7 @@ pub record Stays (caller : ℕ) (old new : Sight) : Type 0 where
   pub stales : (other : ℕ) → other ≢ caller → new.stales other ≡ old.stales other
 
 -- no call begins or ends, and no entry is added
-pub record Counts (old new : Sight) : Type 0 where
+pub record SameCalls (old new : Sight) : Type 0 where
   pub history : new.history ≡ old.history
   pub begun : new.begun ≡ old.begun
   pub open_calls : new.open_calls ≡ old.open_calls
@@ -54,11 +54,11 @@ pub record Counts (old new : Sight) : Type 0 where
 pub record KeepsLog (old new : Sight) : Type 0 where
   pub sealed_at : new.sealed_at ≡ old.sealed_at
   pub ops : new.ops ≤ old.ops
-  pub trail : Marks old.trail new.trail
+  pub trail : MarksTrail old.trail new.trail
 
 -- the call is in flight and waits
-pub record Begins (caller : ℕ) (flight : Flight) (old new : Sight) : Type 0 where
-  pub stays : Stays caller old new
+pub record BeginsFlight (caller : ℕ) (flight : Flight) (old new : Sight) : Type 0 where
+  pub stays : LeavesOthersAlone caller old new
   pub mine : new.seats caller ≡ record { begun = flight.ordinal; flight = Some flight }
   pub history : new.history ≡ old.history
   pub begun : new.begun ≡ old.begun + one_if (is_new (old.seats caller).flight)
@@ -71,7 +71,7 @@ entry_of caller flight pick answer = record { caller = caller; ordinal = flight.
 
 -- the flight, which has no entry, gets one that changes nothing and ends
 pub record Answers (caller : ℕ) (flight : Flight) (answer : Reply) (old new : Sight) : Type 0 where
-  pub stays : Stays caller old new
+  pub stays : LeavesOthersAlone caller old new
   pub mine : new.seats caller ≡ record { begun = flight.ordinal; flight = None }
   pub history : new.history ≡ old.history ++ entry_of caller flight None answer ∷ []
   pub begun : new.begun ≡ old.begun + one_if (is_new (old.seats caller).flight)
@@ -80,12 +80,12 @@ pub record Answers (caller : ℕ) (flight : Flight) (answer : Reply) (old new : 
   pub floor : (new.floor ≡ None) ⊎ (new.floor ≡ old.floor)
 
 -- the flight, which has its entry, ends
-pub record Leaves (caller : ℕ) (flight : Flight) (old new : Sight) : Type 0 where
-  pub stays : Stays caller old new
+pub record EndsFlight (caller : ℕ) (flight : Flight) (old new : Sight) : Type 0 where
+  pub stays : LeavesOthersAlone caller old new
   pub was : (old.seats caller).flight ≡ Some flight
   pub answered : flight.answered ≡ true
   pub mine : new.seats caller ≡ record { begun = (old.seats caller).begun; flight = None }
-  pub counts : Counts old new
+  pub counts : SameCalls old new
   pub log : KeepsLog old new
   pub floor : (new.floor ≡ None) ⊎ (new.floor ≡ old.floor)
 
@@ -105,7 +105,7 @@ pub record IsReplyOf (history : List Entry) (caller ordinal : ℕ) (answer : Rep
   pub reply_is : entry.reply ≡ answer
 
 pub record EntersInside (old new : Sight) (caller : ℕ) (call : Call) (ticket : Ticket) : Type 0 where
-  pub begins : Begins caller (record (flight_of old caller call (old.seats caller).flight) { ticket = Some ticket }) old new
+  pub begins : BeginsFlight caller (record (flight_of old caller call (old.seats caller).flight) { ticket = Some ticket }) old new
   pub runs : old.stage ≡ stage.Running
   pub own : ticket.caller ≡ caller
   pub ordinal : ticket.ordinal ≡ (flight_of old caller call (old.seats caller).flight).ordinal
@@ -117,20 +117,20 @@ pub record EntersInside (old new : Sight) (caller : ℕ) (call : Call) (ticket :
   pub fresh : IsOld old.incarnation (old.seats caller).flight → new.fresh caller ≡ true
   pub trail : IsOld old.incarnation (old.seats caller).flight → new.trail ≡ old.trail ++ step.Entered ticket ∷ []
 
-abbrev pub Enters : Sight → Sight → ℕ → Call → Enter → Type 0
-Enters old new caller call (enter.Done answer) =
-    ((flight : Flight) × Leaves caller flight old new × IsReplyOf old.history caller flight.ordinal answer)
+abbrev pub EntersInSight : Sight → Sight → ℕ → Call → Enter → Type 0
+EntersInSight old new caller call (enter.Done answer) =
+    ((flight : Flight) × EndsFlight caller flight old new × IsReplyOf old.history caller flight.ordinal answer)
     ⊎ (((flight_of old caller call (old.seats caller).flight).answered ≡ false) × IsUnplain answer × Answers caller (flight_of old caller call (old.seats caller).flight) answer old new)
-Enters old new caller call enter.Shut =
-    (recovers old.stage ≡ true) × ((flight_of old caller call (old.seats caller).flight).answered ≡ false) × Begins caller (flight_of old caller call (old.seats caller).flight) old new
-Enters old new caller call (enter.Inside ticket) = EntersInside old new caller call ticket
-Enters old new caller call enter.NoMemory = (new ≡ old) × ((flight_of old caller call (old.seats caller).flight).answered ≡ false)
+EntersInSight old new caller call enter.Shut =
+    (recovers old.stage ≡ true) × ((flight_of old caller call (old.seats caller).flight).answered ≡ false) × BeginsFlight caller (flight_of old caller call (old.seats caller).flight) old new
+EntersInSight old new caller call (enter.Inside ticket) = EntersInside old new caller call ticket
+EntersInSight old new caller call enter.NoMemory = (new ≡ old) × ((flight_of old caller call (old.seats caller).flight).answered ≡ false)
 
 -- blocks are gathered, into the flight and into the caller's pages alike
 pub record Gains (caller : ℕ) (old new : Sight) (need : Need) (before now : PagesState) : Type 0 where
-  pub stays : Stays caller old new
+  pub stays : LeavesOthersAlone caller old new
   pub mine : new.seats caller ≡ old.seats caller
-  pub counts : Counts old new
+  pub counts : SameCalls old new
   pub log : KeepsLog old new
   pub floor : new.floor ≡ old.floor
   pub same : old.copies caller ≡ before → new.copies caller ≡ now
@@ -138,21 +138,21 @@ pub record Gains (caller : ℕ) (old new : Sight) (need : Need) (before now : Pa
   pub fresh : old.fresh caller ≡ true → new.fresh caller ≡ true
   pub got : has now need.first ≡ true
   pub keeps : (block : ℕ) → has before block ≡ true → has now block ≡ true
-  pub grows : LacksAll before need → Grows before now
+  pub grows : LacksAll before need → PagesGrow before now
   pub tables : HasTablesFor old.config.callers before → HasTablesFor old.config.callers now
   pub trail : new.trail ≡ old.trail
 
-abbrev pub Gathers : Sight → Sight → Ticket → Need → PagesState → PagesState → Gathered → Type 0
-Gathers old new ticket need before now (gathered.Skip mine was) = (ticket.incarnation ≢ old.incarnation) × (new ≡ old) × (now ≡ before)
-Gathers old new ticket need before now gathered.Device = (ticket.incarnation ≡ old.incarnation) × ((flight : Flight) → (old.seats ticket.caller).flight ≡ Some flight → Answers ticket.caller flight reply.Device old new)
-Gathers old new ticket need before now gathered.NoMemory = (new ≡ old) × (now ≡ before)
-Gathers old new ticket need before now gathered.Done = (ticket.incarnation ≡ old.incarnation) × Gains ticket.caller old new need before now
+abbrev pub GathersInSight : Sight → Sight → Ticket → Need → PagesState → PagesState → Gathered → Type 0
+GathersInSight old new ticket need before now (gathered.Skip mine was) = (ticket.incarnation ≢ old.incarnation) × (new ≡ old) × (now ≡ before)
+GathersInSight old new ticket need before now gathered.Device = (ticket.incarnation ≡ old.incarnation) × ((flight : Flight) → (old.seats ticket.caller).flight ≡ Some flight → Answers ticket.caller flight reply.Device old new)
+GathersInSight old new ticket need before now gathered.NoMemory = (new ≡ old) × (now ≡ before)
+GathersInSight old new ticket need before now gathered.Done = (ticket.incarnation ≡ old.incarnation) × Gains ticket.caller old new need before now
 
 -- the pins and the copies are given back
 pub record IsStale (caller : ℕ) (old new : Sight) (pages : PagesState) : Type 0 where
-  pub stays : Stays caller old new
+  pub stays : LeavesOthersAlone caller old new
   pub mine : new.seats caller ≡ old.seats caller
-  pub counts : Counts old new
+  pub counts : SameCalls old new
   pub log : KeepsLog old new
   pub was : (old.floor ≡ None) ⊎ (old.floor ≡ Some caller)
   pub floor : (new.floor ≡ None) ⊎ (new.floor ≡ Some caller)
@@ -163,7 +163,7 @@ pub record IsStale (caller : ℕ) (old new : Sight) (pages : PagesState) : Type 
   pub stales : new.stales caller ≡ min (old.stales caller + 1) 4
 
 pub record Logs (caller : ℕ) (old new : Sight) (ticket : Ticket) : Type 0 where
-  pub stays : Stays caller old new
+  pub stays : LeavesOthersAlone caller old new
   pub flight : Flight
   pub was : (old.seats caller).flight ≡ Some flight
   pub mine : new.seats caller ≡ record { begun = flight.ordinal; flight = Some (record flight { answered = true }) }
@@ -197,16 +197,16 @@ pub record LogsInTime (caller : ℕ) (old new : Sight) (ticket : Ticket) (made :
   pub logs : Logs caller old logged ticket
   pub seals : SealsIf (is_due logged.config.threshold logged.ops made) logged new
 
-abbrev pub Finishes : Sight → Sight → Ticket → PagesState → Call → Finished → Type 0
-Finishes old new ticket pages made (finished.Skip mine was) = (ticket.incarnation ≢ old.incarnation) × (new ≡ old)
-Finishes old new ticket pages made (finished.Busy holder) = (ticket.incarnation ≡ old.incarnation) × (old.floor ≡ Some holder.caller) × (holder.caller ≢ ticket.caller) × (new ≡ old)
-Finishes old new ticket pages made (finished.Stale block) = (ticket.incarnation ≡ old.incarnation) × IsStale ticket.caller old new pages
-Finishes old new ticket pages made finished.NoMemory = (ticket.incarnation ≡ old.incarnation) × (new ≡ old)
-Finishes old new ticket pages made finished.Logged = (ticket.incarnation ≡ old.incarnation) × ((old.floor ≡ None) ⊎ (old.floor ≡ Some ticket.caller)) × LogsInTime ticket.caller old new ticket made
+abbrev pub FinishesInSight : Sight → Sight → Ticket → PagesState → Call → Finished → Type 0
+FinishesInSight old new ticket pages made (finished.Skip mine was) = (ticket.incarnation ≢ old.incarnation) × (new ≡ old)
+FinishesInSight old new ticket pages made (finished.Busy holder) = (ticket.incarnation ≡ old.incarnation) × (old.floor ≡ Some holder.caller) × (holder.caller ≢ ticket.caller) × (new ≡ old)
+FinishesInSight old new ticket pages made (finished.Stale block) = (ticket.incarnation ≡ old.incarnation) × IsStale ticket.caller old new pages
+FinishesInSight old new ticket pages made finished.NoMemory = (ticket.incarnation ≡ old.incarnation) × (new ≡ old)
+FinishesInSight old new ticket pages made finished.Logged = (ticket.incarnation ≡ old.incarnation) × ((old.floor ≡ None) ⊎ (old.floor ≡ Some ticket.caller)) × LogsInTime ticket.caller old new ticket made
 
 abbrev pub LeavesWith : Sight → Sight → Ticket → Left → Type 0
 LeavesWith old new ticket (left.Skip mine was) = (ticket.incarnation ≢ old.incarnation) × (new ≡ old)
-LeavesWith old new ticket (left.Left answer) = (ticket.incarnation ≡ old.incarnation) × ((flight : Flight) × Leaves ticket.caller flight old new × IsReplyOf old.history ticket.caller flight.ordinal answer)
+LeavesWith old new ticket (left.Left answer) = (ticket.incarnation ≡ old.incarnation) × ((flight : Flight) × EndsFlight ticket.caller flight old new × IsReplyOf old.history ticket.caller flight.ordinal answer)
 
 -- with a call that left one checkpointed page was written back: one fewer waits, or none waited; or as many wait on, and the
 -- disk's count of faults rose
@@ -218,31 +218,31 @@ WritesBehind before now old new (left.Left answer) =
 -- what a call is performed over that finishes, and what it came to
 abbrev pub IsReadyAt : Sight → Ticket → PagesState → Ready → Type 0
 IsReadyAt sight ticket pages ready = (flight : Flight) → (sight.seats ticket.caller).flight ≡ Some flight
-    → Performs pages ticket.caller flight.call flight.moment (performed.Ready ready)
+    → PerformsOver pages ticket.caller flight.call flight.moment (performed.Ready ready)
 
 -- the call in flight is that one
 abbrev pub IsCallOf : Seat → Call → Type 0
 IsCallOf seat made = (flight : Flight) → seat.flight ≡ Some flight → flight.call ≡ made
 
 -- what is asked for is not there yet
-abbrev pub IsAsked : PagesState → Performed → Type 0
-IsAsked pages (performed.Need need) = IsNeed (shown pages.blocks) need
-IsAsked pages _ = Unit {0}
+abbrev pub AsksForLacking : PagesState → Performed → Type 0
+AsksForLacking pages (performed.Need need) = IsNeed (shown pages.blocks) need
+AsksForLacking pages _ = Unit {0}
 
 -- a call is struck
-pub record Strikes (old new : Sight) (ticket : Ticket) (kind : Kind) (nth : ℕ) : Type 0 where
+pub record StrikesCall (old new : Sight) (ticket : Ticket) (kind : Kind) (nth : ℕ) : Type 0 where
   pub config : new.config ≡ old.config
   pub records : new.records ≡ old.records ++ record { caller = ticket.caller; ordinal = ticket.ordinal; kind = kind; nth = nth } ∷ []
   pub stage : new.stage ≡ stage.Struck
   pub incarnation : new.incarnation ≡ old.incarnation + 1
   pub seats : (other : ℕ) → new.seats other ≡ old.seats other
-  pub counts : Counts old new
+  pub counts : SameCalls old new
   pub log : KeepsLog old new
   pub floor : new.floor ≡ old.floor
 
 abbrev pub FaultsWith : Sight → Sight → Ticket → Kind → ℕ → Fault → Type 0
 FaultsWith old new ticket kind nth (fault.Skip mine was) = (ticket.incarnation ≢ old.incarnation) × (new ≡ old)
-FaultsWith old new ticket kind nth (fault.Struck number) = (ticket.incarnation ≡ old.incarnation) × Strikes old new ticket kind nth
+FaultsWith old new ticket kind nth (fault.Struck number) = (ticket.incarnation ≡ old.incarnation) × StrikesCall old new ticket kind nth
 
 -- ---- what no caller does
 
@@ -254,7 +254,7 @@ FlushesWith old new flushed.Device = new ≡ old
 
 -- a call in flight without an entry ends and gets none
 pub record Quits (caller : ℕ) (old new : Sight) : Type 0 where
-  pub stays : Stays caller old new
+  pub stays : LeavesOthersAlone caller old new
   pub mine : (new.seats caller).flight ≡ None
   pub history : new.history ≡ old.history
   pub log : KeepsLog old new

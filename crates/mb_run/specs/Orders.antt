@@ -5,11 +5,11 @@ use Rattle.mb_core_spec.specs.declared.stages.Stage.TheVariants as stage
 use Rattle.mb_jobs.specs.declared.jobs.Caller.{Caller}
 use Rattle.mb_jobs.specs.declared.jobs.JobCall.{JobCall}
 use Rattle.mb_kinds.specs.declared.entries.Entry.{Entry}
-use Rattle.mb_run.specs.Events.{Counts, sealed}
+use Rattle.mb_run.specs.Events.{SameCalls, sealed}
 use Rattle.mb_run.specs.Firsts.{KeepsFirsts}
 use Rattle.mb_run.specs.Pages.{HasTablesFor, has}
-use Rattle.mb_run.specs.Seals.{Continues}
-use Rattle.mb_run.specs.Served.{IsBalanced, Nears, Underway, calls_of}
+use Rattle.mb_run.specs.Seals.{TrailGoesOn}
+use Rattle.mb_run.specs.Served.{IsBalanced, Nears, AllUnderWay, calls_of}
 use Rattle.mb_run.specs.Sights.{Sight, undue_in}
 use Rattle.mb_run.specs.declared.progress.Early.{Early}
 use Rattle.mb_run.specs.declared.progress.Early.TheVariants as early
@@ -36,18 +36,18 @@ IsEarlyAt runner (early.Gather ticket need) =
     (runner.at ≡ at.Inside ticket) × (has runner.pages need.first ≡ false) × (need.first < 262144) × (1 ≤ need.count) × (need.count ≤ 32)
 
 -- what a call does next; want of memory is met by a call inside alone, and a call that is outside enters next
-abbrev pub Ahead : Runner → Next → Type 0
-Ahead runner (next.Early early) = IsEarlyAt runner early
-Ahead runner next.NoMemory = runner.answered ≡ false
-Ahead runner next.Late = runner.at ≢ at.Outside
+abbrev pub ComesNext : Runner → Next → Type 0
+ComesNext runner (next.Early early) = IsEarlyAt runner early
+ComesNext runner next.NoMemory = runner.answered ≡ false
+ComesNext runner next.Late = runner.at ≢ at.Outside
 
 -- steps of a caller's call, with which it was answered, or not
-pub record Moves (calls : List JobCall) (test : Option (Crossing → Bool)) (old new : Sight) (before now : Runner) : Type 0 where
+pub record MovesCall (calls : List JobCall) (test : Option (Crossing → Bool)) (old new : Sight) (before now : Runner) : Type 0 where
   pub nears : Nears calls test old new before now
   pub done : (now.done ≡ before.done) ⊎ (now.done ≡ before.done + 1)
 
 abbrev pub Moved : List JobCall → Option (Crossing → Bool) → Sight → Sight → Runner → Runner → Bool → Type 0
-Moved calls test old new before now true = Moves calls test old new before now
+Moved calls test old new before now true = MovesCall calls test old new before now
 Moved calls test old new before now false = Unit {0}
 
 -- ---- all callers
@@ -61,8 +61,8 @@ abbrev pub done_at : List Runner → ℕ → ℕ
 done_at runners caller = done_by (slice_get runners caller)
 
 -- of no caller fewer calls were answered
-abbrev pub Grows : List Runner → List Runner → Type 0
-Grows old new = (caller : ℕ) → done_at old caller ≤ done_at new caller
+abbrev pub AnswersGrow : List Runner → List Runner → Type 0
+AnswersGrow old new = (caller : ℕ) → done_at old caller ≤ done_at new caller
 
 -- a character of an order asks for a checkpoint: `=`
 abbrev pub asks : ℕ → Bool
@@ -80,12 +80,12 @@ asked_by (Some order) = asked_in order
 pub record Lengthens (old new : Sight) : Type 0 where
   pub entries : List Entry
   pub history : new.history ≡ old.history ++ entries
-  pub trail : Continues old.trail new.trail
+  pub trail : TrailGoesOn old.trail new.trail
 
 -- a job is still under way, later on; so many checkpoints were asked for
 pub record IsWhole (calls : List JobCall) (test : Option (Crossing → Bool)) (asked : ℕ) (old new : Sight) (before now : List Runner) : Type 0 where
-  pub underway : Underway calls test new now
-  pub grows : Grows before now
+  pub underway : AllUnderWay calls test new now
+  pub grows : AnswersGrow before now
   pub balanced : IsBalanced old → IsBalanced new
   pub config : new.config ≡ old.config
   pub firsts : KeepsFirsts old new
@@ -99,15 +99,15 @@ pub record IsQuiet (old new : Sight) : Type 0 where
   pub records : new.records ≡ old.records
   pub incarnation : new.incarnation ≡ old.incarnation
   pub seats : (caller : ℕ) → new.seats caller ≡ old.seats caller
-  pub counts : Counts old new
+  pub counts : SameCalls old new
   pub floor : (new.floor ≡ None) ⊎ (new.floor ≡ old.floor)
-  pub trail : Continues old.trail new.trail
+  pub trail : TrailGoesOn old.trail new.trail
   pub runs : old.stage ≡ stage.Running → new.stage ≡ stage.Running
   pub copies : old.stage ≡ stage.Running → (caller : ℕ) → new.copies caller ≡ old.copies caller
   pub stales : old.stage ≡ stage.Running → (caller : ℕ) → new.stales caller ≡ old.stales caller
 
 -- a caller has a call in flight without an entry
-pub record IsOpenAt (sight : Sight) (runners : List Runner) (caller : ℕ) : Type 0 where
+pub record HasCallOpen (sight : Sight) (runners : List Runner) (caller : ℕ) : Type 0 where
   pub runner : Runner
   pub here : slice_get runners caller ≡ Some runner
   pub more : runner.done < (sight.seats caller).begun
@@ -120,12 +120,12 @@ pub record HasLetter (callers : List Caller) (letter place : ℕ) : Type 0 where
   pub is : caller.letter ≡ letter
 
 -- one call more of a caller was answered, or its list is done
-abbrev pub IsAnswered : List JobCall → ℕ → List Runner → List Runner → Type 0
-IsAnswered calls caller old new = (done_at old caller + 1 ≤ done_at new caller) ⊎ (length (calls_of calls caller) ≤ done_at new caller)
+abbrev pub AnswersOneMore : List JobCall → ℕ → List Runner → List Runner → Type 0
+AnswersOneMore calls caller old new = (done_at old caller + 1 ≤ done_at new caller) ⊎ (length (calls_of calls caller) ≤ done_at new caller)
 
 -- so many calls of a caller were answered, or one more, or its list is done
-abbrev pub IsReached : List JobCall → ℕ → ℕ → List Runner → List Runner → Type 0
-IsReached calls caller count old new = (count ≤ done_at new caller) ⊎ IsAnswered calls caller old new
+abbrev pub ReachesCount : List JobCall → ℕ → ℕ → List Runner → List Runner → Type 0
+ReachesCount calls caller count old new = (count ≤ done_at new caller) ⊎ AnswersOneMore calls caller old new
 
 -- of each caller at least the calls among the first so many of the job were answered
 abbrev pub AreRunOut : List JobCall → List Runner → ℕ → Type 0

@@ -20,8 +20,8 @@ abbrev pub HasTablesFor : ℕ → PagesState → Type 0
 HasTablesFor callers pages = IfSome pages.tables (λ (given : TableCopy). length given.sessions ≡ callers)
 
 -- what a call comes to that is performed over gathered pages, at that moment
-abbrev pub Performs : PagesState → ℕ → Call → ℕ → Performed → Type 0
-Performs pages caller call moment result = IfSome pages.tables (λ (given : TableCopy).
+abbrev pub PerformsOver : PagesState → ℕ → Call → ℕ → Performed → Type 0
+PerformsOver pages caller call moment result = IfSome pages.tables (λ (given : TableCopy).
     IsRight (shown pages.blocks) given.sessions given.opens caller call moment result × FitsCall given.sessions caller call result)
 
 -- ---- a call that goes on over more pages
@@ -36,10 +36,10 @@ abbrev pub LacksAll : PagesState → Need → Type 0
 LacksAll pages need = AllByRecursion (λ (block : ℕ). has pages block ≡ false) (blocks_of need)
 
 -- what was gathered is there, with the same bytes, and so are the tables
-pub record Grows (before now : PagesState) : Type 0 where
+pub record PagesGrow (before now : PagesState) : Type 0 where
   pub blocks : ViewGrows (shown before.blocks) (shown now.blocks)
   pub tables : IfSome before.tables (λ (given : TableCopy). now.tables ≡ Some given)
 
 -- what a call has after it asked for blocks: nothing, or more, if it had none of them
-abbrev pub GrowsBy : Need → PagesState → PagesState → Type 0
-GrowsBy need before now = (now ≡ no_pages) ⊎ (LacksAll before need → Grows before now)
+abbrev pub PagesGrowBy : Need → PagesState → PagesState → Type 0
+PagesGrowBy need before now = (now ≡ no_pages) ⊎ (LacksAll before need → PagesGrow before now)

@@ -20,8 +20,8 @@ use Rattle.mb_core_spec.specs.declared.steps.Step.TheVariants as step
 
 -- ---- each caller's calls
 
-abbrev pub HasOwnCalls : List JobCall → List Entry → Type 0
-HasOwnCalls calls history = (caller : ℕ) → calls_in history caller ≡ calls_of calls caller
+abbrev pub OwnCallsAre : List JobCall → List Entry → Type 0
+OwnCallsAre calls history = (caller : ℕ) → calls_in history caller ≡ calls_of calls caller
 
 -- ---- moments
 
@@ -159,9 +159,9 @@ PlannedAreTaken = (plan : List Rule) (history : List Entry) (records : List Faul
 
 -- ---- a disk that failed, a volume that failed
 
-abbrev pub HasFailed : ℕ → List FaultRecord → Reply → Type 0
-HasFailed limit records (reply.Failed faults) = (faults ≡ limit + 1) × (length records ≡ limit + 1)
-HasFailed limit records _ = Unit {0}
+abbrev pub AnswersFailed : ℕ → List FaultRecord → Reply → Type 0
+AnswersFailed limit records (reply.Failed faults) = (faults ≡ limit + 1) × (length records ≡ limit + 1)
+AnswersFailed limit records _ = Unit {0}
 
 abbrev pub devices : List Entry → ℕ
 devices history = count_by (λ (entry : Entry). cond (is_plain entry.reply) false (is_device entry.reply)) history where

@@ -43,13 +43,13 @@ is_other (step.Sealed count) = false
 is_other _ = true
 
 -- the trace goes on by such steps alone
-pub record Marks (before now : List Step) : Type 0 where
+pub record MarksTrail (before now : List Step) : Type 0 where
   pub steps : List Step
   pub whole : now ≡ before ++ steps
   pub others : AllByRecursion (λ (one : Step). is_other one ≡ true) steps
 
 -- the trace goes on
-pub record Continues (before now : List Step) : Type 0 where
+pub record TrailGoesOn (before now : List Step) : Type 0 where
   pub steps : List Step
   pub whole : now ≡ before ++ steps
 

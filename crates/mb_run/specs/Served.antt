@@ -15,10 +15,10 @@ use Rattle.mb_core_spec.specs.Copies.{PagesState, no_pages}
 use Rattle.mb_run.specs.Pages.{HasTablesFor, has}
 pub use Rattle.mb_run.specs.Recovering.{counted}
 use Rattle.mb_run.specs.Recovering.{crossing_of, next_of}
-use Rattle.mb_run.specs.Sights.{Sight, Seat, HasTicket, IsOld, IsOrderly, IsWaiting, one_if, recovers, undue_in}
-use Rattle.mb_run.specs.Events.{Strikes}
+use Rattle.mb_run.specs.Sights.{Sight, Seat, SeatHasTicket, IsOld, IsOrderlyInSight, IsWaiting, one_if, recovers, undue_in}
+use Rattle.mb_run.specs.Events.{StrikesCall}
 use Rattle.mb_run.specs.Firsts.{KeepsFirsts}
-use Rattle.mb_run.specs.Seals.{Continues}
+use Rattle.mb_run.specs.Seals.{TrailGoesOn}
 use Rattle.mb_jobs.specs.declared.jobs.JobCall.{JobCall}
 use Rattle.mb_run.specs.declared.runner.At.{At}
 use Rattle.mb_run.specs.declared.runner.At.TheVariants as at
@@ -30,13 +30,13 @@ use Rattle.mb_run.specs.declared.progress.Turn.{Turn}
 use Rattle.mb_run.specs.declared.progress.Turn.TheVariants as turn
 
 -- a call may begin, or is the one in flight
-abbrev pub MayBegin : ℕ → Seat → Call → Option Flight → Type 0
-MayBegin most seat call None = seat.begun < most
-MayBegin most seat call (Some flight) = flight.call ≡ call
+abbrev pub MayBeginOrGoOn : ℕ → Seat → Call → Option Flight → Type 0
+MayBeginOrGoOn most seat call None = seat.begun < most
+MayBeginOrGoOn most seat call (Some flight) = flight.call ≡ call
 
-pub record MayEnter (sight : Sight) (caller : ℕ) (call : Call) : Type 0 where
+pub record MayEnterInSight (sight : Sight) (caller : ℕ) (call : Call) : Type 0 where
   pub within : caller < sight.config.callers
-  pub may : MayBegin sight.config.most (sight.seats caller) call (sight.seats caller).flight
+  pub may : MayBeginOrGoOn sight.config.most (sight.seats caller) call (sight.seats caller).flight
 
 -- ---- one caller
 
@@ -59,8 +59,8 @@ pub record IsHeld (sight : Sight) (caller : ℕ) (pages : PagesState) (ticket : 
 
 abbrev pub IsStanding : Sight → ℕ → PagesState → At → Type 0
 IsStanding sight caller pages at.Outside = IsOld sight.incarnation (sight.seats caller).flight
-IsStanding sight caller pages (at.Inside ticket) = HasTicket false (sight.seats caller) ticket × IsHeld sight caller pages ticket
-IsStanding sight caller pages (at.Logged ticket) = HasTicket true (sight.seats caller) ticket × (ticket.caller ≡ caller) × (ticket.incarnation ≤ sight.incarnation)
+IsStanding sight caller pages (at.Inside ticket) = SeatHasTicket false (sight.seats caller) ticket × IsHeld sight caller pages ticket
+IsStanding sight caller pages (at.Logged ticket) = SeatHasTicket true (sight.seats caller) ticket × (ticket.caller ≡ caller) × (ticket.incarnation ≤ sight.incarnation)
 
 -- the call in flight has its entry exactly where that is kept
 abbrev pub IsMarked : Bool → Option Flight → Type 0
@@ -71,7 +71,7 @@ IsMarked answered (Some flight) = flight.answered ≡ answered
 abbrev pub IsCounted : Crossings → FaultRecord → Type 0
 IsCounted crossings fault = fault.caller ≡ crossings.caller → (fault.ordinal < crossings.ordinal) ⊎ ((fault.ordinal ≡ crossings.ordinal) × (fault.nth ≤ slice_index crossings.counts (place_of fault.kind)))
 
-pub record IsServed (list : List Call) (sight : Sight) (caller : ℕ) (runner : Runner) : Type 0 where
+pub record IsServedSoFar (list : List Call) (sight : Sight) (caller : ℕ) (runner : Runner) : Type 0 where
   pub caller_is : runner.crossings.caller ≡ caller
   pub ordinal : runner.crossings.ordinal ≡ runner.done + 1
   pub calls : IsAtBy list (calls_in sight.history caller) runner.done (sight.seats caller).begun (sight.seats caller).flight
@@ -122,7 +122,7 @@ IsBalanced sight = sight.begun ≡ length sight.history + sight.open_calls
 
 -- ---- what the steps of one caller leave of the others
 
-pub record Acts (caller : ℕ) (old new : Sight) : Type 0 where
+pub record ActsAlone (caller : ℕ) (old new : Sight) : Type 0 where
   pub config : new.config ≡ old.config
   pub seats : (other : ℕ) → other ≢ caller → new.seats other ≡ old.seats other
   pub own : (other : ℕ) → other ≢ caller → own new.history other ≡ own old.history other
@@ -139,7 +139,7 @@ pub record Acts (caller : ℕ) (old new : Sight) : Type 0 where
   pub calm : length new.records ≡ length old.records → new.incarnation ≡ old.incarnation
   pub floor : (new.floor ≡ None) ⊎ (new.floor ≡ Some caller) ⊎ (new.floor ≡ old.floor)
   pub firsts : KeepsFirsts old new
-  pub trail : Continues old.trail new.trail
+  pub trail : TrailGoesOn old.trail new.trail
 
 -- ---- how much is left of a call
 
@@ -162,14 +162,14 @@ work sight caller runner =
     (sight.config.limit + 1 - length sight.records) * 33554432 + one_if (recovers sight.stage) * 16777216 + rank sight.incarnation (sight.stales caller) runner.pages runner.at + busy caller sight.floor
 
 -- what a step comes to
-abbrev pub Goes : ℕ → Sight → Sight → Runner → Runner → Went → Type 0
-Goes caller old new before now went.Ended = (now.done ≡ before.done + 1) × ((new.seats caller).flight ≡ None)
-Goes caller old new before now went.On = (now.done ≡ before.done) × (work new caller now < work old caller before)
-Goes caller old new before now went.Back = (now.done ≡ before.done) × (work new caller now < work old caller before)
-Goes caller old new before now went.Shut = (now.done ≡ before.done) × (work new caller now ≤ work old caller before) × (recovers new.stage ≡ true) × (now.at ≡ at.Outside) × IsWaiting (new.seats caller)
-Goes caller old new before now (went.Busy holder) =
+abbrev pub StepComesTo : ℕ → Sight → Sight → Runner → Runner → Went → Type 0
+StepComesTo caller old new before now went.Ended = (now.done ≡ before.done + 1) × ((new.seats caller).flight ≡ None)
+StepComesTo caller old new before now went.On = (now.done ≡ before.done) × (work new caller now < work old caller before)
+StepComesTo caller old new before now went.Back = (now.done ≡ before.done) × (work new caller now < work old caller before)
+StepComesTo caller old new before now went.Shut = (now.done ≡ before.done) × (work new caller now ≤ work old caller before) × (recovers new.stage ≡ true) × (now.at ≡ at.Outside) × IsWaiting (new.seats caller)
+StepComesTo caller old new before now (went.Busy holder) =
     (now.done ≡ before.done) × (work new caller now ≤ work old caller before) × (new ≡ old) × (new.floor ≡ Some holder.caller) × (holder.caller ≢ caller) × (new.stage ≡ stage.Running)
-Goes caller old new before now went.NoMemory = (now.done ≡ before.done) × (now.answered ≡ false)
+StepComesTo caller old new before now went.NoMemory = (now.done ≡ before.done) × (now.answered ≡ false)
 
 -- ---- a step of a caller
 
@@ -183,36 +183,36 @@ abbrev pub advanced : Runner → Runner
 advanced runner = record { crossings = record { caller = runner.crossings.caller; ordinal = runner.crossings.ordinal + 1; counts = 0 ∷ 0 ∷ 0 ∷ 0 ∷ 0 ∷ 0 ∷ [] }; done = runner.done + 1; at = at.Outside; answered = false; asked = false; pages = no_pages }
 
 -- the six counts of a call, each of 32 bits
-pub record AreCounts (crossings : Crossings) : Type 0 where
+pub record AreSixCounts (crossings : Crossings) : Type 0 where
   pub six : length crossings.counts ≡ 6
   pub fits : (kind : Kind) → slice_index crossings.counts (place_of kind) ≤ 4294967295
 
 -- a caller whose next call is that one, and what holds of the core and of all records
 pub record MayStep (calls : List JobCall) (test : Option (Crossing → Bool)) (sight : Sight) (runner : Runner) (call : Call) : Type 0 where
-  pub served : IsServed (calls_of calls runner.crossings.caller) sight runner.crossings.caller runner
+  pub served : IsServedSoFar (calls_of calls runner.crossings.caller) sight runner.crossings.caller runner
   pub sound : AreSound test sight.records
   pub within : runner.crossings.caller < sight.config.callers
   pub most : length (calls_of calls runner.crossings.caller) ≤ sight.config.most
   pub small : length (calls_of calls runner.crossings.caller) < 4294967290
   pub next : slice_get (calls_of calls runner.crossings.caller) runner.done ≡ Some call
-  pub counts : AreCounts runner.crossings
-  pub right : IsOrderly sight
+  pub counts : AreSixCounts runner.crossings
+  pub right : IsOrderlyInSight sight
 
 -- the core and the caller later on
 pub record Nears (calls : List JobCall) (test : Option (Crossing → Bool)) (old new : Sight) (before now : Runner) : Type 0 where
   pub same : now.crossings.caller ≡ before.crossings.caller
-  pub counts : AreCounts now.crossings
-  pub acts : Acts before.crossings.caller old new
+  pub counts : AreSixCounts now.crossings
+  pub acts : ActsAlone before.crossings.caller old new
   pub lined : InLine before.crossings.caller old → InLine before.crossings.caller new
   pub balanced : IsBalanced old → IsBalanced new
-  pub served : IsServed (calls_of calls before.crossings.caller) new before.crossings.caller now
+  pub served : IsServedSoFar (calls_of calls before.crossings.caller) new before.crossings.caller now
   pub sound : AreSound test new.records
   -- no checkpoint was taken but where one was due
   pub seals : undue_in new ≤ undue_in old
 
 pub record Did (calls : List JobCall) (test : Option (Crossing → Bool)) (old new : Sight) (before now : Runner) (went : Went) : Type 0 where
   pub nears : Nears calls test old new before now
-  pub goes : Goes before.crossings.caller old new before now went
+  pub goes : StepComesTo before.crossings.caller old new before now went
 
 -- the hook was asked at the next crossing of a kind, for a call with a ticket
 abbrev pub Asks : Option (Crossing → Bool) → Sight → Sight → Runner → Runner → Ticket → Kind → Bool → Type 0
@@ -221,10 +221,10 @@ Asks test old new before now ticket kind false =
 Asks test old new before now ticket kind true =
     (now ≡ backed (record before { crossings = counted before.crossings kind }))
     × IfSome test (λ fires. fires (next_of kind before.crossings) ≡ true)
-    × (((ticket.incarnation ≢ old.incarnation) × (new ≡ old)) ⊎ ((ticket.incarnation ≡ old.incarnation) × Strikes old new ticket kind (next_nth before.crossings.counts kind)))
+    × (((ticket.incarnation ≢ old.incarnation) × (new ≡ old)) ⊎ ((ticket.incarnation ≡ old.incarnation) × StrikesCall old new ticket kind (next_nth before.crossings.counts kind)))
 
 -- the hook is asked right after a call entered
-pub record GoesIn (calls : List JobCall) (test : Option (Crossing → Bool)) (old new : Sight) (before now : Runner) (came : Went) : Type 0 where
+pub record AsksAtEntry (calls : List JobCall) (test : Option (Crossing → Bool)) (old new : Sight) (before now : Runner) (came : Went) : Type 0 where
   pub nears : Nears calls test old new before now
   pub done : now.done ≡ before.done
   pub goes : (came ≡ went.On) ⊎ (came ≡ went.Back)
@@ -258,23 +258,23 @@ pub record Rolled (calls : List JobCall) (test : Option (Crossing → Bool)) (ol
   pub goes : RolledBy before.crossings.caller old new before now came
 
 -- the crossings of the call that ran a step are kept
-abbrev pub Keeps : Runner → Option Crossings → Runner → Type 0
-Keeps before None now = ⊥
-Keeps before (Some crossings) now = now ≡ with_crossings before crossings
+abbrev pub CrossingsAreKept : Runner → Option Crossings → Runner → Type 0
+CrossingsAreKept before None now = ⊥
+CrossingsAreKept before (Some crossings) now = now ≡ with_crossings before crossings
 
 -- ---- all callers
 
-pub record Underway (calls : List JobCall) (test : Option (Crossing → Bool)) (sight : Sight) (runners : List Runner) : Type 0 where
-  pub served : (caller : ℕ) (runner : Runner) → slice_get runners caller ≡ Some runner → IsServed (calls_of calls caller) sight caller runner
-  pub counts : (caller : ℕ) (runner : Runner) → slice_get runners caller ≡ Some runner → AreCounts runner.crossings
+pub record AllUnderWay (calls : List JobCall) (test : Option (Crossing → Bool)) (sight : Sight) (runners : List Runner) : Type 0 where
+  pub served : (caller : ℕ) (runner : Runner) → slice_get runners caller ≡ Some runner → IsServedSoFar (calls_of calls caller) sight caller runner
+  pub counts : (caller : ℕ) (runner : Runner) → slice_get runners caller ≡ Some runner → AreSixCounts runner.crossings
   pub sound : AreSound test sight.records
   pub callers : length runners ≡ sight.config.callers
   pub most : (caller : ℕ) → length (calls_of calls caller) ≤ sight.config.most
   pub small : (caller : ℕ) → length (calls_of calls caller) < 4294967290
-  pub right : IsOrderly sight
+  pub right : IsOrderlyInSight sight
 
-abbrev pub IsMine : ℕ → Option ℕ → Type 0
-IsMine caller floor = (floor ≡ None) ⊎ (floor ≡ Some caller)
+abbrev pub IsFloorOf : ℕ → Option ℕ → Type 0
+IsFloorOf caller floor = (floor ≡ None) ⊎ (floor ≡ Some caller)
 
 -- a call was run to its end
 pub record HasRun (calls : List JobCall) (test : Option (Crossing → Bool)) (old new : Sight) (before now : Runner) : Type 0 where
@@ -293,7 +293,7 @@ RecoveredBy caller old new before now went.Ended = (now.done ≡ before.done + 1
 RecoveredBy caller old new before now went.NoMemory = (now.done ≡ before.done) × (now.answered ≡ false)
 RecoveredBy caller old new before now _ = ⊥
 
-pub record Recovers (calls : List JobCall) (test : Option (Crossing → Bool)) (old new : Sight) (before now : Runner) (came : Went) : Type 0 where
+pub record RunsRecovery (calls : List JobCall) (test : Option (Crossing → Bool)) (old new : Sight) (before now : Runner) (came : Went) : Type 0 where
   pub nears : Nears calls test old new before now
   pub goes : RecoveredBy before.crossings.caller old new before now came
 
@@ -311,14 +311,14 @@ pub record Turns (calls : List JobCall) (test : Option (Crossing → Bool)) (old
 -- ---- list order: after so many calls of the job
 
 -- the entries are these calls of these callers, in the same order
-pub record IsListed (history : List Entry) (calls : List JobCall) : Type 0 where
+pub record EntriesAreCalls (history : List Entry) (calls : List JobCall) : Type 0 where
   pub callers : map (λ (entry : Entry). entry.caller) history ≡ map (λ (made : JobCall). made.caller) calls
   pub made : map (λ (entry : Entry). entry.call) history ≡ map (λ (made : JobCall). made.call) calls
 
 pub record IsAfter (calls : List JobCall) (test : Option (Crossing → Bool)) (sight : Sight) (runners : List Runner) (index : ℕ) : Type 0 where
-  pub underway : Underway calls test sight runners
+  pub underway : AllUnderWay calls test sight runners
   pub free : (caller : ℕ) → caller < sight.config.callers → (sight.seats caller).flight ≡ None
-  pub listed : IsListed sight.history (take index calls)
+  pub listed : EntriesAreCalls sight.history (take index calls)
   pub lined : IsLined sight.config.start sight.history sight.begun
   pub done : (caller : ℕ) (runner : Runner) → slice_get runners caller ≡ Some runner → runner.done ≡ length (calls_of (take index calls) caller)
 
@@ -326,7 +326,7 @@ pub record IsAfter (calls : List JobCall) (test : Option (Crossing → Bool)) (s
 pub record IsRunInOrder (calls : List JobCall) (callers : ℕ) (test : Option (Crossing → Bool)) (sight : Sight) : Type 0 where
   pub free : (caller : ℕ) → caller < callers → (sight.seats caller).flight ≡ None
   pub own_calls : (caller : ℕ) → caller < callers → calls_in sight.history caller ≡ calls_of calls caller
-  pub listed : IsListed sight.history calls
+  pub listed : EntriesAreCalls sight.history calls
   pub moments : moments_in sight.history ≡ range_with_len (sight.config.start + 1) (length sight.history)
   pub begun : sight.begun ≡ length sight.history
   pub sound : AreSound test sight.records
@@ -336,7 +336,7 @@ pub record IsRunInOrder (calls : List JobCall) (callers : ℕ) (test : Option (C
 -- the call is in flight without an entry exactly where it was begun
 pub record MayGiveUp (sight : Sight) (runner : Runner) : Type 0 where
   pub list : List Call
-  pub served : IsServed list sight runner.crossings.caller runner
+  pub served : IsServedSoFar list sight runner.crossings.caller runner
   pub within : runner.crossings.caller < sight.config.callers
   pub lacks : runner.answered ≡ false
-  pub right : IsOrderly sight
+  pub right : IsOrderlyInSight sight

@@ -1,18 +1,18 @@
 -- What the end of a run leaves.
 use Rattle.std.specs.Prelude.{ℕ, ◌<◌, ◌≡◌, false, length, Option, None, Some}
-use Rattle.mb_run.specs.Seals.{AreAskedFor, Continues}
+use Rattle.mb_run.specs.Seals.{AreAskedFor, TrailGoesOn}
 use Rattle.mb_core_spec.specs.declared.stages.Stage.TheVariants as stage
 use Rattle.mb_run.specs.Sights.{Sight, recovers, undue_in}
 use Rattle.mb_run.specs.declared.settles.SettleEnd.{SettleEnd}
 use Rattle.mb_run.specs.declared.settles.SettleEnd.TheVariants as end
 
 -- history and fault records stay, and so does what each caller began and has in flight; the trace goes on
-pub record Keeps (old new : Sight) : Type 0 where
+pub record KeepsHistory (old new : Sight) : Type 0 where
   pub history : new.history ≡ old.history
   pub records : new.records ≡ old.records
   pub config : new.config ≡ old.config
   pub seats : (caller : ℕ) → new.seats caller ≡ old.seats caller
-  pub trail : Continues old.trail new.trail
+  pub trail : TrailGoesOn old.trail new.trail
 
 -- one step of a recovery that nobody's call runs: the end, or fewer steps are left
 abbrev pub Calms : Sight → Sight → Option SettleEnd → Type 0
@@ -27,7 +27,7 @@ pub record IsFlushed (old new : Sight) (came : SettleEnd) : Type 0 where
 
 -- no recovery is in progress, and no page waits; a running volume has a checkpoint of all entries
 pub record IsSettled (old new : Sight) : Type 0 where
-  pub keeps : Keeps old new
+  pub keeps : KeepsHistory old new
   pub over : recovers new.stage ≡ false
   pub current : new.current ≡ 0
   pub sealed : new.sealed ≡ 0

@@ -103,7 +103,7 @@ IsOld incarnation None = Unit {0}
 IsOld incarnation (Some flight) = IfSome flight.ticket (λ (t : Ticket). t.incarnation < incarnation)
 
 -- the call in flight has that ticket; it has its entry, or not
-pub record HasTicket (done : Bool) (seat : Seat) (ticket : Ticket) : Type 0 where
+pub record SeatHasTicket (done : Bool) (seat : Seat) (ticket : Ticket) : Type 0 where
   pub flight : Flight
   pub here : seat.flight ≡ Some flight
   pub mine : flight.ticket ≡ Some ticket
@@ -125,7 +125,7 @@ AreApart [] = Unit {0}
 AreApart (one ∷ numbers) = AllByRecursion (λ other. one ≢ other) numbers × AreApart numbers
 
 -- what of a core's order the driver uses
-pub record IsOrderly (sight : Sight) : Type 0 where
+pub record IsOrderlyInSight (sight : Sight) : Type 0 where
   -- the entries have moments that were given out, no two alike
   pub above : AllByRecursion (λ (entry : Entry). sight.config.start < entry.moment) sight.history
   pub below : AllByRecursion (λ (entry : Entry). entry.moment ≤ sight.config.start + sight.begun) sight.history

@@ -37,10 +37,10 @@ is_logged (at.Logged ticket) = 1
 is_logged _ = 0
 
 -- its ticket is of the present incarnation, and what it gathered is as it is seen
-abbrev pub IsPresent : Sight → ℕ → At → Type 0
-IsPresent sight caller at.Outside = Unit {0}
-IsPresent sight caller (at.Inside ticket) = (ticket.incarnation ≡ sight.incarnation) × (sight.fresh caller ≡ true)
-IsPresent sight caller (at.Logged ticket) = ticket.incarnation ≡ sight.incarnation
+abbrev pub IsUpToDate : Sight → ℕ → At → Type 0
+IsUpToDate sight caller at.Outside = Unit {0}
+IsUpToDate sight caller (at.Inside ticket) = (ticket.incarnation ≡ sight.incarnation) × (sight.fresh caller ≡ true)
+IsUpToDate sight caller (at.Logged ticket) = ticket.incarnation ≡ sight.incarnation
 
 -- the fault points of a call that has its entry, before it leaves
 pub record HasFinished (crossings : Crossings) : Type 0 where
@@ -55,11 +55,11 @@ pub record HasEntered (crossings : Crossings) (pages : PagesState) : Type 0 wher
   pub leaves : count_of crossings Leave ≡ 0
 
 -- which fault points it passed: a call that is outside with its entry was struck where it left
-abbrev pub HasPassed : Crossings → PagesState → Bool → At → Type 0
-HasPassed crossings pages false at.Outside = count_of crossings Leave ≡ 0
-HasPassed crossings pages true at.Outside = HasFinished crossings × (count_of crossings Leave ≢ 0)
-HasPassed crossings pages answered (at.Inside ticket) = HasEntered crossings pages
-HasPassed crossings pages answered (at.Logged ticket) = HasFinished crossings × (count_of crossings Leave ≡ 0)
+abbrev pub HasPassedPoints : Crossings → PagesState → Bool → At → Type 0
+HasPassedPoints crossings pages false at.Outside = count_of crossings Leave ≡ 0
+HasPassedPoints crossings pages true at.Outside = HasFinished crossings × (count_of crossings Leave ≢ 0)
+HasPassedPoints crossings pages answered (at.Inside ticket) = HasEntered crossings pages
+HasPassedPoints crossings pages answered (at.Logged ticket) = HasFinished crossings × (count_of crossings Leave ≡ 0)
 
 -- a call that was struck inside: the file system is or was started anew by it, or the volume failed
 abbrev pub IsRestarted : Crossings → Stage → Bool → Type 0
@@ -79,12 +79,12 @@ pub record AreTallied (records : List FaultRecord) : Type 0 where
 -- a call under way, which stands there or is on its way there
 pub record IsTallied (test : Option (Crossing → Bool)) (sight : Sight) (runner : Runner) (stand : At) : Type 0 where
   pub asked : runner.asked ≡ false
-  pub present : IsPresent sight runner.crossings.caller stand
+  pub present : IsUpToDate sight runner.crossings.caller stand
   pub records : AreTallied sight.records
   pub enters : count_of runner.crossings Enter ≤ length sight.records + is_in stand
   pub finishes : count_of runner.crossings Finish ≤ length sight.records + is_logged stand
   pub remounts : count_of runner.crossings Remount + one_if (awaits_remount sight.stage) ≤ length sight.records
-  pub passed : HasPassed runner.crossings runner.pages runner.answered stand
+  pub passed : HasPassedPoints runner.crossings runner.pages runner.answered stand
   pub taken : (kind : Kind) → count_of runner.crossings kind ≢ 0 → IsTakenFirst test sight.records runner.crossings.caller runner.crossings.ordinal kind
   pub restarted : is_struck_inside sight.records runner.crossings.caller runner.crossings.ordinal ≡ true → IsRestarted runner.crossings sight.stage runner.answered
   pub entries : AllByRecursion (IsPast test sight.records runner.crossings runner.answered) sight.history

@@ -2,13 +2,13 @@ ghost use Rattle.std.specs.Prelude.{[], ◌+◌, ◌≡◌, ◌≢◌, ◌<◌, 
 ghost use Rattle.std.specs.List.{AllByRecursion};
 ghost use Rattle.mb_jobs.specs.declared.jobs.JobCall.{JobCall};
 ghost use Rattle.mb_run.specs.Calm.{StartsCalm};
-ghost use Rattle.mb_run.specs.Drives.{AreNew, Ends, EntersCalmly, IsBegun, IsComplete, IsDriven, IsRunnable};
+ghost use Rattle.mb_run.specs.Drives.{AreNew, EndsDrive, EntersCalmly, IsBegun, IsComplete, IsDriven, IsRunnable};
 ghost use Rattle.mb_run.specs.Indexes.{IsIndexOf};
 ghost use Rattle.mb_run.specs.Letters.{AreLetters, HasBegunBy, letters_of};
-ghost use Rattle.mb_run.specs.Orders.{AreRunOut, IsReached, IsWhole, asked_in};
+ghost use Rattle.mb_run.specs.Orders.{AreRunOut, ReachesCount, IsWhole, asked_in};
 ghost use Rattle.mb_run.specs.Runs.{FirstsRise};
-ghost use Rattle.mb_run.specs.Served.{IsBalanced, Underway};
-ghost use Rattle.mb_run.specs.Sights.{IsOrderly, undue_in};
+ghost use Rattle.mb_run.specs.Served.{IsBalanced, AllUnderWay};
+ghost use Rattle.mb_run.specs.Sights.{IsOrderlyInSight, undue_in};
 ghost use Rattle.mb_run.specs.declared.drives.DriveEnd.TheVariants as end;
 
 use crate::call_index::CallIndex;
@@ -50,14 +50,15 @@ fn run_up_to<C: EventCore, H: Hook>(
     count: u32,
 ) -> bool
     requires index { IsIndexOf calls.now index.now.places }
-    requires underway { Underway calls.now (H.test hook.old) (C.sight core.old) runners.old }
+    requires underway { AllUnderWay calls.now (H.test hook.old) (C.sight core.old) runners.old }
     requires within { caller < length runners.old }
-    ensures whole { result ≡ true → IsWhole calls.now (H.test hook.old) 0 (C.sight core.old) (C.sight core.new) runners.old runners.new }
-    ensures reached { result ≡ true → IsReached calls.now caller count runners.old runners.new }
+    ensures whole { result ≡ true
+        → IsWhole calls.now (H.test hook.old) 0 (C.sight core.old) (C.sight core.new) runners.old runners.new }
+    ensures reached { result ≡ true → ReachesCount calls.now caller count runners.old runners.new }
     ensures length { length runners.new ≡ length runners.old }
     ensures test { H.test hook.new ≡ H.test hook.old }
     ensures origin { C.origin core.new ≡ C.origin core.old }
-    ensures right { IsOrderly (C.sight core.new) }
+    ensures right { IsOrderlyInSight (C.sight core.new) }
 {
     if runners[caller as usize].done >= count {
         return true;
@@ -75,16 +76,17 @@ fn run_out<C: EventCore, H: Hook>(
     index: &CallIndex,
 ) -> bool
     requires index { IsIndexOf calls.now index.now.places }
-    requires underway { Underway calls.now (H.test hook.old) (C.sight core.old) runners.old }
+    requires underway { AllUnderWay calls.now (H.test hook.old) (C.sight core.old) runners.old }
     requires callers { AllByRecursion (λ (made : JobCall). made.caller < length runners.old) calls.now }
     requires few { length runners.old ≤ 8 }
     requires small { length calls.now < 4294967290 }
-    ensures whole { result ≡ true → IsWhole calls.now (H.test hook.old) 0 (C.sight core.old) (C.sight core.new) runners.old runners.new }
+    ensures whole { result ≡ true
+        → IsWhole calls.now (H.test hook.old) 0 (C.sight core.old) (C.sight core.new) runners.old runners.new }
     ensures out { result ≡ true → AreRunOut calls.now runners.new (length calls.now) }
     ensures length { length runners.new ≡ length runners.old }
     ensures test { H.test hook.new ≡ H.test hook.old }
     ensures origin { C.origin core.new ≡ C.origin core.old }
-    ensures right { IsOrderly (C.sight core.new) }
+    ensures right { IsOrderlyInSight (C.sight core.new) }
 {
     let mut passed = [0u32; 8];
     for made in calls {
@@ -108,19 +110,22 @@ fn run_by_order<C: EventCore, H: Hook>(
     callers: &[Caller],
     order: &[u8],
 ) -> bool
-    requires underway { Underway calls.now (H.test hook.old) (C.sight core.old) runners.old }
+    requires underway { AllUnderWay calls.now (H.test hook.old) (C.sight core.old) runners.old }
     requires named { AllByRecursion (λ (made : JobCall). made.caller < length runners.old) calls.now }
     requires callers { length callers.now ≡ length runners.old }
     requires few { length runners.old ≤ 8 }
     requires small { length calls.now < 4294967290 }
     requires balanced { IsBalanced (C.sight core.old) }
     ensures complete { result ≡ true → IsComplete calls.now (length runners.old) (H.test hook.old) (C.sight core.new) }
-    ensures firsts { result ≡ true → AreLetters (letters_of callers.now) → HasBegunBy (letters_of callers.now) calls.now [] (C.sight core.old) → FirstsRise order.now (letters_of callers.now) (C.sight core.new).history }
-    ensures enters { result ≡ true → StartsCalm callers.now calls.now (C.sight core.old) runners.old → EntersCalmly order.now callers.now calls.now (H.test hook.old) (C.sight core.new) }
+    ensures firsts { result ≡ true → AreLetters (letters_of callers.now)
+        → HasBegunBy (letters_of callers.now) calls.now [] (C.sight core.old)
+        → FirstsRise order.now (letters_of callers.now) (C.sight core.new).history }
+    ensures enters { result ≡ true → StartsCalm callers.now calls.now (C.sight core.old) runners.old
+        → EntersCalmly order.now callers.now calls.now (H.test hook.old) (C.sight core.new) }
     ensures config { result ≡ true → (C.sight core.new).config ≡ (C.sight core.old).config }
     ensures seals { result ≡ true → undue_in (C.sight core.new) ≤ undue_in (C.sight core.old) + asked_in order.now }
     ensures origin { C.origin core.new ≡ C.origin core.old }
-    ensures right { IsOrderly (C.sight core.new) }
+    ensures right { IsOrderlyInSight (C.sight core.new) }
 {
     let Ok(index) = CallIndex::new(alloc, calls) else {
         return false;
@@ -144,7 +149,7 @@ fn run_all<C: EventCore, H: Hook>(
     requires runners { AreNew runners.old (length job.now.callers) }
     ensures driven { result ≡ true → IsDriven job.now (H.test hook.old) (C.sight core.old) (C.sight core.new) }
     ensures origin { C.origin core.new ≡ C.origin core.old }
-    ensures right { IsOrderly (C.sight core.new) }
+    ensures right { IsOrderlyInSight (C.sight core.new) }
 {
     let calls = job.calls.as_slice();
     let callers = job.callers.as_slice();
@@ -158,7 +163,7 @@ fn run_all<C: EventCore, H: Hook>(
 }
 
 fn end_of(stage: Stage, done: bool) -> DriveEnd
-    ensures ends { Ends stage result }
+    ensures ends { EndsDrive stage result }
     ensures done { result ≢ end.NoMemory → done ≡ true }
 {
     if !done {
@@ -179,9 +184,9 @@ fn drive_core<C: EventCore, H: Hook>(
     requires runnable { IsRunnable job.now }
     requires begun { IsBegun job.now (C.sight core.old) }
     ensures driven { result ≢ end.NoMemory → IsDriven job.now (H.test hook.old) (C.sight core.old) (C.sight core.new) }
-    ensures ends { Ends (C.sight core.new).stage result }
+    ensures ends { EndsDrive (C.sight core.new).stage result }
     ensures origin { C.origin core.new ≡ C.origin core.old }
-    ensures right { IsOrderly (C.sight core.new) }
+    ensures right { IsOrderlyInSight (C.sight core.new) }
 {
     let mut all = [
         Runner::new(alloc, 0),
@@ -213,9 +218,9 @@ pub fn drive<C: EventCore, H: Hook>(alloc: Global, core: C, job: &Job, hook: &mu
     requires runnable { IsRunnable job.now }
     requires begun { IsBegun job.now (C.sight core) }
     ensures driven { result.end ≢ end.NoMemory → IsDriven job.now (H.test hook.old) (C.sight core) (C.sight result.core) }
-    ensures ends { Ends (C.sight result.core).stage result.end }
+    ensures ends { EndsDrive (C.sight result.core).stage result.end }
     ensures origin { C.origin result.core ≡ C.origin core }
-    ensures right { IsOrderly (C.sight result.core) }
+    ensures right { IsOrderlyInSight (C.sight result.core) }
 {
     let mut core = core;
     let end = drive_core(alloc, &mut core, job, hook);

@@ -5,8 +5,8 @@
 //! (`specs/CoreSight.antt`) is the sight of `mb_core_spec`'s `CoreState`. What the events make of a sight is in
 //! `specs/Events.antt` and `specs/Recovering.antt`.
 //!
-//! One step of a caller is `step`. Of what its caller did so far, of its ticket, pages and fault points `IsServed`
-//! (`specs/Served.antt`) keeps the account, and `Acts` says what the steps of one caller leave to the others; with both
+//! One step of a caller is `step`. Of what its caller did so far, of its ticket, pages and fault points `IsServedSoFar`
+//! (`specs/Served.antt`) keeps the account, and `ActsAlone` says what the steps of one caller leave to the others; with both
 //! every loop goes on and ends. Of a caller that acts alone, as in list order, `IsTallied` (`specs/Tallies.antt`) tells at
 //! which fault points its call was, and that the faults there have their records. How many steps a recovery takes is in
 //! `specs/Lengths.antt`: `recovers_soon` is the law, and `recover` makes such a row of steps. `drive` runs a job, in list order or by

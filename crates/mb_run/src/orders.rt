@@ -3,9 +3,9 @@ ghost use Rattle.mb_run.specs.Calm.{IsStill, KeepsCalmly, StartsCalm, StepsCalml
 ghost use Rattle.mb_run.specs.Drives.{EntersCalmly};
 ghost use Rattle.mb_run.specs.Indexes.{IsIndexOf};
 ghost use Rattle.mb_run.specs.Letters.{AreLetters, BeginsAlone, BeginsByLetter, HasBegun, HasBegunBy, LacksLetter, letters_of};
-ghost use Rattle.mb_run.specs.Orders.{asked_in, Ahead, HasLetter, IsEarlyAt, IsOpenAt, IsQuiet, IsSealedNow, IsWhole, MayLook, Moved};
-ghost use Rattle.mb_run.specs.Served.{Did, MayStep, Underway};
-ghost use Rattle.mb_run.specs.Sights.{IsOrderly, recovers, undue_in};
+ghost use Rattle.mb_run.specs.Orders.{asked_in, ComesNext, HasLetter, IsEarlyAt, HasCallOpen, IsQuiet, IsSealedNow, IsWhole, MayLook, Moved};
+ghost use Rattle.mb_run.specs.Served.{Did, MayStep, AllUnderWay};
+ghost use Rattle.mb_run.specs.Sights.{IsOrderlyInSight, recovers, undue_in};
 ghost use Rattle.mb_run.specs.declared.progress.Went.TheVariants as went;
 
 use crate::answers::Stepped;
@@ -26,7 +26,7 @@ use std::alloc::Global;
 /// What the next fault point of a caller's call is.
 fn look<C: EventCore>(alloc: Global, core: &C, runner: &Runner, call: &Call) -> Next
     requires { MayLook (C.sight core.now) runner.now }
-    ensures { Ahead runner.now result }
+    ensures { ComesNext runner.now result }
 {
     match runner.at {
         At::Outside => Next::Early(Early::Enter),
@@ -57,10 +57,11 @@ fn step_once<C: EventCore, H: Hook>(
     requires { MayStep calls.now (H.test hook.old) (C.sight core.old) runner.old call.now }
     ensures moved { Moved calls.now (H.test hook.old) (C.sight core.old) (C.sight core.new) runner.old runner.new result }
     ensures begins { result ≡ true → ((C.sight core.new).seats runner.old.crossings.caller).begun ≢ 0 }
-    ensures calm { result ≡ true → StepsCalmly false (H.test hook.old) (C.sight core.old) (C.sight core.new) runner.old runner.new }
+    ensures calm { result ≡ true
+        → StepsCalmly false (H.test hook.old) (C.sight core.old) (C.sight core.new) runner.old runner.new }
     ensures test { H.test hook.new ≡ H.test hook.old }
     ensures origin { C.origin core.new ≡ C.origin core.old }
-    ensures right { IsOrderly (C.sight core.new) }
+    ensures right { IsOrderlyInSight (C.sight core.new) }
 {
     let mut way = None;
     match step(alloc, core, hook, runner, calls, call, &mut way) {
@@ -90,10 +91,11 @@ fn step_early<C: EventCore, H: Hook>(
     requires ahead { IsEarlyAt runner.old early }
     ensures did { Did calls.now (H.test hook.old) (C.sight core.old) (C.sight core.new) runner.old runner.new result }
     ensures begins { result ≢ went.NoMemory → ((C.sight core.new).seats runner.old.crossings.caller).begun ≢ 0 }
-    ensures calm { result ≢ went.NoMemory → StepsCalmly true (H.test hook.old) (C.sight core.old) (C.sight core.new) runner.old runner.new }
+    ensures calm { result ≢ went.NoMemory
+        → StepsCalmly true (H.test hook.old) (C.sight core.old) (C.sight core.new) runner.old runner.new }
     ensures test { H.test hook.new ≡ H.test hook.old }
     ensures origin { C.origin core.new ≡ C.origin core.old }
-    ensures right { IsOrderly (C.sight core.new) }
+    ensures right { IsOrderlyInSight (C.sight core.new) }
 {
     match early {
         Early::Enter => enter(alloc, core, hook, runner, calls, call),
@@ -117,10 +119,11 @@ fn step_to_finish<C: EventCore, H: Hook>(
     requires { MayStep calls.now (H.test hook.old) (C.sight core.old) runner.old call.now }
     ensures moved { Moved calls.now (H.test hook.old) (C.sight core.old) (C.sight core.new) runner.old runner.new result }
     ensures begins { result ≡ true → ((C.sight core.new).seats runner.old.crossings.caller).begun ≢ 0 }
-    ensures calm { result ≡ true → StepsCalmly true (H.test hook.old) (C.sight core.old) (C.sight core.new) runner.old runner.new }
+    ensures calm { result ≡ true
+        → StepsCalmly true (H.test hook.old) (C.sight core.old) (C.sight core.new) runner.old runner.new }
     ensures test { H.test hook.new ≡ H.test hook.old }
     ensures origin { C.origin core.new ≡ C.origin core.old }
-    ensures right { IsOrderly (C.sight core.new) }
+    ensures right { IsOrderlyInSight (C.sight core.new) }
 {
     'steps: loop {
         let early = match look(alloc, core, runner, call) {
@@ -157,16 +160,18 @@ fn step_letter<C: EventCore, H: Hook>(
     capital: bool,
 ) -> bool
     requires index { IsIndexOf calls.now index.now.places }
-    requires underway { Underway calls.now (H.test hook.old) (C.sight core.old) runners.old }
+    requires underway { AllUnderWay calls.now (H.test hook.old) (C.sight core.old) runners.old }
     requires within { caller < length runners.old }
-    ensures whole { result ≡ true → IsWhole calls.now (H.test hook.old) 0 (C.sight core.old) (C.sight core.new) runners.old runners.new }
+    ensures whole { result ≡ true
+        → IsWhole calls.now (H.test hook.old) 0 (C.sight core.old) (C.sight core.new) runners.old runners.new }
     ensures begins { result ≡ true → HasBegun calls.now caller (C.sight core.new) }
     ensures alone { result ≡ true → BeginsAlone (Some caller) (C.sight core.old) (C.sight core.new) }
-    ensures calm { result ≡ true → TurnsCalmly calls.now (H.test hook.old) capital caller (C.sight core.old) (C.sight core.new) runners.old runners.new }
+    ensures calm { result ≡ true
+        → TurnsCalmly calls.now (H.test hook.old) capital caller (C.sight core.old) (C.sight core.new) runners.old runners.new }
     ensures length { length runners.new ≡ length runners.old }
     ensures test { H.test hook.new ≡ H.test hook.old }
     ensures origin { C.origin core.new ≡ C.origin core.old }
-    ensures right { IsOrderly (C.sight core.new) }
+    ensures right { IsOrderlyInSight (C.sight core.new) }
 {
     let place = runners[caller as usize].done;
     let Some(call) = find_call(calls, index, caller, place) else {
@@ -206,7 +211,7 @@ fn is_recovering(stage: Stage) -> bool
 fn first_waiting<C: EventCore>(core: &C, runners: &[Runner]) -> Option<u8>
     requires few { length runners.now ≤ 8 }
     requires callers { length runners.now ≤ (C.sight core.now).config.callers }
-    ensures { IfSome result (λ caller. IsOpenAt (C.sight core.now) runners.now caller) }
+    ensures { IfSome result (λ caller. HasCallOpen (C.sight core.now) runners.now caller) }
 {
     let mut caller: u8 = 0;
     for runner in runners {
@@ -222,12 +227,12 @@ fn first_waiting<C: EventCore>(core: &C, runners: &[Runner]) -> Option<u8>
 
 /// One step of a recovery that nobody's call runs: no fault injector is asked. False is want of memory.
 fn recover_alone<C: EventCore, H: Hook>(alloc: Global, core: &mut C, hook: &mut H) -> bool
-    requires right { IsOrderly (C.sight core.old) }
+    requires right { IsOrderlyInSight (C.sight core.old) }
     ensures quiet { IsQuiet (C.sight core.old) (C.sight core.new) }
     ensures seals { undue_in (C.sight core.new) ≤ undue_in (C.sight core.old) }
     ensures test { H.test hook.new ≡ H.test hook.old }
     ensures origin { C.origin core.new ≡ C.origin core.old }
-    ensures right { IsOrderly (C.sight core.new) }
+    ensures right { IsOrderlyInSight (C.sight core.new) }
 {
     let mut by = None;
     match core.recover_step(alloc, &mut by, hook) {
@@ -247,14 +252,16 @@ fn recover_once<C: EventCore, H: Hook>(
     index: &CallIndex,
 ) -> bool
     requires index { IsIndexOf calls.now index.now.places }
-    requires underway { Underway calls.now (H.test hook.old) (C.sight core.old) runners.old }
-    ensures whole { result ≡ true → IsWhole calls.now (H.test hook.old) 0 (C.sight core.old) (C.sight core.new) runners.old runners.new }
+    requires underway { AllUnderWay calls.now (H.test hook.old) (C.sight core.old) runners.old }
+    ensures whole { result ≡ true
+        → IsWhole calls.now (H.test hook.old) 0 (C.sight core.old) (C.sight core.new) runners.old runners.new }
     ensures alone { result ≡ true → BeginsAlone None (C.sight core.old) (C.sight core.new) }
-    ensures idle { recovers (C.sight core.old).stage ≡ false → (C.sight core.new ≡ C.sight core.old) × (runners.new ≡ runners.old) }
+    ensures idle { recovers (C.sight core.old).stage ≡ false → (C.sight core.new ≡ C.sight core.old)
+        × (runners.new ≡ runners.old) }
     ensures length { length runners.new ≡ length runners.old }
     ensures test { H.test hook.new ≡ H.test hook.old }
     ensures origin { C.origin core.new ≡ C.origin core.old }
-    ensures right { IsOrderly (C.sight core.new) }
+    ensures right { IsOrderlyInSight (C.sight core.new) }
 {
     if !is_recovering(core.stage()) {
         return true;
@@ -284,12 +291,12 @@ fn recover_once<C: EventCore, H: Hook>(
 
 /// Takes a checkpoint where the volume runs. False is want of memory.
 pub(crate) fn seal_now<C: EventCore>(core: &mut C) -> bool
-    requires right { IsOrderly (C.sight core.old) }
+    requires right { IsOrderlyInSight (C.sight core.old) }
     ensures quiet { IsQuiet (C.sight core.old) (C.sight core.new) }
     ensures sealed { result ≡ true → IsSealedNow (C.sight core.old) (C.sight core.new) }
     ensures later { C.faults core.old ≤ C.faults core.new }
     ensures origin { C.origin core.new ≡ C.origin core.old }
-    ensures right { IsOrderly (C.sight core.new) }
+    ensures right { IsOrderlyInSight (C.sight core.new) }
 {
     match core.stage() {
         Stage::Running => match core.seal() {
@@ -302,12 +309,12 @@ pub(crate) fn seal_now<C: EventCore>(core: &mut C) -> bool
 
 /// Writes one checkpointed page back, where the disk does not fail.
 fn flush<C: EventCore>(core: &mut C)
-    requires right { IsOrderly (C.sight core.old) }
+    requires right { IsOrderlyInSight (C.sight core.old) }
     ensures quiet { IsQuiet (C.sight core.old) (C.sight core.new) }
     ensures seals { undue_in (C.sight core.new) ≤ undue_in (C.sight core.old) }
     ensures still { IsStill (C.sight core.old) (C.sight core.new) }
     ensures origin { C.origin core.new ≡ C.origin core.old }
-    ensures right { IsOrderly (C.sight core.new) }
+    ensures right { IsOrderlyInSight (C.sight core.new) }
 {
     let _ = core.flush_one();
 }
@@ -340,15 +347,18 @@ fn step_character<C: EventCore, H: Hook>(
     character: u8,
 ) -> bool
     requires index { IsIndexOf calls.now index.now.places }
-    requires underway { Underway calls.now (H.test hook.old) (C.sight core.old) runners.old }
+    requires underway { AllUnderWay calls.now (H.test hook.old) (C.sight core.old) runners.old }
     requires callers { length callers.now ≡ length runners.old }
-    ensures whole { result ≡ true → IsWhole calls.now (H.test hook.old) (asked_in (character ∷ [])) (C.sight core.old) (C.sight core.new) runners.old runners.new }
-    ensures letters { result ≡ true → AreLetters (letters_of callers.now) → BeginsByLetter (letters_of callers.now) calls.now character (C.sight core.old) (C.sight core.new) }
-    ensures calm { result ≡ true → KeepsCalmly callers.now calls.now (H.test hook.old) character (C.sight core.old) (C.sight core.new) runners.old runners.new }
+    ensures whole { result ≡ true
+        → IsWhole calls.now (H.test hook.old) (asked_in (character ∷ [])) (C.sight core.old) (C.sight core.new) runners.old runners.new }
+    ensures letters { result ≡ true → AreLetters (letters_of callers.now)
+        → BeginsByLetter (letters_of callers.now) calls.now character (C.sight core.old) (C.sight core.new) }
+    ensures calm { result ≡ true
+        → KeepsCalmly callers.now calls.now (H.test hook.old) character (C.sight core.old) (C.sight core.new) runners.old runners.new }
     ensures length { length runners.new ≡ length runners.old }
     ensures test { H.test hook.new ≡ H.test hook.old }
     ensures origin { C.origin core.new ≡ C.origin core.old }
-    ensures right { IsOrderly (C.sight core.new) }
+    ensures right { IsOrderlyInSight (C.sight core.new) }
 {
     if character == b' ' {
         return true;
@@ -383,15 +393,19 @@ pub fn run_order<C: EventCore, H: Hook>(
     order: &[u8],
 ) -> bool
     requires index { IsIndexOf calls.now index.now.places }
-    requires underway { Underway calls.now (H.test hook.old) (C.sight core.old) runners.old }
+    requires underway { AllUnderWay calls.now (H.test hook.old) (C.sight core.old) runners.old }
     requires callers { length callers.now ≡ length runners.old }
-    ensures whole { result ≡ true → IsWhole calls.now (H.test hook.old) (asked_in order.now) (C.sight core.old) (C.sight core.new) runners.old runners.new }
-    ensures firsts { result ≡ true → AreLetters (letters_of callers.now) → HasBegunBy (letters_of callers.now) calls.now [] (C.sight core.old) → HasBegunBy (letters_of callers.now) calls.now order.now (C.sight core.new) }
-    ensures enters { result ≡ true → StartsCalm callers.now calls.now (C.sight core.old) runners.old → EntersCalmly order.now callers.now calls.now (H.test hook.old) (C.sight core.new) }
+    ensures whole { result ≡ true
+        → IsWhole calls.now (H.test hook.old) (asked_in order.now) (C.sight core.old) (C.sight core.new) runners.old runners.new }
+    ensures firsts { result ≡ true → AreLetters (letters_of callers.now)
+        → HasBegunBy (letters_of callers.now) calls.now [] (C.sight core.old)
+        → HasBegunBy (letters_of callers.now) calls.now order.now (C.sight core.new) }
+    ensures enters { result ≡ true → StartsCalm callers.now calls.now (C.sight core.old) runners.old
+        → EntersCalmly order.now callers.now calls.now (H.test hook.old) (C.sight core.new) }
     ensures length { length runners.new ≡ length runners.old }
     ensures test { H.test hook.new ≡ H.test hook.old }
     ensures origin { C.origin core.new ≡ C.origin core.old }
-    ensures right { IsOrderly (C.sight core.new) }
+    ensures right { IsOrderlyInSight (C.sight core.new) }
 {
     for character in order {
         if !step_character(

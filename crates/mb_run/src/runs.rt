@@ -3,11 +3,11 @@ ghost use Rattle.std.specs.List.{AllByRecursion};
 ghost use Rattle.mb_edge.specs.declared.crossings.Crossings.{Crossings};
 ghost use Rattle.mb_run.specs.Indexes.{IsIndexOf};
 ghost use Rattle.mb_run.specs.Lengths.{GoesSince, WentForward};
-ghost use Rattle.mb_run.specs.Orders.{IsAnswered, IsWhole};
+ghost use Rattle.mb_run.specs.Orders.{AnswersOneMore, IsWhole};
 ghost use Rattle.mb_run.specs.Recovering.{GoOn};
 ghost use Rattle.mb_run.specs.Runs.{HasTakenTested};
-ghost use Rattle.mb_run.specs.Served.{IsAfter, IsMine, IsResting, IsRunInOrder, Keeps, MayGiveUp, MayStep, Ran, Recovers, Rolled, Turns, Underway, calls_of};
-ghost use Rattle.mb_run.specs.Sights.{IsOrderly, IsWaiting, recovers, undue_in};
+ghost use Rattle.mb_run.specs.Served.{IsAfter, IsFloorOf, IsResting, IsRunInOrder, CrossingsAreKept, MayGiveUp, MayStep, Ran, RunsRecovery, Rolled, Turns, AllUnderWay, calls_of};
+ghost use Rattle.mb_run.specs.Sights.{IsOrderlyInSight, IsWaiting, recovers, undue_in};
 ghost use Rattle.mb_run.specs.Tallies.{AreRested, IsBetween, IsTallied, Tallies};
 ghost use Rattle.mb_run.specs.declared.runner.At.TheVariants as at;
 ghost use Rattle.mb_jobs.specs.declared.jobs.JobCall.{JobCall};
@@ -26,7 +26,7 @@ use std::alloc::Global;
 /// The crossings that a step of a recovery passed.
 fn keep(runner: &mut Runner, by: &Option<Crossings>)
     requires { GoOn (Some runner.old.crossings) by.now }
-    ensures { Keeps runner.old by.now runner.new }
+    ensures { CrossingsAreKept runner.old by.now runner.new }
 {
     match by {
         Some(crossings) => runner.crossings = *crossings,
@@ -52,7 +52,7 @@ pub(crate) fn roll<C: EventCore, H: Hook>(
     ensures tallied { Tallies (H.test hook.old) (C.sight core.old) (C.sight core.new) runner.old runner.new result }
     ensures test { H.test hook.new ≡ H.test hook.old }
     ensures origin { C.origin core.new ≡ C.origin core.old }
-    ensures right { IsOrderly (C.sight core.new) }
+    ensures right { IsOrderlyInSight (C.sight core.new) }
 {
     let mut by = Some(runner.crossings);
     match core.recover_step(alloc, &mut by, hook) {
@@ -101,7 +101,7 @@ pub(crate) fn roll<C: EventCore, H: Hook>(
 pub(crate) fn give_up<C: EventCore>(core: &mut C, runner: &Runner)
     requires { MayGiveUp (C.sight core.old) runner.now }
     ensures origin { C.origin core.new ≡ C.origin core.old }
-    ensures right { IsOrderly (C.sight core.new) }
+    ensures right { IsOrderlyInSight (C.sight core.new) }
 {
     let caller = runner.crossings.caller;
     if core.begun(caller) > runner.done {
@@ -123,12 +123,12 @@ pub fn recover<C: EventCore, H: Hook>(
     requires outside { runner.old.at ≡ at.Outside }
     requires waits { IsWaiting ((C.sight core.old).seats runner.old.crossings.caller) }
     requires recovered { recovers (C.sight core.old).stage ≡ true }
-    ensures recovers { Recovers calls.now (H.test hook.old) (C.sight core.old) (C.sight core.new) runner.old runner.new result }
+    ensures recovers { RunsRecovery calls.now (H.test hook.old) (C.sight core.old) (C.sight core.new) runner.old runner.new result }
     ensures forward { GoesSince (C.sight core.old) (C.sight core.new) }
     ensures tallied { Tallies (H.test hook.old) (C.sight core.old) (C.sight core.new) runner.old runner.new result }
     ensures test { H.test hook.new ≡ H.test hook.old }
     ensures origin { C.origin core.new ≡ C.origin core.old }
-    ensures right { IsOrderly (C.sight core.new) }
+    ensures right { IsOrderlyInSight (C.sight core.new) }
 {
     'steps: loop {
         match roll(alloc, core, hook, runner, calls, call) {
@@ -152,12 +152,13 @@ pub fn run_holder<C: EventCore, H: Hook>(
     call: &Call,
 ) -> bool
     requires may { MayStep calls.now (H.test hook.old) (C.sight core.old) runner.old call.now }
-    requires mine { IsMine runner.old.crossings.caller (C.sight core.old).floor }
+    requires mine { IsFloorOf runner.old.crossings.caller (C.sight core.old).floor }
     ensures ran { Ran calls.now (H.test hook.old) (C.sight core.old) (C.sight core.new) runner.old runner.new result }
-    ensures tallied { result ≡ true → IsTallied (H.test hook.old) (C.sight core.old) runner.old runner.old.at → IsBetween (H.test hook.old) (C.sight core.new) runner.new }
+    ensures tallied { result ≡ true → IsTallied (H.test hook.old) (C.sight core.old) runner.old runner.old.at
+        → IsBetween (H.test hook.old) (C.sight core.new) runner.new }
     ensures test { H.test hook.new ≡ H.test hook.old }
     ensures origin { C.origin core.new ≡ C.origin core.old }
-    ensures right { IsOrderly (C.sight core.new) }
+    ensures right { IsOrderlyInSight (C.sight core.new) }
 {
     let mut way = None;
     'turns: loop {
@@ -198,7 +199,7 @@ pub fn turn<C: EventCore, H: Hook>(
     ensures turns { Turns calls.now (H.test hook.old) (C.sight core.old) (C.sight core.new) runner.old runner.new result }
     ensures test { H.test hook.new ≡ H.test hook.old }
     ensures origin { C.origin core.new ≡ C.origin core.old }
-    ensures right { IsOrderly (C.sight core.new) }
+    ensures right { IsOrderlyInSight (C.sight core.new) }
 {
     let mut way = None;
     match step(alloc, core, hook, runner, calls, call, &mut way) {
@@ -229,14 +230,15 @@ pub fn run_call<C: EventCore, H: Hook>(
     caller: u8,
 ) -> bool
     requires index { IsIndexOf calls.now index.now.places }
-    requires underway { Underway calls.now (H.test hook.old) (C.sight core.old) runners.old }
+    requires underway { AllUnderWay calls.now (H.test hook.old) (C.sight core.old) runners.old }
     requires within { caller < length runners.old }
-    ensures whole { result ≡ true → IsWhole calls.now (H.test hook.old) 0 (C.sight core.old) (C.sight core.new) runners.old runners.new }
-    ensures answered { result ≡ true → IsAnswered calls.now caller runners.old runners.new }
+    ensures whole { result ≡ true
+        → IsWhole calls.now (H.test hook.old) 0 (C.sight core.old) (C.sight core.new) runners.old runners.new }
+    ensures answered { result ≡ true → AnswersOneMore calls.now caller runners.old runners.new }
     ensures length { length runners.new ≡ length runners.old }
     ensures test { H.test hook.new ≡ H.test hook.old }
     ensures origin { C.origin core.new ≡ C.origin core.old }
-    ensures right { IsOrderly (C.sight core.new) }
+    ensures right { IsOrderlyInSight (C.sight core.new) }
 {
     'turns: loop {
         let place = runners[caller as usize].done;
@@ -288,12 +290,13 @@ pub fn run_in_order<C: EventCore, H: Hook>(
     requires begins { IsAfter calls.now (H.test hook.old) (C.sight core.old) runners.old 0 }
     requires callers { AllByRecursion (λ (made : JobCall). made.caller < length runners.old) calls.now }
     ensures done { result ≡ true → IsRunInOrder calls.now (length runners.old) (H.test hook.old) (C.sight core.new) }
-    ensures taken { result ≡ true → AreRested (H.test hook.old) (C.sight core.old) runners.old → HasTakenTested (H.test hook.old) (C.sight core.new).history (C.sight core.new).records }
+    ensures taken { result ≡ true → AreRested (H.test hook.old) (C.sight core.old) runners.old
+        → HasTakenTested (H.test hook.old) (C.sight core.new).history (C.sight core.new).records }
     ensures config { result ≡ true → (C.sight core.new).config ≡ (C.sight core.old).config }
     ensures seals { result ≡ true → undue_in (C.sight core.new) ≤ undue_in (C.sight core.old) }
     ensures test { H.test hook.new ≡ H.test hook.old }
     ensures origin { C.origin core.new ≡ C.origin core.old }
-    ensures right { IsOrderly (C.sight core.new) }
+    ensures right { IsOrderlyInSight (C.sight core.new) }
 {
     for made in calls {
         if !run_holder(

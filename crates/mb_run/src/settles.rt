@@ -2,8 +2,8 @@ ghost use Rattle.std.specs.Prelude.{◌≡◌, ◌≢◌, ◌≤◌, ◌⊎◌, 
 ghost use Rattle.mb_core_spec.specs.declared.stages.Stage.TheVariants as stage;
 ghost use Rattle.mb_edge.specs.Causes.{Rose};
 ghost use Rattle.mb_run.specs.Lengths.{CalmsForward, GoesForward};
-ghost use Rattle.mb_run.specs.Settling.{Calms, IsFlushed, IsSettled, Keeps, SealsAtEnd};
-ghost use Rattle.mb_run.specs.Sights.{IsOrderly, recovers, undue_in};
+ghost use Rattle.mb_run.specs.Settling.{Calms, IsFlushed, IsSettled, KeepsHistory, SealsAtEnd};
+ghost use Rattle.mb_run.specs.Sights.{IsOrderlyInSight, recovers, undue_in};
 ghost use Rattle.mb_run.specs.declared.settles.SettleEnd.TheVariants as end;
 ghost use Rattle.std.specs.Prelude.{Some};
 
@@ -33,15 +33,15 @@ pub struct Settled<C: EventCore> {
 
 /// One step of a recovery, without a fault injector; `None` where more may come.
 fn calm_step<C: EventCore>(alloc: Global, core: &mut C) -> Option<SettleEnd>
-    requires right { IsOrderly (C.sight core.old) }
-    ensures keeps { Keeps (C.sight core.old) (C.sight core.new) }
+    requires right { IsOrderlyInSight (C.sight core.old) }
+    ensures keeps { KeepsHistory (C.sight core.old) (C.sight core.new) }
     ensures calms { Calms (C.sight core.old) (C.sight core.new) result }
     ensures forward { CalmsForward (C.sight core.old) (C.sight core.new) result }
     ensures seals { undue_in (C.sight core.new) ≤ undue_in (C.sight core.old) }
     ensures device { result ≡ Some end.Device → Rose (C.faults core.old) (C.faults core.new) }
     ensures later { C.faults core.old ≤ C.faults core.new }
     ensures origin { C.origin core.new ≡ C.origin core.old }
-    ensures right { IsOrderly (C.sight core.new) }
+    ensures right { IsOrderlyInSight (C.sight core.new) }
 {
     let mut hook = Calm;
     let mut by = None;
@@ -62,15 +62,15 @@ fn calm_step<C: EventCore>(alloc: Global, core: &mut C) -> Option<SettleEnd>
 
 /// The steps of a recovery that is in progress, without a fault injector.
 fn recover_calmly<C: EventCore>(alloc: Global, core: &mut C) -> SettleEnd
-    requires right { IsOrderly (C.sight core.old) }
-    ensures keeps { Keeps (C.sight core.old) (C.sight core.new) }
+    requires right { IsOrderlyInSight (C.sight core.old) }
+    ensures keeps { KeepsHistory (C.sight core.old) (C.sight core.new) }
     ensures over { result ≡ end.Clean → recovers (C.sight core.new).stage ≡ false }
     ensures forward { ((C.sight core.new).stage ≡ stage.Failed) ⊎ GoesForward (C.sight core.old) (C.sight core.new) }
     ensures seals { undue_in (C.sight core.new) ≤ undue_in (C.sight core.old) }
     ensures device { result ≡ end.Device → Rose (C.faults core.old) (C.faults core.new) }
     ensures later { C.faults core.old ≤ C.faults core.new }
     ensures origin { C.origin core.new ≡ C.origin core.old }
-    ensures right { IsOrderly (C.sight core.new) }
+    ensures right { IsOrderlyInSight (C.sight core.new) }
 {
     'steps: loop {
         if let Some(end) = calm_step(alloc, core) {
@@ -81,12 +81,12 @@ fn recover_calmly<C: EventCore>(alloc: Global, core: &mut C) -> SettleEnd
 
 /// Writes the checkpointed pages back, one after another.
 fn flush_all<C: EventCore>(core: &mut C) -> SettleEnd
-    requires right { IsOrderly (C.sight core.old) }
+    requires right { IsOrderlyInSight (C.sight core.old) }
     ensures flushed { IsFlushed (C.sight core.old) (C.sight core.new) result }
     ensures device { result ≡ end.Device → Rose (C.faults core.old) (C.faults core.new) }
     ensures later { C.faults core.old ≤ C.faults core.new }
     ensures origin { C.origin core.new ≡ C.origin core.old }
-    ensures right { IsOrderly (C.sight core.new) }
+    ensures right { IsOrderlyInSight (C.sight core.new) }
 {
     'pages: loop {
         match core.flush_one() {
@@ -98,13 +98,13 @@ fn flush_all<C: EventCore>(core: &mut C) -> SettleEnd
 }
 
 fn settle_core<C: EventCore>(alloc: Global, core: &mut C) -> SettleEnd
-    requires right { IsOrderly (C.sight core.old) }
+    requires right { IsOrderlyInSight (C.sight core.old) }
     ensures settled { result ≡ end.Clean → IsSettled (C.sight core.old) (C.sight core.new) }
-    ensures keeps { Keeps (C.sight core.old) (C.sight core.new) }
+    ensures keeps { KeepsHistory (C.sight core.old) (C.sight core.new) }
     ensures seals { result ≢ end.NoMemory → SealsAtEnd (C.sight core.old) (C.sight core.new) }
     ensures device { result ≡ end.Device → Rose (C.faults core.old) (C.faults core.new) }
     ensures origin { C.origin core.new ≡ C.origin core.old }
-    ensures right { IsOrderly (C.sight core.new) }
+    ensures right { IsOrderlyInSight (C.sight core.new) }
 {
     match recover_calmly(alloc, core) {
         SettleEnd::Clean => {}
@@ -121,13 +121,13 @@ fn settle_core<C: EventCore>(alloc: Global, core: &mut C) -> SettleEnd
 /// checkpointed pages are written back. The first fault of the disk ends this. History and fault records stay, and that
 /// checkpoint is the only one that is taken where none is due.
 pub fn settle<C: EventCore>(alloc: Global, core: C) -> Settled<C>
-    requires right { IsOrderly (C.sight core) }
+    requires right { IsOrderlyInSight (C.sight core) }
     ensures settled { result.end ≡ end.Clean → IsSettled (C.sight core) (C.sight result.core) }
-    ensures keeps { Keeps (C.sight core) (C.sight result.core) }
+    ensures keeps { KeepsHistory (C.sight core) (C.sight result.core) }
     ensures seals { result.end ≢ end.NoMemory → SealsAtEnd (C.sight core) (C.sight result.core) }
     ensures device { result.end ≡ end.Device → Rose (C.faults core) (C.faults result.core) }
     ensures origin { C.origin result.core ≡ C.origin core }
-    ensures right { IsOrderly (C.sight result.core) }
+    ensures right { IsOrderlyInSight (C.sight result.core) }
 {
     let mut core = core;
     let end = settle_core(alloc, &mut core);

@@ -2,9 +2,9 @@ ghost use Rattle.std.specs.Prelude.{◌≡◌, ◌≢◌, ◌<◌, ◌≤◌, �
 ghost use Rattle.mb_calls.specs.declared.performing.Performed.TheVariants as performed;
 ghost use Rattle.mb_core_spec.specs.declared.stages.Stage.TheVariants as stage;
 ghost use Rattle.mb_run.specs.Calm.{HoldsNowhere, PassesBy, StepsCalmly};
-ghost use Rattle.mb_run.specs.Pages.{GrowsBy, IsUnderWay, LacksAll, Performs, has};
-ghost use Rattle.mb_run.specs.Served.{Asks, Did, GoesIn, MayStep};
-ghost use Rattle.mb_run.specs.Sights.{IsOrderly, IsTicketOf};
+ghost use Rattle.mb_run.specs.Pages.{PagesGrowBy, IsUnderWay, LacksAll, PerformsOver, has};
+ghost use Rattle.mb_run.specs.Served.{Asks, Did, AsksAtEntry, MayStep};
+ghost use Rattle.mb_run.specs.Sights.{IsOrderlyInSight, IsTicketOf};
 ghost use Rattle.mb_run.specs.Tallies.{IsEntering, IsFinishing, Tallies, TalliedBy};
 ghost use Rattle.mb_run.specs.declared.progress.Went.TheVariants as went;
 ghost use Rattle.mb_run.specs.declared.runner.At.TheVariants as at;
@@ -32,11 +32,11 @@ fn is_struck<C: EventCore, H: Hook>(
 ) -> bool
     requires mine { (ticket.now.caller ≡ runner.old.crossings.caller) × (ticket.now.ordinal ≡ runner.old.crossings.ordinal) }
     requires ticket { IsTicketOf ((C.sight core.old).seats ticket.now.caller) ticket.now }
-    requires right { IsOrderly (C.sight core.old) }
+    requires right { IsOrderlyInSight (C.sight core.old) }
     ensures asks { Asks (H.test hook.old) (C.sight core.old) (C.sight core.new) runner.old runner.new ticket.now kind result }
     ensures test { H.test hook.new ≡ H.test hook.old }
     ensures origin { C.origin core.new ≡ C.origin core.old }
-    ensures right { IsOrderly (C.sight core.new) }
+    ensures right { IsOrderlyInSight (C.sight core.new) }
 {
     let at = runner.crossings.next(kind);
     match hook.cross(&at) {
@@ -60,12 +60,13 @@ fn go_in<C: EventCore, H: Hook>(
 ) -> Went
     requires may { MayStep calls.now (H.test hook.old) (C.sight core.old) runner.old call.now }
     requires inside { runner.old.at ≡ at.Inside ticket.now }
-    ensures did { GoesIn calls.now (H.test hook.old) (C.sight core.old) (C.sight core.new) runner.old runner.new result }
-    ensures tallied { IsEntering (H.test hook.old) (C.sight core.old) runner.old ticket.now → TalliedBy (H.test hook.old) (C.sight core.new) runner.new result }
+    ensures did { AsksAtEntry calls.now (H.test hook.old) (C.sight core.old) (C.sight core.new) runner.old runner.new result }
+    ensures tallied { IsEntering (H.test hook.old) (C.sight core.old) runner.old ticket.now
+        → TalliedBy (H.test hook.old) (C.sight core.new) runner.new result }
     ensures calm { HoldsNowhere (H.test hook.old) → PassesBy (C.sight core.old) (C.sight core.new) runner.old runner.new }
     ensures test { H.test hook.new ≡ H.test hook.old }
     ensures origin { C.origin core.new ≡ C.origin core.old }
-    ensures right { IsOrderly (C.sight core.new) }
+    ensures right { IsOrderlyInSight (C.sight core.new) }
 {
     if is_struck(core, hook, runner, ticket, Kind::Enter) {
         return Went::Back;
@@ -86,11 +87,12 @@ pub(crate) fn enter<C: EventCore, H: Hook>(
     requires outside { runner.old.at ≡ at.Outside }
     ensures did { Did calls.now (H.test hook.old) (C.sight core.old) (C.sight core.new) runner.old runner.new result }
     ensures begins { result ≢ went.NoMemory → ((C.sight core.new).seats runner.old.crossings.caller).begun ≢ 0 }
-    ensures calm { result ≢ went.NoMemory → StepsCalmly false (H.test hook.old) (C.sight core.old) (C.sight core.new) runner.old runner.new }
+    ensures calm { result ≢ went.NoMemory
+        → StepsCalmly false (H.test hook.old) (C.sight core.old) (C.sight core.new) runner.old runner.new }
     ensures tallied { Tallies (H.test hook.old) (C.sight core.old) (C.sight core.new) runner.old runner.new result }
     ensures test { H.test hook.new ≡ H.test hook.old }
     ensures origin { C.origin core.new ≡ C.origin core.old }
-    ensures right { IsOrderly (C.sight core.new) }
+    ensures right { IsOrderlyInSight (C.sight core.new) }
 {
     match core.enter(alloc, runner.crossings.caller, call) {
         Enter::Done(_) => {
@@ -126,13 +128,14 @@ pub(crate) fn gather<C: EventCore, H: Hook>(
     requires first { need.first < 262144 }
     requires some { 1 ≤ need.count }
     requires count { need.count ≤ 32 }
-    ensures grown { GrowsBy need runner.old.pages runner.new.pages }
+    ensures grown { PagesGrowBy need runner.old.pages runner.new.pages }
     ensures did { Did calls.now (H.test hook.old) (C.sight core.old) (C.sight core.new) runner.old runner.new result }
-    ensures calm { result ≢ went.NoMemory → StepsCalmly true (H.test hook.old) (C.sight core.old) (C.sight core.new) runner.old runner.new }
+    ensures calm { result ≢ went.NoMemory
+        → StepsCalmly true (H.test hook.old) (C.sight core.old) (C.sight core.new) runner.old runner.new }
     ensures tallied { Tallies (H.test hook.old) (C.sight core.old) (C.sight core.new) runner.old runner.new result }
     ensures test { H.test hook.new ≡ H.test hook.old }
     ensures origin { C.origin core.new ≡ C.origin core.old }
-    ensures right { IsOrderly (C.sight core.new) }
+    ensures right { IsOrderlyInSight (C.sight core.new) }
 {
     if is_struck(core, hook, runner, ticket, Kind::Gather) {
         return Went::Back;
@@ -164,11 +167,12 @@ fn finish_now<C: EventCore, H: Hook>(
     requires may { MayStep calls.now (H.test hook.now) (C.sight core.old) runner.old call.now }
     requires inside { runner.old.at ≡ at.Inside ticket.now }
     requires there { has runner.old.pages 0 ≡ true }
-    requires ready { Performs runner.old.pages ticket.now.caller call.now ticket.now.moment (performed.Ready ready) }
+    requires ready { PerformsOver runner.old.pages ticket.now.caller call.now ticket.now.moment (performed.Ready ready) }
     ensures did { Did calls.now (H.test hook.now) (C.sight core.old) (C.sight core.new) runner.old runner.new result }
-    ensures tallied { IsFinishing (H.test hook.now) (C.sight core.old) runner.old ticket.now → TalliedBy (H.test hook.now) (C.sight core.new) runner.new result }
+    ensures tallied { IsFinishing (H.test hook.now) (C.sight core.old) runner.old ticket.now
+        → TalliedBy (H.test hook.now) (C.sight core.new) runner.new result }
     ensures origin { C.origin core.new ≡ C.origin core.old }
-    ensures right { IsOrderly (C.sight core.new) }
+    ensures right { IsOrderlyInSight (C.sight core.new) }
 {
     let finished = core.finish(alloc, ticket, &runner.pages, call, ready);
     match finished {
@@ -207,12 +211,12 @@ fn finish<C: EventCore, H: Hook>(
     requires may { MayStep calls.now (H.test hook.old) (C.sight core.old) runner.old call.now }
     requires inside { runner.old.at ≡ at.Inside ticket.now }
     requires there { has runner.old.pages 0 ≡ true }
-    requires ready { Performs runner.old.pages ticket.now.caller call.now ticket.now.moment (performed.Ready ready) }
+    requires ready { PerformsOver runner.old.pages ticket.now.caller call.now ticket.now.moment (performed.Ready ready) }
     ensures did { Did calls.now (H.test hook.old) (C.sight core.old) (C.sight core.new) runner.old runner.new result }
     ensures tallied { Tallies (H.test hook.old) (C.sight core.old) (C.sight core.new) runner.old runner.new result }
     ensures test { H.test hook.new ≡ H.test hook.old }
     ensures origin { C.origin core.new ≡ C.origin core.old }
-    ensures right { IsOrderly (C.sight core.new) }
+    ensures right { IsOrderlyInSight (C.sight core.new) }
 {
     if runner.asked {
         return finish_now(alloc, core, hook, runner, calls, call, ticket, ready);
@@ -237,7 +241,7 @@ fn leave<C: EventCore, H: Hook>(
     ensures tallied { Tallies (H.test hook.old) (C.sight core.old) (C.sight core.new) runner.old runner.new result }
     ensures test { H.test hook.new ≡ H.test hook.old }
     ensures origin { C.origin core.new ≡ C.origin core.old }
-    ensures right { IsOrderly (C.sight core.new) }
+    ensures right { IsOrderlyInSight (C.sight core.new) }
 {
     if is_struck(core, hook, runner, ticket, Kind::Leave) {
         return Went::Back;
@@ -318,11 +322,12 @@ fn gather_on<C: EventCore, H: Hook>(
     requires going { IsUnderWay runner.old.pages runner.old.crossings.caller call.now way.old }
     ensures going { IsUnderWay runner.new.pages runner.new.crossings.caller call.now way.new }
     ensures did { Did calls.now (H.test hook.old) (C.sight core.old) (C.sight core.new) runner.old runner.new result }
-    ensures calm { result ≢ went.NoMemory → StepsCalmly true (H.test hook.old) (C.sight core.old) (C.sight core.new) runner.old runner.new }
+    ensures calm { result ≢ went.NoMemory
+        → StepsCalmly true (H.test hook.old) (C.sight core.old) (C.sight core.new) runner.old runner.new }
     ensures tallied { Tallies (H.test hook.old) (C.sight core.old) (C.sight core.new) runner.old runner.new result }
     ensures test { H.test hook.new ≡ H.test hook.old }
     ensures origin { C.origin core.new ≡ C.origin core.old }
-    ensures right { IsOrderly (C.sight core.new) }
+    ensures right { IsOrderlyInSight (C.sight core.new) }
 {
     let need = runner.pages.foresee(call, need);
     keep_way(&runner.pages, &need, way);
@@ -344,11 +349,12 @@ fn go_on<C: EventCore, H: Hook>(
     requires going { IsUnderWay runner.old.pages runner.old.crossings.caller call.now way.old }
     ensures going { IsUnderWay runner.new.pages runner.new.crossings.caller call.now way.new }
     ensures did { Did calls.now (H.test hook.old) (C.sight core.old) (C.sight core.new) runner.old runner.new result }
-    ensures calm { result ≢ went.NoMemory → StepsCalmly false (H.test hook.old) (C.sight core.old) (C.sight core.new) runner.old runner.new }
+    ensures calm { result ≢ went.NoMemory
+        → StepsCalmly false (H.test hook.old) (C.sight core.old) (C.sight core.new) runner.old runner.new }
     ensures tallied { Tallies (H.test hook.old) (C.sight core.old) (C.sight core.new) runner.old runner.new result }
     ensures test { H.test hook.new ≡ H.test hook.old }
     ensures origin { C.origin core.new ≡ C.origin core.old }
-    ensures right { IsOrderly (C.sight core.new) }
+    ensures right { IsOrderlyInSight (C.sight core.new) }
 {
     if !has_tables(&runner.pages) {
         *way = None;
@@ -391,11 +397,12 @@ pub fn step<C: EventCore, H: Hook>(
     ensures going { IsUnderWay runner.new.pages runner.new.crossings.caller call.now way.new }
     ensures did { Did calls.now (H.test hook.old) (C.sight core.old) (C.sight core.new) runner.old runner.new result }
     ensures begins { result ≢ went.NoMemory → ((C.sight core.new).seats runner.old.crossings.caller).begun ≢ 0 }
-    ensures calm { result ≢ went.NoMemory → StepsCalmly false (H.test hook.old) (C.sight core.old) (C.sight core.new) runner.old runner.new }
+    ensures calm { result ≢ went.NoMemory
+        → StepsCalmly false (H.test hook.old) (C.sight core.old) (C.sight core.new) runner.old runner.new }
     ensures tallied { Tallies (H.test hook.old) (C.sight core.old) (C.sight core.new) runner.old runner.new result }
     ensures test { H.test hook.new ≡ H.test hook.old }
     ensures origin { C.origin core.new ≡ C.origin core.old }
-    ensures right { IsOrderly (C.sight core.new) }
+    ensures right { IsOrderlyInSight (C.sight core.new) }
 {
     match runner.at {
         At::Outside => {

@@ -37,7 +37,8 @@ fn count_files(opens: &mut Opens, seat: &Seat) -> Result<(), NoMemory>
 /// Counts the open file at a place, where there is one.
 fn count_file(opens: &mut Opens, seat: &Seat, place: u8) -> Result<(), NoMemory>
     requires { (ino : ℕ) → count_of opens.old ino ≤ 131071 }
-    ensures { OnOk result ((ino : ℕ) → count_of opens.new ino ≡ count_of opens.old ino + held_by ino (fin.get seat.now.files place)) }
+    ensures { OnOk result ((ino : ℕ)
+        → count_of opens.new ino ≡ count_of opens.old ino + held_by ino (fin.get seat.now.files place)) }
 {
     let Some(file) = seat.files.get(place) else {
         return Ok(());

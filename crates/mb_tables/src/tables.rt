@@ -1,8 +1,8 @@
-ghost use Rattle.std.specs.Prelude.{◌≡◌, ◌<◌, ◌^◌, ◌-◌, IfOk, OnOk, OnErr, length, map};
+ghost use Rattle.std.specs.Prelude.{◌≡◌, ◌<◌, ◌^◌, ◌-◌, IfOk, OnOk, OnErr, length};
 ghost use Rattle.std.specs.FinMap as fin;
 ghost use Rattle.mb_session.specs.OpenFiles.{TellsCounts};
-ghost use Rattle.mb_tree.specs.Opening.{first_seat};
 ghost use Rattle.mb_tree.specs.Sessions.{HasDescriptorInRange, counts};
+ghost use Rattle.mb_core_spec.specs.Begun.{first_tables};
 ghost use Rattle.mb_tables.specs.Follows.{counts_damaged, followed, tables_after};
 
 use crate::counting::{damage_counts, follow, follow_if, is_seen};
@@ -56,7 +56,7 @@ impl Tables {
     /// A session for each of the callers as it begins, saved as it is, no open file, and the stamp 0. The only error is
     /// want of memory.
     pub fn new(alloc: Global, callers: &Creds) -> Result<Tables, NoMemory>
-        ensures { IfOk result (λ tables. tables ≡ record { sessions = map first_seat callers.now; saved = map first_seat callers.now; opens = fin.empty; stamp = 0 }) }
+        ensures { IfOk result (λ tables. tables ≡ first_tables callers.now fin.empty) }
     {
         let sessions = Sessions::new(alloc, callers)?;
         let saved = sessions.copy(alloc)?;

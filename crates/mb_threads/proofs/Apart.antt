@@ -29,7 +29,7 @@ use Rattle.mb_volume.specs.Called.{AreOfFirst}
 use Rattle.mb_volume.specs.Parts.{Part, part_of}
 use Rattle.mb_volume.specs.Shared.{Shared}
 use Rattle.mb_threads.specs.Driven.{test_of}
-use Rattle.mb_threads.specs.Workers.{HasMade, IsReady}
+use Rattle.mb_threads.specs.Workers.{HasMadeCalls, IsReady}
 use Rattle.mb_threads.proofs.Covering.{all_and}
 use Rattle.mb_threads.proofs.Gathering.{apart_by, begun_all}
 use Rattle.mb_threads.proofs.Together.{holds_by, map_long, none_other}
@@ -58,7 +58,7 @@ records_callers (fault ∷ records) caller =
     ] refl
 
 module _ {F D : Type 0} (told : D → Option Image) (faults : D → ℕ) (core old : CoreState F D) (r : Right told faults core) (job : Job) (tests : List (Option (Crossing → Bool))) (seals : InTime (sight_of core)) (same : core.config ≡ old.config) (begun : IsBegun job (sight_of old))
-    (made : (caller : ℕ) → caller < length job.callers → HasMade (calls_of job.calls caller) (test_of tests caller) (part_of (sight_of core) caller)) where
+    (made : (caller : ℕ) → caller < length job.callers → HasMadeCalls (calls_of job.calls caller) (test_of tests caller) (part_of (sight_of core) caller)) where
   size : length core.config.callers ≡ length job.callers
   size = ap (λ (k : Config). length k.callers) same ∙ begun.callers
 

@@ -17,7 +17,7 @@ use Rattle.mb_run.specs.Served.{AreApart, AreSound, IsApart, calls_of}
 use Rattle.mb_run.specs.Sights.{Seat}
 use Rattle.mb_volume.specs.Called.{AreOfFirst, IsAnsweredWith}
 use Rattle.mb_volume.specs.Parts.{Part}
-use Rattle.mb_threads.specs.Workers.{HasMade}
+use Rattle.mb_threads.specs.Workers.{HasMadeCalls}
 
 -- ---- fault records of calls one after another
 
@@ -36,7 +36,7 @@ sound_both test begun before more first all one other = record {
 }
 
 -- one call more was answered
-pub made_more : (made : List Call) (call : Call) (test : Option (Crossing → Bool)) (caller : ℕ) (old now : Part) (answer : Reply) → HasMade made test old → IsAnsweredWith call test caller old now answer → HasMade (made ++ call ∷ []) test now
+pub made_more : (made : List Call) (call : Call) (test : Option (Crossing → Bool)) (caller : ℕ) (old now : Part) (answer : Reply) → HasMadeCalls made test old → IsAnsweredWith call test caller old now answer → HasMadeCalls (made ++ call ∷ []) test now
 made_more made call test caller old now answer was is =
     let begun : old.seat.begun ≡ length made = ap (λ (s : Seat). s.begun) was.seat in
     let long : length (made ++ call ∷ []) ≡ length made + 1 = length-append made (call ∷ []) in

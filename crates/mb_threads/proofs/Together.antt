@@ -23,14 +23,14 @@ use Rattle.mb_run.specs.CoreSight.{seat_of, sight_of}
 use Rattle.mb_run.specs.Drives.{HasEachMoment, IsBegun, IsDrivenApart}
 use Rattle.mb_run.specs.Recovering.{crossing_of}
 use Rattle.mb_run.specs.Served.{AreApart, AreSound, calls_in, calls_of}
-use Rattle.mb_run.specs.Sights.{IsOrderly, Limits, Seat, Sight, limits_of, undue_in}
+use Rattle.mb_run.specs.Sights.{IsOrderlyInSight, Limits, Seat, Sight, limits_of, undue_in}
 use Rattle.mb_turn.specs.Passes.{IsIdle, Known, dealt, known}
 use Rattle.mb_volume.proofs.Changing.{part_follows}
 use Rattle.mb_volume.specs.Parts.{Part, part_of, stand_in}
 use Rattle.mb_volume.specs.Passing.{IsLater, part_in, seen_by}
 use Rattle.mb_volume.specs.Shared.{Shared}
 use Rattle.mb_threads.specs.Driven.{test_of}
-use Rattle.mb_threads.specs.Workers.{HasMade, IsReady, IsWorked}
+use Rattle.mb_threads.specs.Workers.{HasMadeCalls, IsReady, IsWorked}
 use Rattle.mb_threads.proofs.Covering.{all_and, all_in, all_out, dealt_are, dealt_callers, one_with, taken, tests_are, zip_all, zip_map}
 use Rattle.mb_threads.proofs.Gathering.{apart_by, begun_all}
 
@@ -108,7 +108,7 @@ module _ {F D W : Type 0} (pass : W → Known (Shared F D)) (test : W → Option
       pub config : (pass d).value.core.core.config ≡ value.core.core.config
       pub first : (pass d).value.core.core.first ≡ value.core.core.first
       pub seals : undue_in (seen_by (pass d)) ≤ undue_in (sight_of value.core.core)
-      pub made : stopped d ≡ false → HasMade (calls_of job (pass d).caller) (test_of tests (pass d).caller) (part_in (pass d))
+      pub made : stopped d ≡ false → HasMadeCalls (calls_of job (pass d).caller) (test_of tests (pass d).caller) (part_in (pass d))
 
     all_done : AllByRecursion IsDone done
     all_done = zip_all (λ w d. IsWorked table (pass w) (pass d) (test w) (calls w) (stopped d)) (λ w. (pass w ≡ known table (pass w).caller value false) × (calls w ≡ job) × (test w ≡ test_of tests (pass w).caller)) IsDone ws done
@@ -116,8 +116,8 @@ module _ {F D W : Type 0} (pass : W → Known (Shared F D)) (test : W → Option
           config = is.later.config ∙ ap (λ (p : Known (Shared F D)). p.value.core.core.config) its.0;
           first = is.later.first ∙ ap (λ (p : Known (Shared F D)). p.value.core.core.first) its.0;
           seals = subst (λ (p : Known (Shared F D)). undue_in (seen_by (pass d)) ≤ undue_in (seen_by p)) its.0 is.later.seals;
-          made = λ going. subst (λ n. HasMade (calls_of job n) (test_of tests n) (part_in (pass d))) (sym is.later.caller)
-              (subst (λ (t : Option (Crossing → Bool)). HasMade (calls_of job (pass w).caller) t (part_in (pass d))) its.2 (subst (λ cs. HasMade (calls_of cs (pass w).caller) (test w) (part_in (pass d))) its.1 (is.made going)));
+          made = λ going. subst (λ n. HasMadeCalls (calls_of job n) (test_of tests n) (part_in (pass d))) (sym is.later.caller)
+              (subst (λ (t : Option (Crossing → Bool)). HasMadeCalls (calls_of job (pass w).caller) t (part_in (pass d))) its.2 (subst (λ cs. HasMadeCalls (calls_of cs (pass w).caller) (test w) (part_in (pass d))) its.1 (is.made going)));
         }) zip
         (all_and (λ w. pass w ≡ known table (pass w).caller value false) (λ w. (calls w ≡ job) × (test w ≡ test_of tests (pass w).caller)) (λ w. (pass w ≡ known table (pass w).caller value false) × (calls w ≡ job) × (test w ≡ test_of tests (pass w).caller)) ws (λ w one other. (one, other.0, other.1)) are_dealt
         (all_and (λ w. calls w ≡ job) (λ w. test w ≡ test_of tests (pass w).caller) (λ w. (calls w ≡ job) × (test w ≡ test_of tests (pass w).caller)) ws (λ w one other. (one, other)) all (tests_are (λ w. (pass w).caller) test count ws tests callers_are hooks)))
@@ -161,10 +161,10 @@ module _ {F D W : Type 0} (pass : W → Known (Shared F D)) (test : W → Option
             (all_in (λ (p : Known (Shared F D)). own (sight_of core).history p.caller ≡ (part_in p).entries) pass done owns) (all_in (λ (p : Known (Shared F D)). stand_in (sight_of core) p.caller ≡ stand_in (seen_by p) p.caller) pass done stands))
 
         -- each caller has made its calls
-        pub caller_made : (caller : ℕ) → caller < count → HasMade (calls_of job caller) (test_of tests caller) (part_of (sight_of core) caller)
+        pub caller_made : (caller : ℕ) → caller < count → HasMadeCalls (calls_of job caller) (test_of tests caller) (part_of (sight_of core) caller)
         caller_made caller low =
             let d = taken (λ d. (pass d).caller ≡ caller) Known_of done (one_with (λ d. (pass d).caller) 0 count caller done done_callers (omega arith) (omega (arith, low))) known_all in
             let is = d.2 in
             let there : (pass d.0).caller < (seen_by (pass d.0)).config.callers = subst (λ (k : Config). (pass d.0).caller < (limits_of k).callers) (sym is.done_is.config) (omega (arith, d.1, low, size)) in
             let same = part_follows (seen_by (pass d.0)) (sight_of core) (pass d.0).caller there (ap limits_of is.config) is.owned is.stood in
-            subst (λ n. HasMade (calls_of job n) (test_of tests n) (part_of (sight_of core) n)) d.1 (subst (HasMade (calls_of job (pass d.0).caller) (test_of tests (pass d.0).caller)) (sym same) (is.done_is.made is.going))
+            subst (λ n. HasMadeCalls (calls_of job n) (test_of tests n) (part_of (sight_of core) n)) d.1 (subst (HasMadeCalls (calls_of job (pass d.0).caller) (test_of tests (pass d.0).caller)) (sym same) (is.done_is.made is.going))

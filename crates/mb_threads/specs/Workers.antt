@@ -15,7 +15,7 @@ use Rattle.mb_volume.specs.Passing.{IsLater, part_in}
 use Rattle.mb_volume.specs.Shared.{Shared}
 
 -- these calls of the caller were answered, in this order, and none is in flight
-pub record HasMade (made : List Call) (test : Option (Crossing → Bool)) (part : Part) : Type 0 where
+pub record HasMadeCalls (made : List Call) (test : Option (Crossing → Bool)) (part : Part) : Type 0 where
   pub calls : map (λ (entry : Entry). entry.call) part.entries ≡ made
   pub seat : part.seat ≡ record { begun = length made; flight = None }
   pub first : AreOfFirst (length made) part.struck
@@ -26,9 +26,9 @@ module _ {F D : Type 0} where
   pub record IsReady (table : TableId) (pass : Known (Shared F D)) (test : Option (Crossing → Bool)) (calls : List JobCall) : Type 0 where
     pub idle : IsIdle table pass
     pub most : length (calls_of calls pass.caller) ≤ (part_in pass).config.most
-    pub made : HasMade [] test (part_in pass)
+    pub made : HasMadeCalls [] test (part_in pass)
 
   -- the same pass later on; unless it met want of memory its caller has made all its calls
   pub record IsWorked (table : TableId) (before after : Known (Shared F D)) (test : Option (Crossing → Bool)) (calls : List JobCall) (stopped : Bool) : Type 0 where
     pub later : IsLater table before after
-    pub made : stopped ≡ false → HasMade (calls_of calls before.caller) test (part_in after)
+    pub made : stopped ≡ false → HasMadeCalls (calls_of calls before.caller) test (part_in after)

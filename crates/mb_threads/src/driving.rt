@@ -2,8 +2,8 @@ ghost use Rattle.std.specs.Prelude.{◌≡◌, ◌≢◌, [], true, false, lengt
 ghost use Rattle.std.specs.List.{AllByRecursion};
 ghost use Rattle.mb_core_spec.specs.Right.{Right};
 ghost use Rattle.mb_run.specs.CoreSight.{sight_of};
-ghost use Rattle.mb_run.specs.Drives.{Ends, IsBegun, IsDrivenApart, IsRunnable};
-ghost use Rattle.mb_run.specs.Sights.{IsOrderly};
+ghost use Rattle.mb_run.specs.Drives.{EndsDrive, IsBegun, IsDrivenApart, IsRunnable};
+ghost use Rattle.mb_run.specs.Sights.{IsOrderlyInSight};
 ghost use Rattle.mb_run.specs.declared.drives.DriveEnd.TheVariants as end;
 ghost use Rattle.mb_threads.specs.Driven.{test_of};
 
@@ -40,11 +40,12 @@ pub fn drive_threads<
     requires runnable { IsRunnable job.now }
     requires begun { IsBegun job.now (sight_of core.core) }
     requires hooks { length hooks.items ≡ length job.now.callers }
-    ensures driven { result.end ≢ end.NoMemory → IsDrivenApart job.now 0 (test_of (map H.test hooks.items)) (sight_of core.core) (sight_of result.core.core) }
-    ensures ends { Ends (sight_of result.core.core).stage result.end }
+    ensures driven { result.end ≢ end.NoMemory
+        → IsDrivenApart job.now 0 (test_of (map H.test hooks.items)) (sight_of core.core) (sight_of result.core.core) }
+    ensures ends { EndsDrive (sight_of result.core.core).stage result.end }
     ensures first { result.core.core.first ≡ core.core.first }
     ensures config { result.core.core.config ≡ core.core.config }
-    ensures right { IsOrderly (sight_of result.core.core) }
+    ensures right { IsOrderlyInSight (sight_of result.core.core) }
 {
     in_order(&core.core);
     let (volume, passes) = match Volume::start(alloc, core) {
@@ -93,7 +94,7 @@ fn in_order<F: FileSys, D: Disk>(core: &Core<F, D>)
 /// How a run ended.
 fn end_of<F: FileSys, D: Disk>(core: &VolumeCore<F, D>, stopped: bool) -> DriveEnd
     ensures stopped { stopped ≡ true → result ≡ end.NoMemory }
-    ensures ends { Ends (sight_of core.now.core).stage result }
+    ensures ends { EndsDrive (sight_of core.now.core).stage result }
     ensures whole { result ≢ end.NoMemory → stopped ≡ false }
 {
     if stopped {

@@ -63,7 +63,8 @@ fn add_one<R: Wait>(rt: &R, turn: &Turn<Book>, pass: &mut Pass<Book>, ordinal: u
     requires { IsIdle turn.now.table pass.old }
     ensures idle { IsIdle turn.now.table pass.new }
     ensures caller { pass.new.caller ≡ pass.old.caller }
-    ensures mine { length (mine (λ book. book.entries) pass.new) ≡ length (mine (λ book. book.entries) pass.old) + (if result then 1 else 0) }
+    ensures mine { length (mine (λ book. book.entries) pass.new)
+        ≡ length (mine (λ book. book.entries) pass.old) + (if result then 1 else 0) }
 {
     let mut book = turn.take(rt, pass);
     let entry = Entry {

@@ -97,7 +97,8 @@ impl<T: Booked> Turn<T> {
         requires others { (other : ℕ) → other ≢ pass.old.caller → T.stand value other ≡ found T.stand pass.old other }
         requires stand { IsSome (T.stand value pass.old.caller) }
         ensures pass { pass.new ≡ known pass.old.table pass.old.caller value false }
-        ensures mine { (new : List Entry) → T.list value ≡ seen T.list pass.old ++ new → mine T.list pass.new ≡ mine T.list pass.old ++ new }
+        ensures mine { (new : List Entry) → T.list value ≡ seen T.list pass.old ++ new
+            → mine T.list pass.new ≡ mine T.list pass.old ++ new }
     {
         let shared = &self.table.shared;
         let count = value.entries();
@@ -137,7 +138,9 @@ impl<T: Booked> Turn<T> {
 // A card for each caller, which sees the value.
 fn cards_of<T: Booked>(alloc: Global, value: &T, callers: u8) -> Result<Vec<Card<T>>, AllocError>
     requires { (caller : ℕ) → caller < callers → IsSome (T.stand value.now caller) }
-    ensures { IfOk result (λ cards. (cards.items ≡ map (λ caller. (caller, value.now)) (range_with_len 0 callers)) × (vec_len cards ≡ callers)) }
+    ensures { IfOk result (λ cards.
+        (cards.items ≡ map (λ caller. (caller, value.now)) (range_with_len 0 callers))
+        × (vec_len cards ≡ callers)) }
 {
     let mut cards = Vec::with_capacity(alloc, callers as usize)?;
     for caller in 0..callers {
@@ -154,7 +157,8 @@ fn laid<T: Booked>(
 ) -> Result<(Turn<T>, Seat<Option<T>, View<T>>), T>
     requires { 0 < callers }
     ensures turn { IfOk result (λ made. made.0.callers ≡ callers) }
-    ensures seat { IfOk result (λ made. (made.1.table_id ≡ made.0.table) × (made.1.me ≡ (idle (sights_from 0 callers value), []))) }
+    ensures seat { IfOk result (λ made. (made.1.table_id ≡ made.0.table)
+        × (made.1.me ≡ (idle (sights_from 0 callers value), []))) }
     ensures value { IfErr result (λ back. back ≡ value) }
 {
     let count = value.entries();
@@ -220,7 +224,8 @@ fn win<T: Booked, R: Wait>(
     requires table { (seat.old.table_id ≡ shared.now.table_id) × (0 < shared.now.table_id.words) }
     requires seat { seat.old.me ≡ (free card.now.0 card.now.1, []) }
     ensures table { seat.new.table_id ≡ seat.old.table_id }
-    ensures won { (value : T) × Follows T.list T.stand T.origin T.tally card.now.0 card.now.1 value × (seat.new.me ≡ (held card.now.0 value, (0, Some value) ∷ [])) }
+    ensures won { (value : T) × Follows T.list T.stand T.origin T.tally card.now.0 card.now.1 value
+        × (seat.new.me ≡ (held card.now.0 value, (0, Some value) ∷ [])) }
 {
     let _ = card;
     for _ in rt.forever() {
@@ -254,7 +259,8 @@ fn publish<T: Booked>(
 )
     requires table { (seat.old.table_id ≡ shared.now.table_id) × (1 < shared.now.table_id.words) }
     requires count { count ≡ length (T.list card.now.1) }
-    requires seat { (took : T) × Adds T.list T.stand T.origin T.tally card.now.0 took card.now.1 × (seat.old.me ≡ (held card.now.0 took, (0, Some card.now.1) ∷ [])) }
+    requires seat { (took : T) × Adds T.list T.stand T.origin T.tally card.now.0 took card.now.1
+        × (seat.old.me ≡ (held card.now.0 took, (0, Some card.now.1) ∷ [])) }
     ensures table { seat.new.table_id ≡ seat.old.table_id }
     ensures seat { seat.new.me ≡ (held card.now.0 card.now.1, (0, Some card.now.1) ∷ []) }
 {
@@ -268,7 +274,8 @@ fn give_up<T: Booked>(
     seat: &mut Seat<Option<T>, View<T>>,
     card: &Card<T>,
 )
-    requires table { (seat.old.table_id ≡ shared.now.table_id) × (0 < shared.now.table_id.words) × (shared.now.table_id.slots ≡ 1) }
+    requires table { (seat.old.table_id ≡ shared.now.table_id) × (0 < shared.now.table_id.words)
+        × (shared.now.table_id.slots ≡ 1) }
     requires seat { seat.old.me ≡ (held card.now.0 card.now.1, (0, Some card.now.1) ∷ []) }
     ensures table { seat.new.table_id ≡ seat.old.table_id }
     ensures seat { seat.new.me ≡ (free card.now.0 card.now.1, []) }
@@ -305,7 +312,8 @@ fn absorb<T: Booked>(
     seat: &mut Seat<Option<T>, View<T>>,
     pass: Pass<T>,
 )
-    requires table { (seat.old.table_id ≡ shared.now.table_id) × (pass.table ≡ shared.now.table_id) × (0 < shared.now.table_id.words) }
+    requires table { (seat.old.table_id ≡ shared.now.table_id) × (pass.table ≡ shared.now.table_id)
+        × (0 < shared.now.table_id.words) }
     requires free { (seat.old.me.0.holds ≡ false) × (pass.holds ≡ false) }
     ensures table { seat.new.table_id ≡ seat.old.table_id }
     ensures seat { seat.new.me ≡ (both_of seat.old.me.0 (free pass.caller pass.value), seat.old.me.1) }

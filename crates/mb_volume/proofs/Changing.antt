@@ -12,9 +12,9 @@ use Rattle.mb_kinds.specs.declared.entries.Stand.{Stand}
 use Rattle.mb_kinds.specs.declared.faults.FaultRecord.{FaultRecord}
 use Rattle.mb_core_spec.specs.State.{records_of}
 use Rattle.mb_run.proofs.Lists.{neq}
-use Rattle.mb_run.specs.Events.{Stays}
+use Rattle.mb_run.specs.Events.{LeavesOthersAlone}
 use Rattle.mb_run.specs.Sights.{Limits, Seat, Sight, undue_in}
-use Rattle.mb_volume.specs.Parts.{Moves, Part, part_of, stand_if, stand_in}
+use Rattle.mb_volume.specs.Parts.{MovesPart, Part, part_of, stand_if, stand_in}
 
 -- ---- fault records
 
@@ -28,14 +28,14 @@ records_apart [] caller other apart theirs = refl
 records_apart (fault ∷ more) caller other apart theirs =
     ap (λ b. cond b (fault ∷ records_of more other) (records_of more other)) (neq fault.caller other (λ same. apart (sym same ∙ theirs.0))) ∙ records_apart more caller other apart theirs.1
 
-pub records_others : (old new : Sight) (caller other : ℕ) → other ≢ caller → Moves caller old new → records_of new.records other ≡ records_of old.records other
+pub records_others : (old new : Sight) (caller other : ℕ) → other ≢ caller → MovesPart caller old new → records_of new.records other ≡ records_of old.records other
 records_others old new caller other apart moves =
     ap (λ rs. records_of rs other) moves.records ∙ filter-append (λ (r : FaultRecord). nat_eq r.caller other) old.records moves.more
     ∙ ap (λ rs. records_of old.records other ++ rs) (records_apart moves.more caller other apart moves.theirs) ∙ append-nil (records_of old.records other)
 
 -- ---- the stands of the others, and of the caller
 
-pub others_stand : (old new : Sight) (caller : ℕ) → Moves caller old new → (other : ℕ) → other ≢ caller → stand_in new other ≡ stand_in old other
+pub others_stand : (old new : Sight) (caller : ℕ) → MovesPart caller old new → (other : ℕ) → other ≢ caller → stand_in new other ≡ stand_in old other
 others_stand old new caller moves other apart =
     ap (λ (l : Limits). stand_if (nat_lt other l.callers) (new.seats other) (records_of new.records other)) moves.config
     ∙ ap (λ (s : Seat). stand_if (nat_lt other old.config.callers) s (records_of new.records other)) (moves.seats other apart)
@@ -75,7 +75,7 @@ part_follows saw now caller low config entries stand =
 
 -- ---- kinds of change
 
-pub moves_same : (caller : ℕ) (s : Sight) → Moves caller s s
+pub moves_same : (caller : ℕ) (s : Sight) → MovesPart caller s s
 moves_same caller s = record {
   config = refl;
   seats = λ other apart. refl;
@@ -86,7 +86,7 @@ moves_same caller s = record {
   seals = omega arith;
 }
 
-pub moves_stays : (caller : ℕ) (old new : Sight) → Stays caller old new → new.history ≡ old.history → undue_in new ≤ undue_in old → Moves caller old new
+pub moves_stays : (caller : ℕ) (old new : Sight) → LeavesOthersAlone caller old new → new.history ≡ old.history → undue_in new ≤ undue_in old → MovesPart caller old new
 moves_stays caller old new stays history seals = record {
   config = stays.config;
   seats = stays.seats;
@@ -97,7 +97,7 @@ moves_stays caller old new stays history seals = record {
   seals = seals;
 }
 
-pub moves_entry : (caller : ℕ) (old new : Sight) (entry : Entry) → Stays caller old new → entry.caller ≡ caller → new.history ≡ old.history ++ entry ∷ [] → undue_in new ≤ undue_in old → Moves caller old new
+pub moves_entry : (caller : ℕ) (old new : Sight) (entry : Entry) → LeavesOthersAlone caller old new → entry.caller ≡ caller → new.history ≡ old.history ++ entry ∷ [] → undue_in new ≤ undue_in old → MovesPart caller old new
 moves_entry caller old new entry stays mine history seals = record {
   config = stays.config;
   seats = stays.seats;
@@ -109,7 +109,7 @@ moves_entry caller old new entry stays mine history seals = record {
 }
 
 pub moves_records : (caller : ℕ) (old new : Sight) (more : List FaultRecord) → new.config ≡ old.config → ((other : ℕ) → new.seats other ≡ old.seats other) → new.history ≡ old.history → new.records ≡ old.records ++ more
-    → AllByRecursion (λ (fault : FaultRecord). fault.caller ≡ caller) more → undue_in new ≤ undue_in old → Moves caller old new
+    → AllByRecursion (λ (fault : FaultRecord). fault.caller ≡ caller) more → undue_in new ≤ undue_in old → MovesPart caller old new
 moves_records caller old new more config seats history records theirs seals = record {
   config = config;
   seats = λ other apart. seats other;

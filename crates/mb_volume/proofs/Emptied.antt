@@ -9,14 +9,14 @@ use Rattle.mb_run.specs.declared.runner.At.{At}
 use Rattle.mb_run.specs.declared.runner.At.TheVariants as at
 use Rattle.mb_volume.specs.Attempts.{without_pages}
 use Rattle.mb_volume.specs.Parts.{Part}
-use Rattle.mb_volume.specs.Passed.{HasPassedAt, Marks}
-use Rattle.mb_volume.specs.Underway.{Goes, GrowsAfter, IsOn, IsUnderway, MayCome}
+use Rattle.mb_volume.specs.Passed.{HasPassedAt, MarksPoints}
+use Rattle.mb_volume.specs.Underway.{Goes, GrowsAfter, IsOn, IsCallUnderway, MayCome}
 use Rattle.mb_volume.specs.declared.attempt.Attempt.{Attempt}
 use Rattle.mb_volume.specs.declared.events.Came.{Came}
 use Rattle.mb_volume.specs.declared.events.Event.{Event}
 use Rattle.mb_volume.specs.declared.events.Event.TheVariants as event
 
-emptied : (call : Call) (test : Option (Crossing → Bool)) (from now : Part) (attempt : Attempt) → IsUnderway call test from now attempt → IsUnderway call test from now (record attempt { pages = no_pages })
+emptied : (call : Call) (test : Option (Crossing → Bool)) (from now : Part) (attempt : Attempt) → IsCallUnderway call test from now attempt → IsCallUnderway call test from now (record attempt { pages = no_pages })
 emptied call test from now attempt u = record {
   config = u.config;
   within = u.within;
@@ -79,8 +79,8 @@ passed_emptied flight attempt at.Outside passed = passed
 passed_emptied flight attempt (at.Inside ticket) passed = record { enters = passed.enters; gathers = λ there. absurd (let both : false ≡ true = there in cc); finishes = passed.finishes }
 passed_emptied flight attempt (at.Logged ticket) passed = passed
 
-pub marks_emptied : (e : Event) (old new : ℕ → Seat) (attempt now : Attempt) (answer : Came) → Marks e (old (without_pages e attempt).crossings.caller) (new (without_pages e attempt).crossings.caller) (without_pages e attempt) now answer
-    → Marks e (old attempt.crossings.caller) (new attempt.crossings.caller) attempt now answer
+pub marks_emptied : (e : Event) (old new : ℕ → Seat) (attempt now : Attempt) (answer : Came) → MarksPoints e (old (without_pages e attempt).crossings.caller) (new (without_pages e attempt).crossings.caller) (without_pages e attempt) now answer
+    → MarksPoints e (old attempt.crossings.caller) (new attempt.crossings.caller) attempt now answer
 marks_emptied event.Enter old new attempt now answer marks = record { passes = λ passed. marks.passes (passed_emptied (old attempt.crossings.caller).flight attempt attempt.at passed); crosses = marks.crosses }
 marks_emptied (event.Gather ticket need) old new attempt now answer marks = marks
 marks_emptied (event.Finish ticket ready) old new attempt now answer marks = marks

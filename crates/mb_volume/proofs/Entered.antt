@@ -12,15 +12,15 @@ use Rattle.mb_kinds.specs.declared.replies.Reply.{Reply}
 use Rattle.mb_core_spec.specs.State.{records_of}
 use Rattle.mb_run.proofs.Lists.{own_mine}
 use Rattle.mb_run.proofs.Undue.{enters_undue, still_undue}
-use Rattle.mb_run.specs.Events.{Answers, Begins, Enters, Leaves, entry_of}
+use Rattle.mb_run.specs.Events.{Answers, BeginsFlight, EntersInSight, EndsFlight, entry_of}
 use Rattle.mb_run.specs.Pages.{HasTablesFor}
 use Rattle.mb_run.specs.Sights.{Limits, Seat, Sight, flight_of}
 use Rattle.mb_run.specs.declared.answers.Enter.TheVariants as enter
 use Rattle.mb_run.specs.declared.runner.At.TheVariants as at
 use Rattle.mb_volume.specs.Attempts.{going_in}
 use Rattle.mb_volume.specs.Called.{Suffers}
-use Rattle.mb_volume.specs.Parts.{Moves, Part, part_of}
-use Rattle.mb_volume.specs.Underway.{AddsEntry, AddsEntryIf, Comes, IsAnswered, IsBegunIf, IsFlying, IsReplyIn, IsStruck, IsUnderway, LacksEntry, StandsAt}
+use Rattle.mb_volume.specs.Parts.{MovesPart, Part, part_of}
+use Rattle.mb_volume.specs.Underway.{AddsEntry, AddsEntryIf, Comes, HasItsAnswer, IsBegunIf, FlightIsCall, IsReplyIn, StruckSoFar, IsCallUnderway, FlightLacksEntry, PlaceStands}
 use Rattle.mb_volume.specs.declared.attempt.Attempt.{Attempt}
 use Rattle.mb_volume.specs.declared.events.Came.TheVariants as came
 use Rattle.mb_volume.proofs.Changing.{moves_entry, moves_same, moves_stays}
@@ -32,14 +32,14 @@ use Rattle.mb_volume.proofs.Struck.{suffers_of}
 pub struck_still : (caller : ℕ) (old new : Sight) → new.records ≡ old.records → (part_of new caller).struck ≡ (part_of old caller).struck
 struck_still caller old new same = ap (λ (rs : List FaultRecord). records_of rs caller) same
 
-module _ (call : Call) (test : Option (Crossing → Bool)) (from : Part) (old : Sight) (attempt : Attempt) (u : IsUnderway call test from (part_of old attempt.crossings.caller) attempt) where
+module _ (call : Call) (test : Option (Crossing → Bool)) (from : Part) (old : Sight) (attempt : Attempt) (u : IsCallUnderway call test from (part_of old attempt.crossings.caller) attempt) where
   suffers_now : (new : Sight) → new.records ≡ old.records → Suffers test attempt.crossings.caller from (part_of new attempt.crossings.caller)
   suffers_now new same =
-      let struck : IsStruck test attempt.crossings from.struck (part_of new attempt.crossings.caller).struck = subst (IsStruck test attempt.crossings from.struck) (sym (struck_still attempt.crossings.caller old new same)) u.struck in
+      let struck : StruckSoFar test attempt.crossings from.struck (part_of new attempt.crossings.caller).struck = subst (StruckSoFar test attempt.crossings from.struck) (sym (struck_still attempt.crossings.caller old new same)) u.struck in
       suffers_of test attempt.crossings from (part_of new attempt.crossings.caller) u.ordinal struck
 
   -- the flight, which has its entry, ends
-  pub answered_leaves : (new : Sight) (flight : Flight) (answer : Reply) → Leaves attempt.crossings.caller flight old new → IsReplyIn (own old.history attempt.crossings.caller) flight.ordinal answer → IsAnswered call test attempt.crossings.caller from (part_of new attempt.crossings.caller) answer
+  pub answered_leaves : (new : Sight) (flight : Flight) (answer : Reply) → EndsFlight attempt.crossings.caller flight old new → IsReplyIn (own old.history attempt.crossings.caller) flight.ordinal answer → HasItsAnswer call test attempt.crossings.caller from (part_of new attempt.crossings.caller) answer
   answered_leaves new flight answer leaves handed =
       let flies = flying call test from old attempt u flight leaves.was in
       let entries : own new.history attempt.crossings.caller ≡ own old.history attempt.crossings.caller = ap (λ h. own h attempt.crossings.caller) leaves.counts.history in
@@ -55,7 +55,7 @@ module _ (call : Call) (test : Option (Crossing → Bool)) (from : Part) (old : 
 
   -- a flight without an entry gets one and ends
   pub answered_by : (new : Sight) (flight : Flight) (answer : Reply) → IsFlight call from (part_of old attempt.crossings.caller) flight → flight.answered ≡ false → Answers attempt.crossings.caller flight answer old new
-      → IsAnswered call test attempt.crossings.caller from (part_of new attempt.crossings.caller) answer
+      → HasItsAnswer call test attempt.crossings.caller from (part_of new attempt.crossings.caller) answer
   answered_by new flight answer is lacks answers = record {
     config = answers.stays.config ∙ u.config;
     seat = answers.mine ∙ ap (λ n. record { begun = n; flight = None }) is.ordinal;
@@ -78,8 +78,8 @@ module _ (call : Call) (test : Option (Crossing → Bool)) (from : Part) (old : 
   }
 
   -- the flight of a call that begins, or goes on
-  begun_now : (new : Sight) (flight : Flight) → IsFlight call from (part_of old attempt.crossings.caller) flight → flight.answered ≡ false → Begins attempt.crossings.caller flight old new
-      → IsFlying attempt.crossings.caller call from (part_of new attempt.crossings.caller) flight
+  begun_now : (new : Sight) (flight : Flight) → IsFlight call from (part_of old attempt.crossings.caller) flight → flight.answered ≡ false → BeginsFlight attempt.crossings.caller flight old new
+      → FlightIsCall attempt.crossings.caller call from (part_of new attempt.crossings.caller) flight
   begun_now new flight is lacks begins = record {
     call_is = is.call_is;
     ordinal = is.ordinal;
@@ -88,8 +88,8 @@ module _ (call : Call) (test : Option (Crossing → Bool)) (from : Part) (old : 
         (ap (λ h. own h attempt.crossings.caller) begins.history ∙ is.lacks lacks);
   }
 
-  underway_begins : (new : Sight) (flight : Flight) (now : Attempt) → now.crossings ≡ attempt.crossings → IsFlight call from (part_of old attempt.crossings.caller) flight → flight.answered ≡ false → Begins attempt.crossings.caller flight old new
-      → StandsAt attempt.crossings.caller (new.seats attempt.crossings.caller) now.at → HasTablesFor new.config.callers now.pages → IsUnderway call test from (part_of new attempt.crossings.caller) (record now { crossings = attempt.crossings })
+  underway_begins : (new : Sight) (flight : Flight) (now : Attempt) → now.crossings ≡ attempt.crossings → IsFlight call from (part_of old attempt.crossings.caller) flight → flight.answered ≡ false → BeginsFlight attempt.crossings.caller flight old new
+      → PlaceStands attempt.crossings.caller (new.seats attempt.crossings.caller) now.at → HasTablesFor new.config.callers now.pages → IsCallUnderway call test from (part_of new attempt.crossings.caller) (record now { crossings = attempt.crossings })
   underway_begins new flight now same is lacks begins stands tables = record {
     config = begins.stays.config ∙ u.config;
     within = u.within;
@@ -99,26 +99,26 @@ module _ (call : Call) (test : Option (Crossing → Bool)) (from : Part) (old : 
     begun = subst (IsBegunIf attempt.crossings.caller call from (part_of new attempt.crossings.caller)) (sym (ap (λ (s : Seat). s.flight) begins.mine)) (begun_now new flight is lacks begins);
     stands = stands;
     tables = tables;
-    struck = subst (IsStruck test attempt.crossings from.struck) (sym (struck_still attempt.crossings.caller old new begins.stays.records)) u.struck;
+    struck = subst (StruckSoFar test attempt.crossings from.struck) (sym (struck_still attempt.crossings.caller old new begins.stays.records)) u.struck;
   }
 
   -- ---- by the answers
 
-  pub comes_done : (new : Sight) (now : Attempt) (answer : Reply) → Enters old new attempt.crossings.caller call (enter.Done answer) → Comes call test attempt.crossings.caller from (part_of new attempt.crossings.caller) now (came.Answered answer)
+  pub comes_done : (new : Sight) (now : Attempt) (answer : Reply) → EntersInSight old new attempt.crossings.caller call (enter.Done answer) → Comes call test attempt.crossings.caller from (part_of new attempt.crossings.caller) now (came.Answered answer)
   comes_done new now answer enters = elim enters [
     | inl left ↦ answered_leaves new left.0 answer left.1 (own_reply old.history attempt.crossings.caller left.0.ordinal answer left.2)
     | inr made ↦ answered_by new (flight_of old attempt.crossings.caller call (old.seats attempt.crossings.caller).flight) answer (flight_now call test from old attempt u) made.0 made.2
   ]
 
-  pub comes_shut : (new : Sight) → attempt.at ≡ at.Outside → Enters old new attempt.crossings.caller call enter.Shut → Comes call test attempt.crossings.caller from (part_of new attempt.crossings.caller) attempt came.Shut
+  pub comes_shut : (new : Sight) → attempt.at ≡ at.Outside → EntersInSight old new attempt.crossings.caller call enter.Shut → Comes call test attempt.crossings.caller from (part_of new attempt.crossings.caller) attempt came.Shut
   comes_shut new outside enters =
       let flight = flight_of old attempt.crossings.caller call (old.seats attempt.crossings.caller).flight in (
-        underway_begins new flight attempt refl (flight_now call test from old attempt u) enters.1 enters.2 (subst (StandsAt attempt.crossings.caller (new.seats attempt.crossings.caller)) (sym outside) tt)
+        underway_begins new flight attempt refl (flight_now call test from old attempt u) enters.1 enters.2 (subst (PlaceStands attempt.crossings.caller (new.seats attempt.crossings.caller)) (sym outside) tt)
             (subst (λ (l : Limits). HasTablesFor l.callers attempt.pages) (sym enters.2.stays.config) u.tables),
         (flight, ap (λ (s : Seat). s.flight) enters.2.mine, enters.1),
       )
 
-  pub comes_inside : (new : Sight) (ticket : Ticket) → Enters old new attempt.crossings.caller call (enter.Inside ticket)
+  pub comes_inside : (new : Sight) (ticket : Ticket) → EntersInSight old new attempt.crossings.caller call (enter.Inside ticket)
       → Comes call test attempt.crossings.caller from (part_of new attempt.crossings.caller) (going_in attempt ticket) (came.Inside ticket)
   comes_inside new ticket enters =
       let was = flight_of old attempt.crossings.caller call (old.seats attempt.crossings.caller).flight in
@@ -131,22 +131,22 @@ module _ (call : Call) (test : Option (Crossing → Bool)) (from : Part) (old : 
       )
 
   -- nothing changed, for want of memory
-  pub comes_nothing : (new : Sight) → new ≡ old → LacksEntry (old.seats attempt.crossings.caller).flight → Comes call test attempt.crossings.caller from (part_of new attempt.crossings.caller) attempt came.NoMemory
+  pub comes_nothing : (new : Sight) → new ≡ old → FlightLacksEntry (old.seats attempt.crossings.caller).flight → Comes call test attempt.crossings.caller from (part_of new attempt.crossings.caller) attempt came.NoMemory
   comes_nothing new same lacks = subst (λ (s : Sight). Comes call test attempt.crossings.caller from (part_of s attempt.crossings.caller) attempt came.NoMemory) (sym same) (u, lacks)
 
-  pub comes_not_in : (new : Sight) → Enters old new attempt.crossings.caller call enter.NoMemory → Comes call test attempt.crossings.caller from (part_of new attempt.crossings.caller) attempt came.NoMemory
+  pub comes_not_in : (new : Sight) → EntersInSight old new attempt.crossings.caller call enter.NoMemory → Comes call test attempt.crossings.caller from (part_of new attempt.crossings.caller) attempt came.NoMemory
   comes_not_in new enters = comes_nothing new enters.0 (lacks_if old attempt.crossings.caller call (old.seats attempt.crossings.caller).flight enters.1)
 
 -- ---- what it leaves to the others
 
-pub moves_done : (old new : Sight) (caller : ℕ) (call : Call) (answer : Reply) → Enters old new caller call (enter.Done answer) → Moves caller old new
+pub moves_done : (old new : Sight) (caller : ℕ) (call : Call) (answer : Reply) → EntersInSight old new caller call (enter.Done answer) → MovesPart caller old new
 moves_done old new caller call answer enters = elim enters [
   | inl left ↦ moves_stays caller old new left.1.stays left.1.counts.history (enters_undue old new caller call (enter.Done answer) (inl left))
   | inr made ↦ moves_entry caller old new (entry_of caller (flight_of old caller call (old.seats caller).flight) None answer) made.2.stays refl made.2.history (enters_undue old new caller call (enter.Done answer) (inr made))
 ]
 
-pub moves_begins : (old new : Sight) (caller : ℕ) (flight : Flight) → Begins caller flight old new → Moves caller old new
+pub moves_begins : (old new : Sight) (caller : ℕ) (flight : Flight) → BeginsFlight caller flight old new → MovesPart caller old new
 moves_begins old new caller flight begins = moves_stays caller old new begins.stays begins.history (still_undue old new begins.stays.config begins.log begins.history)
 
-pub moves_nothing : (old new : Sight) (caller : ℕ) → new ≡ old → Moves caller old new
-moves_nothing old new caller same = subst (Moves caller old) (sym same) (moves_same caller old)
+pub moves_nothing : (old new : Sight) (caller : ℕ) → new ≡ old → MovesPart caller old new
+moves_nothing old new caller same = subst (MovesPart caller old) (sym same) (moves_same caller old)

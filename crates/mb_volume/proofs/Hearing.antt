@@ -12,13 +12,13 @@ use Rattle.mb_kinds.specs.declared.faults.Ticket.{Ticket}
 use Rattle.mb_run.proofs.Counting.{same_or_not}
 use Rattle.mb_run.proofs.TallyRecords.{counted_some, counted_there, next_first}
 use Rattle.mb_run.specs.Recovering.{next_of}
-use Rattle.mb_run.specs.Served.{AreCounts, counted}
+use Rattle.mb_run.specs.Served.{AreSixCounts, counted}
 use Rattle.mb_run.specs.Sights.{Seat}
 use Rattle.mb_run.specs.Tallies.{HasFinished, count_of, is_logged}
 use Rattle.mb_run.specs.declared.runner.At.TheVariants as at
 use Rattle.mb_volume.specs.Attempts.{new_attempt}
-use Rattle.mb_volume.specs.Called.{TakesFirst, TakesFirsts, is_on_way}
-use Rattle.mb_volume.specs.Passed.{EnteredBy, HasEntry, HasHeard, HasPassed, HasPassedAt, HeardBy, Hears, HearsAt, HearsFault, IsCalm, IsHeard, IsPastEnter, IsPastLeave, KeepsOwn, PassedBy}
+use Rattle.mb_volume.specs.Called.{RisesAtFirst, TakesFirsts, is_on_way}
+use Rattle.mb_volume.specs.Passed.{EnteredBy, FlightHasEntry, HasHeard, HasPassed, HasPassedAt, HeardBy, Hears, HearsAt, HearsFault, IsCalm, IsHeard, IsPastEnter, IsPastLeave, KeepsOwn, PassedBy}
 use Rattle.mb_volume.specs.declared.attempt.Attempt.{Attempt}
 use Rattle.mb_volume.specs.declared.events.Came.{Came}
 use Rattle.mb_volume.specs.declared.events.Came.TheVariants as came
@@ -63,11 +63,11 @@ rose_more first before now more rose = omega (arith, more, rose)
 rose_from : (first before now : ℕ) → first ≤ before → Rose before now → Rose first now
 rose_from first before now more rose = omega (arith, more, rose)
 
-takes_later : (test : Option (Crossing → Bool)) (caller ordinal first before now : ℕ) (kind : Kind) → before ≤ now → TakesFirst test caller ordinal first before kind → TakesFirst test caller ordinal first now kind
+takes_later : (test : Option (Crossing → Bool)) (caller ordinal first before now : ℕ) (kind : Kind) → before ≤ now → RisesAtFirst test caller ordinal first before kind → RisesAtFirst test caller ordinal first now kind
 takes_later None caller ordinal first before now kind more taken = tt
 takes_later (Some fires) caller ordinal first before now kind more taken = λ holds. rose_more first before now more (taken holds)
 
-takes_rose : (test : Option (Crossing → Bool)) (caller ordinal first now : ℕ) (kind : Kind) → Rose first now → TakesFirst test caller ordinal first now kind
+takes_rose : (test : Option (Crossing → Bool)) (caller ordinal first now : ℕ) (kind : Kind) → Rose first now → RisesAtFirst test caller ordinal first now kind
 takes_rose None caller ordinal first now kind rose = tt
 takes_rose (Some fires) caller ordinal first now kind rose = λ holds. rose
 
@@ -86,9 +86,9 @@ first_point crossings kind caller ordinal mine mine_too none =
     let point : ℕ → ℕ → ℕ → Crossing = λ c o n. record { caller = c; ordinal = o; kind = kind; nth = n } in
     ap (λ n. point crossings.caller crossings.ordinal n) (next_first crossings.counts kind none) ∙ ap (λ c. point c crossings.ordinal 1) mine ∙ ap (λ o. point caller o 1) mine_too
 
-module _ (test : Option (Crossing → Bool)) (crossings : Crossings) (kind : Kind) (are : AreCounts crossings) where
+module _ (test : Option (Crossing → Bool)) (crossings : Crossings) (kind : Kind) (are : AreSixCounts crossings) where
   -- what is known of the other kinds, and of this one if it was counted before
-  heard_next : (caller ordinal first before now : ℕ) → before ≤ now → (count_of crossings kind ≡ 0 → TakesFirst test caller ordinal first now kind) → HasHeard test caller ordinal first before crossings
+  heard_next : (caller ordinal first before now : ℕ) → before ≤ now → (count_of crossings kind ≡ 0 → RisesAtFirst test caller ordinal first now kind) → HasHeard test caller ordinal first before crossings
       → HasHeard test caller ordinal first now (counted crossings kind)
   heard_next caller ordinal first before now more here heard = record {
     caller_is = heard.caller_is;
@@ -96,7 +96,7 @@ module _ (test : Option (Crossing → Bool)) (crossings : Crossings) (kind : Kin
     later = (let was = heard.later in omega (arith, more, was));
     taken = λ other on some. elim (same_or_not (place_of other) (place_of kind)) [
       | inl same ↦ (let is = same_place other kind same in
-          subst (λ (k : Kind). TakesFirst test caller ordinal first now k) (sym is) (elim (same_or_not (count_of crossings kind) 0) [
+          subst (λ (k : Kind). RisesAtFirst test caller ordinal first now k) (sym is) (elim (same_or_not (count_of crossings kind) 0) [
             | inl none ↦ here none
             | inr was ↦ takes_later test caller ordinal first before now kind more (heard.taken kind (subst (λ (k : Kind). is_on_way k ≡ true) is on) was)
           ]))
@@ -104,7 +104,7 @@ module _ (test : Option (Crossing → Bool)) (crossings : Crossings) (kind : Kin
     ];
   }
 
-  let_go : (told : Option (Crossing → Bool)) (caller ordinal first now : ℕ) → next_of kind crossings ≡ record { caller = caller; ordinal = ordinal; kind = kind; nth = 1 } → AnswersTest told (next_of kind crossings) word.Go → TakesFirst told caller ordinal first now kind
+  let_go : (told : Option (Crossing → Bool)) (caller ordinal first now : ℕ) → next_of kind crossings ≡ record { caller = caller; ordinal = ordinal; kind = kind; nth = 1 } → AnswersTest told (next_of kind crossings) word.Go → RisesAtFirst told caller ordinal first now kind
   let_go None caller ordinal first now is answers = tt
   let_go (Some fires) caller ordinal first now is answers = λ holds. absurd (let both : false ≡ true = answers ∙ ap fires is ∙ holds in cc)
 
@@ -142,14 +142,14 @@ module _ (test : Option (Crossing → Bool)) (was is : Seat) (old after : Attemp
   hears_same before now more same passes = hears_event before now more (λ calm. keeps_same old.crossings after.crossings same) passes
 
   -- the call is struck where the fault injector was asked
-  pub hears_fault : (before asked now : ℕ) (kind : Kind) → AreCounts old.crossings → Rose before asked → asked ≤ now → before ≤ asked → after.crossings ≡ counted old.crossings kind
+  pub hears_fault : (before asked now : ℕ) (kind : Kind) → AreSixCounts old.crossings → Rose before asked → asked ≤ now → before ≤ asked → after.crossings ≡ counted old.crossings kind
       → ((is_logged old.at ≡ 1 → IsPastLeave (counted old.crossings kind)) → PassedBy is after answer) → HearsFault test before now is old after kind answer
   hears_fault before asked now kind are rose more less same passes = λ caller ordinal first heard asked_for.
       heard_came test caller ordinal first now is after answer
       (λ calm. subst (HasHeard test caller ordinal first now) (sym same) (heard_fault test old.crossings kind are caller ordinal first before now (rose_more before asked now more rose) (omega (arith, more, less)) heard)) (passes asked_for)
 
   -- it let the call go on to an event
-  pub hears_asked : (before asked now : ℕ) (kind : Kind) (mid : Attempt) → AreCounts old.crossings → mid ≡ record old { crossings = counted old.crossings kind } → HearsAt test before asked old.crossings kind → asked ≤ now → after.crossings ≡ mid.crossings
+  pub hears_asked : (before asked now : ℕ) (kind : Kind) (mid : Attempt) → AreSixCounts old.crossings → mid ≡ record old { crossings = counted old.crossings kind } → HearsAt test before asked old.crossings kind → asked ≤ now → after.crossings ≡ mid.crossings
       → (HasPassed was.flight mid → PassedBy is after answer) → Hears test before now was is old after answer
   hears_asked before asked now kind mid are counts hears more same passes = λ caller ordinal first heard.
       heard_came test caller ordinal first now is after answer
@@ -157,7 +157,7 @@ module _ (test : Option (Crossing → Bool)) (was is : Seat) (old after : Attemp
       (passes (subst (HasPassed was.flight) (sym counts) (passed_on was.flight old (counted old.crossings kind) (grown_counted old.crossings kind are) heard.passed)))
 
 -- the call was counted where it is asked
-pub asked_there : (old mid : Attempt) (kind : Kind) → AreCounts old.crossings → mid ≡ record old { crossings = counted old.crossings kind } → count_of mid.crossings kind ≢ 0
+pub asked_there : (old mid : Attempt) (kind : Kind) → AreSixCounts old.crossings → mid ≡ record old { crossings = counted old.crossings kind } → count_of mid.crossings kind ≢ 0
 asked_there old mid kind are counts = subst (λ (a : Attempt). count_of a.crossings kind ≢ 0) (sym counts) (counted_some old.crossings kind are)
 
 -- ---- a call that is struck inside, or where it leaves
@@ -165,7 +165,7 @@ asked_there old mid kind are counts = subst (λ (a : Attempt). count_of a.crossi
 pub not_logged : (attempt : Attempt) (ticket : Ticket) (crossings : Crossings) → attempt.at ≡ at.Inside ticket → is_logged attempt.at ≡ 1 → IsPastLeave crossings
 not_logged attempt ticket crossings inside logged = absurd (let both : 0 ≡ 1 = sym (ap is_logged inside) ∙ logged in omega (arith, both))
 
-pub past_leave : (seat : Seat) (attempt : Attempt) (ticket : Ticket) → AreCounts attempt.crossings → attempt.at ≡ at.Logged ticket → HasPassed seat.flight attempt → IsPastLeave (counted attempt.crossings Leave)
+pub past_leave : (seat : Seat) (attempt : Attempt) (ticket : Ticket) → AreSixCounts attempt.crossings → attempt.at ≡ at.Logged ticket → HasPassed seat.flight attempt → IsPastLeave (counted attempt.crossings Leave)
 past_leave seat attempt ticket are logged passed =
     let was : HasFinished attempt.crossings = subst (HasPassedAt seat.flight attempt) logged passed in
     let grown = grown_counted attempt.crossings Leave are in
@@ -176,7 +176,7 @@ past_leave seat attempt ticket are logged passed =
 
 -- ---- the call enters
 
-pub entered_inside : (seat : Seat) (mid : Attempt) (ticket : Ticket) (after : Attempt) → AreCounts mid.crossings → mid.at ≡ at.Inside ticket → EnteredBy seat mid (came.Inside ticket) → after ≡ record mid { crossings = counted mid.crossings Enter }
+pub entered_inside : (seat : Seat) (mid : Attempt) (ticket : Ticket) (after : Attempt) → AreSixCounts mid.crossings → mid.at ≡ at.Inside ticket → EnteredBy seat mid (came.Inside ticket) → after ≡ record mid { crossings = counted mid.crossings Enter }
     → HasPassed seat.flight after
 entered_inside seat mid ticket after are inside entered counts =
     subst (HasPassed seat.flight) (sym counts) (subst (HasPassedAt seat.flight (record mid { crossings = counted mid.crossings Enter })) (sym inside) (record {
@@ -190,7 +190,7 @@ module _ (test : Option (Crossing → Bool)) (was is last : Seat) (old mid after
   entered_heard caller ordinal first heard = heard_kept test caller ordinal first before between old.crossings mid.crossings more (keeps_same old.crossings mid.crossings same) heard
 
   -- the fault injector let it go on
-  pub hears_entered : answer ≡ came.Inside ticket → AreCounts mid.crossings → (HasPassed was.flight old → EnteredBy is mid answer) → HearsAt test between now mid.crossings Enter → last ≡ is → after ≡ record mid { crossings = counted mid.crossings Enter }
+  pub hears_entered : answer ≡ came.Inside ticket → AreSixCounts mid.crossings → (HasPassed was.flight old → EnteredBy is mid answer) → HearsAt test between now mid.crossings Enter → last ≡ is → after ≡ record mid { crossings = counted mid.crossings Enter }
       → Hears test before now was last old after came.On
   hears_entered said are passes hears seat counts = λ caller ordinal first heard.
       subst (λ (s : Seat). IsHeard test caller ordinal first now s after) (sym seat) (record {
@@ -220,7 +220,7 @@ hears_outside test was is old after answer before now not more same passes = hea
 pub heard_begins : (test : Option (Crossing → Bool)) (caller begun count : ℕ) (seat : Seat) (attempt : Attempt) → attempt ≡ new_attempt caller begun → seat.flight ≡ None → IsHeard test caller (begun + 1) count count seat attempt
 heard_begins test caller begun count seat attempt is free = subst (IsHeard test caller (begun + 1) count count seat) (sym is) (record {
   heard = record { caller_is = refl; ordinal_is = refl; later = omega arith; taken = λ kind on some. absurd (some (none kind)) };
-  passed = λ has. absurd (subst HasEntry free has);
+  passed = λ has. absurd (subst FlightHasEntry free has);
 }) where
   none : (kind : Kind) → count_of (new_attempt caller begun).crossings kind ≡ 0
   none Enter = refl

@@ -18,14 +18,14 @@ use Rattle.mb_kinds.specs.declared.replies.Reply.{Reply}
 use Rattle.mb_kinds.specs.declared.replies.Reply.TheVariants as reply
 use Rattle.mb_run.proofs.Lists.{own_mine}
 use Rattle.mb_run.proofs.Undue.{gathers_undue, leaves_undue, logs_undue}
-use Rattle.mb_run.specs.Events.{Answers, Finishes, Gains, Gathers, IsCallOf, IsReadyAt, IsStale, Leaves, LeavesWith, Logs, SealsIf, entry_of}
-use Rattle.mb_run.specs.Pages.{HasTablesFor, Performs}
+use Rattle.mb_run.specs.Events.{Answers, FinishesInSight, Gains, GathersInSight, IsCallOf, IsReadyAt, IsStale, EndsFlight, LeavesWith, Logs, SealsIf, entry_of}
+use Rattle.mb_run.specs.Pages.{HasTablesFor, PerformsOver}
 use Rattle.mb_run.specs.Seals.{is_due}
-use Rattle.mb_run.specs.Sights.{HasTicket, Limits, Seat, Sight, undue_in}
+use Rattle.mb_run.specs.Sights.{SeatHasTicket, Limits, Seat, Sight, undue_in}
 use Rattle.mb_run.specs.declared.runner.At.TheVariants as at
 use Rattle.mb_volume.specs.Attempts.{back_out, going_in}
-use Rattle.mb_volume.specs.Parts.{Moves, Part, part_of}
-use Rattle.mb_volume.specs.Underway.{AddsEntry, AddsEntryIf, Comes, IsBegunIf, IsFlying, IsReplyIn, IsStruck, IsUnderway, LacksEntry, StandsAt}
+use Rattle.mb_volume.specs.Parts.{MovesPart, Part, part_of}
+use Rattle.mb_volume.specs.Underway.{AddsEntry, AddsEntryIf, Comes, IsBegunIf, FlightIsCall, IsReplyIn, StruckSoFar, IsCallUnderway, FlightLacksEntry, PlaceStands}
 use Rattle.mb_volume.specs.declared.attempt.Attempt.{Attempt}
 use Rattle.mb_volume.specs.declared.events.Came.TheVariants as came
 use Rattle.mb_volume.proofs.Changing.{moves_entry, moves_stays, part_is}
@@ -44,42 +44,42 @@ sealed_part : (b : Bool) (caller : ℕ) (old new : Sight) → SealsIf b old new 
 sealed_part true caller old new seals = ap (λ (s : Sight). part_of s caller) seals
 sealed_part false caller old new seals = ap (λ (s : Sight). part_of s caller) seals
 
-sealed_moves : (b : Bool) (caller : ℕ) (old mid new : Sight) → SealsIf b mid new → undue_in new ≤ undue_in old → Moves caller old mid → Moves caller old new
+sealed_moves : (b : Bool) (caller : ℕ) (old mid new : Sight) → SealsIf b mid new → undue_in new ≤ undue_in old → MovesPart caller old mid → MovesPart caller old new
 sealed_moves true caller old mid new seals low moves =
-    subst (Moves caller old) (sym seals)
+    subst (MovesPart caller old) (sym seals)
     (record { config = moves.config; seats = moves.seats; entries = moves.entries; more = moves.more; records = moves.records; theirs = moves.theirs; seals = (let same = ap undue_in seals in omega (arith, same, low)) })
-sealed_moves false caller old mid new seals low moves = subst (Moves caller old) (sym seals) moves
+sealed_moves false caller old mid new seals low moves = subst (MovesPart caller old) (sym seals) moves
 
-module _ (call : Call) (test : Option (Crossing → Bool)) (from : Part) (old : Sight) (attempt : Attempt) (u : IsUnderway call test from (part_of old attempt.crossings.caller) attempt) where
+module _ (call : Call) (test : Option (Crossing → Bool)) (from : Part) (old : Sight) (attempt : Attempt) (u : IsCallUnderway call test from (part_of old attempt.crossings.caller) attempt) where
   -- the call has to enter again
-  pub underway_back : IsUnderway call test from (part_of old attempt.crossings.caller) (back_out attempt)
+  pub underway_back : IsCallUnderway call test from (part_of old attempt.crossings.caller) (back_out attempt)
   underway_back = record { config = u.config; within = u.within; most = u.most; ordinal = u.ordinal; counts = u.counts; begun = u.begun; stands = tt; tables = tt; struck = u.struck }
 
   pub comes_back : (new : Sight) → new ≡ old → Comes call test attempt.crossings.caller from (part_of new attempt.crossings.caller) (back_out attempt) came.On
-  comes_back new same = subst (λ (s : Sight). IsUnderway call test from (part_of s attempt.crossings.caller) (back_out attempt)) (sym same) underway_back
+  comes_back new same = subst (λ (s : Sight). IsCallUnderway call test from (part_of s attempt.crossings.caller) (back_out attempt)) (sym same) underway_back
 
-  pub underway_asked : IsUnderway call test from (part_of old attempt.crossings.caller) (record attempt { asked = true })
+  pub underway_asked : IsCallUnderway call test from (part_of old attempt.crossings.caller) (record attempt { asked = true })
   underway_asked = record { config = u.config; within = u.within; most = u.most; ordinal = u.ordinal; counts = u.counts; begun = u.begun; stands = u.stands; tables = u.tables; struck = u.struck }
 
   pub comes_busy : (new : Sight) → new ≡ old → Comes call test attempt.crossings.caller from (part_of new attempt.crossings.caller) (record attempt { asked = true }) came.Busy
-  comes_busy new same = subst (λ (s : Sight). IsUnderway call test from (part_of s attempt.crossings.caller) (record attempt { asked = true })) (sym same) underway_asked
+  comes_busy new same = subst (λ (s : Sight). IsCallUnderway call test from (part_of s attempt.crossings.caller) (record attempt { asked = true })) (sym same) underway_asked
 
   -- ---- inside
 
   module _ (ticket : Ticket) (inside : attempt.at ≡ at.Inside ticket) where
-    pub stood : HasTicket false (old.seats attempt.crossings.caller) ticket × (ticket.caller ≡ attempt.crossings.caller)
-    stood = subst (StandsAt attempt.crossings.caller (old.seats attempt.crossings.caller)) inside u.stands
+    pub stood : SeatHasTicket false (old.seats attempt.crossings.caller) ticket × (ticket.caller ≡ attempt.crossings.caller)
+    stood = subst (PlaceStands attempt.crossings.caller (old.seats attempt.crossings.caller)) inside u.stands
 
-    pub has_ticket : HasTicket false (old.seats ticket.caller) ticket
-    has_ticket = subst (λ n. HasTicket false (old.seats n) ticket) (sym stood.1) stood.0
+    pub has_ticket : SeatHasTicket false (old.seats ticket.caller) ticket
+    has_ticket = subst (λ n. SeatHasTicket false (old.seats n) ticket) (sym stood.1) stood.0
 
     pub own_ticket : ticket.caller ≡ attempt.crossings.caller
     own_ticket = stood.1
 
-    pub lacks_inside : LacksEntry (old.seats attempt.crossings.caller).flight
-    lacks_inside = subst LacksEntry (sym stood.0.here) stood.0.answered
+    pub lacks_inside : FlightLacksEntry (old.seats attempt.crossings.caller).flight
+    lacks_inside = subst FlightLacksEntry (sym stood.0.here) stood.0.answered
 
-    pub flies : IsFlying attempt.crossings.caller call from (part_of old attempt.crossings.caller) stood.0.flight
+    pub flies : FlightIsCall attempt.crossings.caller call from (part_of old attempt.crossings.caller) stood.0.flight
     flies = flying call test from old attempt u stood.0.flight stood.0.here
 
     is_flight : IsFlight call from (part_of old attempt.crossings.caller) stood.0.flight
@@ -90,24 +90,24 @@ module _ (call : Call) (test : Option (Crossing → Bool)) (from : Part) (old : 
     }
 
     -- nothing of the caller's part changed, and it has more pages, or none
-    underway_with : (pages : PagesState) (asked : Bool) → HasTablesFor old.config.callers pages → IsUnderway call test from (part_of old attempt.crossings.caller) (record attempt { asked = asked; pages = pages })
+    underway_with : (pages : PagesState) (asked : Bool) → HasTablesFor old.config.callers pages → IsCallUnderway call test from (part_of old attempt.crossings.caller) (record attempt { asked = asked; pages = pages })
     underway_with pages asked tables = record { config = u.config; within = u.within; most = u.most; ordinal = u.ordinal; counts = u.counts; begun = u.begun; stands = u.stands; tables = tables; struck = u.struck }
 
-    pub comes_gain : (new : Sight) (need : Need) (now : PagesState) → Gathers old new ticket need attempt.pages now gathered.Done → Comes call test attempt.crossings.caller from (part_of new attempt.crossings.caller) (record attempt { pages = now }) came.On
+    pub comes_gain : (new : Sight) (need : Need) (now : PagesState) → GathersInSight old new ticket need attempt.pages now gathered.Done → Comes call test attempt.crossings.caller from (part_of new attempt.crossings.caller) (record attempt { pages = now }) came.On
     comes_gain new need now gathers =
         let gains = subst (λ n. Gains n old new need attempt.pages now) own_ticket gathers.1 in
-        subst (λ (p : Part). IsUnderway call test from p (record attempt { pages = now })) (sym (part_still attempt.crossings.caller old new gains.stays.config gains.counts.history gains.mine gains.stays.records))
+        subst (λ (p : Part). IsCallUnderway call test from p (record attempt { pages = now })) (sym (part_still attempt.crossings.caller old new gains.stays.config gains.counts.history gains.mine gains.stays.records))
         (underway_with now attempt.asked (gains.tables u.tables))
 
-    pub comes_device : (new : Sight) (need : Need) (before pages : PagesState) (now : Attempt) → Gathers old new ticket need before pages gathered.Device → Comes call test attempt.crossings.caller from (part_of new attempt.crossings.caller) now (came.Answered reply.Device)
+    pub comes_device : (new : Sight) (need : Need) (before pages : PagesState) (now : Attempt) → GathersInSight old new ticket need before pages gathered.Device → Comes call test attempt.crossings.caller from (part_of new attempt.crossings.caller) now (came.Answered reply.Device)
     comes_device new need before pages now gathers =
         let made : Answers attempt.crossings.caller stood.0.flight reply.Device old new = subst (λ n. Answers n stood.0.flight reply.Device old new) own_ticket (gathers.1 stood.0.flight (ap (λ n. (old.seats n).flight) own_ticket ∙ stood.0.here)) in
         answered_by call test from old attempt u new stood.0.flight reply.Device is_flight stood.0.answered made
 
-    pub comes_stale : (new : Sight) (block : ℕ) → Finishes old new ticket attempt.pages call (finished.Stale block) → Comes call test attempt.crossings.caller from (part_of new attempt.crossings.caller) (going_in attempt ticket) came.On
+    pub comes_stale : (new : Sight) (block : ℕ) → FinishesInSight old new ticket attempt.pages call (finished.Stale block) → Comes call test attempt.crossings.caller from (part_of new attempt.crossings.caller) (going_in attempt ticket) came.On
     comes_stale new block finishes =
         let stale = subst (λ n. IsStale n old new attempt.pages) own_ticket finishes.1 in
-        subst (λ (p : Part). IsUnderway call test from p (going_in attempt ticket)) (sym (part_still attempt.crossings.caller old new stale.stays.config stale.counts.history stale.mine stale.stays.records))
+        subst (λ (p : Part). IsCallUnderway call test from p (going_in attempt ticket)) (sym (part_still attempt.crossings.caller old new stale.stays.config stale.counts.history stale.mine stale.stays.records))
         (record { config = u.config; within = u.within; most = u.most; ordinal = u.ordinal; counts = u.counts; begun = u.begun; stands = stood; tables = tt; struck = u.struck })
 
     comes_logged : (new : Sight) → Logs ticket.caller old new ticket → Comes call test attempt.crossings.caller from (part_of new attempt.crossings.caller) (record attempt { at = at.Logged ticket }) came.On
@@ -129,7 +129,7 @@ module _ (call : Call) (test : Option (Crossing → Bool)) (from : Part) (old : 
           ordinal_is = was.ordinal;
           call_is = was.call_is;
         } in
-        let now : IsFlying attempt.crossings.caller call from (part_of new attempt.crossings.caller) flight = record {
+        let now : FlightIsCall attempt.crossings.caller call from (part_of new attempt.crossings.caller) flight = record {
           call_is = was.call_is;
           ordinal = was.ordinal;
           begun = ap (λ (s : Seat). s.begun) logs.mine ∙ was.ordinal;
@@ -144,47 +144,47 @@ module _ (call : Call) (test : Option (Crossing → Bool)) (from : Part) (old : 
           begun = subst (IsBegunIf attempt.crossings.caller call from (part_of new attempt.crossings.caller)) (sym (ap (λ (s : Seat). s.flight) logs.mine)) now;
           stands = (record { flight = flight; here = ap (λ (s : Seat). s.flight) logs.mine; mine = mine; ordinal = ordinal; moment = moment; answered = refl }, own_ticket);
           tables = subst (λ (l : Limits). HasTablesFor l.callers attempt.pages) (sym logs.stays.config) u.tables;
-          struck = subst (IsStruck test attempt.crossings from.struck) (sym (struck_still attempt.crossings.caller old new logs.stays.records)) u.struck;
+          struck = subst (StruckSoFar test attempt.crossings from.struck) (sym (struck_still attempt.crossings.caller old new logs.stays.records)) u.struck;
         }
 
-    pub comes_sealed : (new : Sight) → Finishes old new ticket attempt.pages call finished.Logged → Comes call test attempt.crossings.caller from (part_of new attempt.crossings.caller) (record attempt { at = at.Logged ticket }) came.On
+    pub comes_sealed : (new : Sight) → FinishesInSight old new ticket attempt.pages call finished.Logged → Comes call test attempt.crossings.caller from (part_of new attempt.crossings.caller) (record attempt { at = at.Logged ticket }) came.On
     comes_sealed new finishes =
         let of = finishes.2 in
-        subst (λ (p : Part). IsUnderway call test from p (record attempt { at = at.Logged ticket })) (sym (sealed_part (is_due of.logged.config.threshold of.logged.ops call) attempt.crossings.caller of.logged new of.seals)) (comes_logged of.logged of.logs)
+        subst (λ (p : Part). IsCallUnderway call test from p (record attempt { at = at.Logged ticket })) (sym (sealed_part (is_due of.logged.config.threshold of.logged.ops call) attempt.crossings.caller of.logged new of.seals)) (comes_logged of.logged of.logs)
 
     -- the call in flight is that one
     pub call_at : IsCallOf (old.seats ticket.caller) call
     call_at flight here = (flying call test from old attempt u flight (ap (λ n. (old.seats n).flight) (sym own_ticket) ∙ here)).call_is
 
     -- what was performed is what the flight is finished with
-    pub ready_at : (ready : Ready) → Performs attempt.pages ticket.caller call ticket.moment (performed.Ready ready) → IsReadyAt old ticket attempt.pages ready
+    pub ready_at : (ready : Ready) → PerformsOver attempt.pages ticket.caller call ticket.moment (performed.Ready ready) → IsReadyAt old ticket attempt.pages ready
     ready_at ready performs = λ flight here.
         let flight_here : (old.seats attempt.crossings.caller).flight ≡ Some flight = ap (λ n. (old.seats n).flight) (sym own_ticket) ∙ here in
         let is = flying call test from old attempt u flight flight_here in
         let same : Some stood.0.flight ≡ Some flight = sym stood.0.here ∙ flight_here in
         let moment : ticket.moment ≡ flight.moment = cc (stood.0.moment) in
-        subst (λ m. Performs attempt.pages ticket.caller flight.call m (performed.Ready ready)) moment (subst (λ (c : Call). Performs attempt.pages ticket.caller c ticket.moment (performed.Ready ready)) (sym is.call_is) performs)
+        subst (λ m. PerformsOver attempt.pages ticket.caller flight.call m (performed.Ready ready)) moment (subst (λ (c : Call). PerformsOver attempt.pages ticket.caller c ticket.moment (performed.Ready ready)) (sym is.call_is) performs)
 
   -- ---- with its entry
 
   module _ (ticket : Ticket) (logged : attempt.at ≡ at.Logged ticket) where
-    pub stood_logged : HasTicket true (old.seats attempt.crossings.caller) ticket × (ticket.caller ≡ attempt.crossings.caller)
-    stood_logged = subst (StandsAt attempt.crossings.caller (old.seats attempt.crossings.caller)) logged u.stands
+    pub stood_logged : SeatHasTicket true (old.seats attempt.crossings.caller) ticket × (ticket.caller ≡ attempt.crossings.caller)
+    stood_logged = subst (PlaceStands attempt.crossings.caller (old.seats attempt.crossings.caller)) logged u.stands
 
-    pub has_logged : HasTicket true (old.seats ticket.caller) ticket
-    has_logged = subst (λ n. HasTicket true (old.seats n) ticket) (sym stood_logged.1) stood_logged.0
+    pub has_logged : SeatHasTicket true (old.seats ticket.caller) ticket
+    has_logged = subst (λ n. SeatHasTicket true (old.seats n) ticket) (sym stood_logged.1) stood_logged.0
 
     pub own_logged : ticket.caller ≡ attempt.crossings.caller
     own_logged = stood_logged.1
 
     pub comes_left : (new : Sight) (now : Attempt) (answer : Reply) → LeavesWith old new ticket (left.Left answer) → Comes call test attempt.crossings.caller from (part_of new attempt.crossings.caller) now (came.Answered answer)
-    comes_left new now answer leaves = answered_leaves call test from old attempt u new leaves.1.0 answer (subst (λ n. Leaves n leaves.1.0 old new) own_logged leaves.1.1)
+    comes_left new now answer leaves = answered_leaves call test from old attempt u new leaves.1.0 answer (subst (λ n. EndsFlight n leaves.1.0 old new) own_logged leaves.1.1)
         (subst (λ n. IsReplyIn (own old.history n) leaves.1.0.ordinal answer) own_logged (own_reply old.history ticket.caller leaves.1.0.ordinal answer leaves.1.2))
 
 -- ---- what it leaves to the others
 
 module _ (old new : Sight) (ticket : Ticket) (caller : ℕ) (mine : ticket.caller ≡ caller) where
-  pub moves_gathers : (need : Need) (before now : PagesState) (answer : Gathered) → HasTicket false (old.seats ticket.caller) ticket → Gathers old new ticket need before now answer → Moves caller old new
+  pub moves_gathers : (need : Need) (before now : PagesState) (answer : Gathered) → SeatHasTicket false (old.seats ticket.caller) ticket → GathersInSight old new ticket need before now answer → MovesPart caller old new
   moves_gathers need before now (gathered.Skip was is) has gathers = moves_nothing old new caller gathers.1
   moves_gathers need before now gathered.Device has gathers =
       let made : Answers caller has.flight reply.Device old new = subst (λ n. Answers n has.flight reply.Device old new) mine (gathers.1 has.flight has.here) in
@@ -192,7 +192,7 @@ module _ (old new : Sight) (ticket : Ticket) (caller : ℕ) (mine : ticket.calle
   moves_gathers need before now gathered.NoMemory has gathers = moves_nothing old new caller gathers.0
   moves_gathers need before now gathered.Done has gathers = let gains = subst (λ n. Gains n old new need before now) mine gathers.1 in moves_stays caller old new gains.stays gains.counts.history (gathers_undue old new ticket need before now gathered.Done has gathers)
 
-  pub moves_finishes : (pages : PagesState) (made : Call) (answer : Finished) → undue_in new ≤ undue_in old → Finishes old new ticket pages made answer → Moves caller old new
+  pub moves_finishes : (pages : PagesState) (made : Call) (answer : Finished) → undue_in new ≤ undue_in old → FinishesInSight old new ticket pages made answer → MovesPart caller old new
   moves_finishes pages made (finished.Skip was is) seals finishes = moves_nothing old new caller finishes.1
   moves_finishes pages made (finished.Busy holder) seals finishes = moves_nothing old new caller finishes.3
   moves_finishes pages made (finished.Stale block) seals finishes = let stale = subst (λ n. IsStale n old new pages) mine finishes.1 in moves_stays caller old new stale.stays stale.counts.history seals
@@ -203,7 +203,7 @@ module _ (old new : Sight) (ticket : Ticket) (caller : ℕ) (mine : ticket.calle
       sealed_moves (is_due of.logged.config.threshold of.logged.ops made) caller old of.logged new of.seals seals
       (moves_entry caller old of.logged (entry_of caller logs.flight logs.pick logs.answer) logs.stays refl logs.history (logs_undue caller old of.logged ticket logs))
 
-  pub moves_left : (answer : Reply) → LeavesWith old new ticket (left.Left answer) → Moves caller old new
+  pub moves_left : (answer : Reply) → LeavesWith old new ticket (left.Left answer) → MovesPart caller old new
   moves_left answer leaves =
-      let gone = subst (λ n. Leaves n leaves.1.0 old new) mine leaves.1.1 in
+      let gone = subst (λ n. EndsFlight n leaves.1.0 old new) mine leaves.1.1 in
       moves_stays caller old new gone.stays gone.counts.history (leaves_undue old new ticket (left.Left answer) leaves)

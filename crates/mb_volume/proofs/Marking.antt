@@ -14,11 +14,11 @@ use Rattle.mb_kinds.specs.declared.faults.Ticket.{Ticket}
 use Rattle.mb_kinds.specs.declared.replies.Reply.{Reply}
 use Rattle.mb_kinds.specs.declared.replies.Reply.TheVariants as reply
 use Rattle.mb_run.proofs.TallyRecords.{counted_stays, counted_there}
-use Rattle.mb_run.specs.Events.{Begins, Enters, FaultsWith, IsUnplain}
+use Rattle.mb_run.specs.Events.{BeginsFlight, EntersInSight, FaultsWith, IsUnplain}
 use Rattle.mb_run.specs.Pages.{has}
-use Rattle.mb_run.specs.Recovering.{GoOn, Steps, Strikes}
+use Rattle.mb_run.specs.Recovering.{GoOn, Steps, StrikesStep}
 use Rattle.mb_run.specs.Seals.{is_plain}
-use Rattle.mb_run.specs.Served.{AreCounts, counted}
+use Rattle.mb_run.specs.Served.{AreSixCounts, counted}
 use Rattle.mb_run.specs.Sights.{Seat, Sight}
 use Rattle.mb_run.specs.Tallies.{HasFinished, count_of, is_logged}
 use Rattle.mb_run.specs.declared.answers.Enter.TheVariants as enter
@@ -28,8 +28,8 @@ use Rattle.mb_run.specs.declared.runner.At.{At}
 use Rattle.mb_run.specs.declared.runner.At.TheVariants as at
 use Rattle.mb_volume.specs.Attempts.{KeepsCrossings, back_out, going_in}
 use Rattle.mb_volume.specs.Called.{is_on_way}
-use Rattle.mb_volume.specs.Passed.{HasEntry, HasPassed, HasPassedAt, IsCalm, IsPastEnter, IsPastLeave, KeepsOwn, Marks, PassedBy}
-use Rattle.mb_volume.specs.Underway.{HoldsTicket, LacksEntry, StandsAt, rolled}
+use Rattle.mb_volume.specs.Passed.{FlightHasEntry, HasPassed, HasPassedAt, IsCalm, IsPastEnter, IsPastLeave, KeepsOwn, MarksPoints, PassedBy}
+use Rattle.mb_volume.specs.Underway.{PlaceHoldsTicket, FlightLacksEntry, PlaceStands, rolled}
 use Rattle.mb_volume.specs.declared.attempt.Attempt.{Attempt}
 use Rattle.mb_volume.specs.declared.events.Came.TheVariants as came
 use Rattle.mb_volume.specs.declared.events.Event.TheVariants as event
@@ -49,7 +49,7 @@ on_low Replay on = absurd (let both : false ≡ true = on in cc)
 abbrev pub Grown : Crossings → Crossings → Type 0
 Grown one other = (kind : Kind) → is_on_way kind ≡ true → count_of one kind ≢ 0 → count_of other kind ≢ 0
 
-pub grown_counted : (crossings : Crossings) (kind : Kind) → AreCounts crossings → Grown crossings (counted crossings kind)
+pub grown_counted : (crossings : Crossings) (kind : Kind) → AreSixCounts crossings → Grown crossings (counted crossings kind)
 grown_counted crossings kind are other on some = counted_stays crossings kind are other some
 
 pub grown_kept : (before now : Crossings) → KeepsOwn before now → Grown before now
@@ -79,7 +79,7 @@ passed_on flight before crossings grown passed = passed_at flight before crossin
 pub keeps_same : (before now : Crossings) → now ≡ before → KeepsOwn before now
 keeps_same before now same = subst (KeepsOwn before) (sym same) (record { caller = refl; ordinal = refl; counts = λ kind on. refl })
 
-keeps_counted : (before now : Crossings) (kind : Kind) → AreCounts before → 4 ≤ place_of kind → now ≡ counted before kind → KeepsOwn before now
+keeps_counted : (before now : Crossings) (kind : Kind) → AreSixCounts before → 4 ≤ place_of kind → now ≡ counted before kind → KeepsOwn before now
 keeps_counted before now kind are late same = subst (KeepsOwn before) (sym same) (record {
   caller = refl;
   ordinal = refl;
@@ -88,7 +88,7 @@ keeps_counted before now kind are late same = subst (KeepsOwn before) (sym same)
 
 -- ---- whether the call has its entry
 
-pub lacks_entry : (flight : Option Flight) → LacksEntry flight → HasEntry flight → ⊥
+pub lacks_entry : (flight : Option Flight) → FlightLacksEntry flight → FlightHasEntry flight → ⊥
 lacks_entry None lacks has = has
 lacks_entry (Some flight) lacks has = let both : true ≡ false = sym has ∙ lacks in cc
 
@@ -105,20 +105,20 @@ unplain_not (reply.Failed faults) is plain = let both : false ≡ true = plain i
 
 module _ (old new : Sight) (attempt : Attempt) where
   -- the call enters
-  pub passed_done : (call : Call) (answer : Reply) → attempt.at ≡ at.Outside → Enters old new attempt.crossings.caller call (enter.Done answer) → HasPassed (old.seats attempt.crossings.caller).flight attempt
+  pub passed_done : (call : Call) (answer : Reply) → attempt.at ≡ at.Outside → EntersInSight old new attempt.crossings.caller call (enter.Done answer) → HasPassed (old.seats attempt.crossings.caller).flight attempt
       → is_plain answer ≡ true → IsPastLeave attempt.crossings
   passed_done call answer outside enters passed plain = elim enters [
-    | inl left ↦ (subst (HasPassedAt (old.seats attempt.crossings.caller).flight attempt) outside passed) (subst HasEntry (sym left.1.was) left.1.answered)
+    | inl left ↦ (subst (HasPassedAt (old.seats attempt.crossings.caller).flight attempt) outside passed) (subst FlightHasEntry (sym left.1.was) left.1.answered)
     | inr made ↦ absurd (unplain_not answer made.1 plain)
   ]
 
-  pub passed_shut : (flight : Flight) → attempt.at ≡ at.Outside → flight.answered ≡ false → Begins attempt.crossings.caller flight old new → HasPassed (new.seats attempt.crossings.caller).flight attempt
+  pub passed_shut : (flight : Flight) → attempt.at ≡ at.Outside → flight.answered ≡ false → BeginsFlight attempt.crossings.caller flight old new → HasPassed (new.seats attempt.crossings.caller).flight attempt
   passed_shut flight outside lacks begins =
-      subst (HasPassedAt (new.seats attempt.crossings.caller).flight attempt) (sym outside) (λ has. absurd (lacks_entry (Some flight) lacks (subst HasEntry (ap (λ (s : Seat). s.flight) begins.mine) has)))
+      subst (HasPassedAt (new.seats attempt.crossings.caller).flight attempt) (sym outside) (λ has. absurd (lacks_entry (Some flight) lacks (subst FlightHasEntry (ap (λ (s : Seat). s.flight) begins.mine) has)))
 
   -- a call without its entry has to enter again
-  pub passed_back : new ≡ old → LacksEntry (old.seats attempt.crossings.caller).flight → HasPassed (new.seats attempt.crossings.caller).flight (back_out attempt)
-  passed_back same lacks = λ has. absurd (lacks_entry (old.seats attempt.crossings.caller).flight lacks (subst (λ (s : Sight). HasEntry (s.seats attempt.crossings.caller).flight) same has))
+  pub passed_back : new ≡ old → FlightLacksEntry (old.seats attempt.crossings.caller).flight → HasPassed (new.seats attempt.crossings.caller).flight (back_out attempt)
+  passed_back same lacks = λ has. absurd (lacks_entry (old.seats attempt.crossings.caller).flight lacks (subst (λ (s : Sight). FlightHasEntry (s.seats attempt.crossings.caller).flight) same has))
 
   module _ (ticket : Ticket) (inside : attempt.at ≡ at.Inside ticket) (passed : HasPassed (old.seats attempt.crossings.caller).flight attempt) where
     entered : IsPastEnter attempt
@@ -143,24 +143,24 @@ module _ (old new : Sight) (attempt : Attempt) where
   passed_left ticket logged passed asked = record { finished = subst (HasPassedAt (old.seats attempt.crossings.caller).flight attempt) logged passed; leaves = asked }
 
   -- the call is struck
-  struck_at : (a : At) (ticket : Ticket) (passed : Crossings) → HoldsTicket a ticket → StandsAt attempt.crossings.caller (old.seats attempt.crossings.caller) a → (is_logged a ≡ 1 → IsPastLeave passed)
-      → HasEntry (old.seats attempt.crossings.caller).flight → IsPastLeave passed
+  struck_at : (a : At) (ticket : Ticket) (passed : Crossings) → PlaceHoldsTicket a ticket → PlaceStands attempt.crossings.caller (old.seats attempt.crossings.caller) a → (is_logged a ≡ 1 → IsPastLeave passed)
+      → FlightHasEntry (old.seats attempt.crossings.caller).flight → IsPastLeave passed
   struck_at at.Outside ticket passed holds stands asked has = absurd holds
-  struck_at (at.Inside mine) ticket passed holds stands asked has = absurd (lacks_entry (old.seats attempt.crossings.caller).flight (subst LacksEntry (sym stands.0.here) stands.0.answered) has)
+  struck_at (at.Inside mine) ticket passed holds stands asked has = absurd (lacks_entry (old.seats attempt.crossings.caller).flight (subst FlightLacksEntry (sym stands.0.here) stands.0.answered) has)
   struck_at (at.Logged mine) ticket passed holds stands asked has = asked refl
 
   struck_seat : (ticket : Ticket) (kind : Kind) (nth : ℕ) (answer : Fault) → FaultsWith old new ticket kind nth answer → new.seats attempt.crossings.caller ≡ old.seats attempt.crossings.caller
   struck_seat ticket kind nth (fault.Skip mine was) faults = ap (λ (s : Sight). s.seats attempt.crossings.caller) faults.1
   struck_seat ticket kind nth (fault.Struck number) faults = faults.1.seats attempt.crossings.caller
 
-  pub passed_struck : (ticket : Ticket) (kind : Kind) (nth : ℕ) (answer : Fault) (passed : Crossings) → HoldsTicket attempt.at ticket → StandsAt attempt.crossings.caller (old.seats attempt.crossings.caller) attempt.at
+  pub passed_struck : (ticket : Ticket) (kind : Kind) (nth : ℕ) (answer : Fault) (passed : Crossings) → PlaceHoldsTicket attempt.at ticket → PlaceStands attempt.crossings.caller (old.seats attempt.crossings.caller) attempt.at
       → FaultsWith old new ticket kind nth answer → (is_logged attempt.at ≡ 1 → IsPastLeave passed) → HasPassed (new.seats attempt.crossings.caller).flight (back_out (record attempt { crossings = passed }))
-  passed_struck ticket kind nth answer passed holds stands faults asked = λ has. struck_at attempt.at ticket passed holds stands asked (subst (λ (s : Seat). HasEntry s.flight) (struck_seat ticket kind nth answer faults) has)
+  passed_struck ticket kind nth answer passed holds stands faults asked = λ has. struck_at attempt.at ticket passed holds stands asked (subst (λ (s : Seat). FlightHasEntry s.flight) (struck_seat ticket kind nth answer faults) has)
 
 -- ---- a step of a recovery that a call runs
 
-module _ (test : Option (Crossing → Bool)) (old new : Sight) (attempt : Attempt) (are : AreCounts attempt.crossings) where
-  struck_keeps : (crossings : Crossings) → Strikes test attempt.crossings crossings old new → KeepsOwn attempt.crossings crossings
+module _ (test : Option (Crossing → Bool)) (old new : Sight) (attempt : Attempt) (are : AreSixCounts attempt.crossings) where
+  struck_keeps : (crossings : Crossings) → StrikesStep test attempt.crossings crossings old new → KeepsOwn attempt.crossings crossings
   struck_keeps crossings strikes = keeps_counted attempt.crossings crossings strikes.fault.kind are (elim strikes.next.point [
     | inl remount ↦ (let is = ap place_of remount.1 in omega (arith, is))
     | inr replay ↦ (let is = ap place_of replay in omega (arith, is))
@@ -212,19 +212,19 @@ by_rolled seat attempt (stepped.Again faults) goes = goes tt
 by_rolled seat attempt stepped.Device goes = λ plain. absurd (let both : false ≡ true = plain in cc)
 by_rolled seat attempt stepped.NoMemory goes = tt
 
-module _ (test : Option (Crossing → Bool)) (old new : Sight) (attempt : Attempt) (are : AreCounts attempt.crossings) where
+module _ (test : Option (Crossing → Bool)) (old new : Sight) (attempt : Attempt) (are : AreSixCounts attempt.crossings) where
   -- with the crossings that are kept
   pub marks_rolled : (by : Option Crossings) (now : Attempt) (answer : Stepped) → answer ≢ stepped.Idle → GoOn (Some attempt.crossings) by → KeepsCrossings attempt by now → Steps test (Some attempt.crossings) by old new answer
-      → Marks event.Recover (old.seats attempt.crossings.caller) (new.seats attempt.crossings.caller) attempt now (rolled answer)
+      → MarksPoints event.Recover (old.seats attempt.crossings.caller) (new.seats attempt.crossings.caller) attempt now (rolled answer)
   marks_rolled None now answer busy on keeps steps = absurd on
   marks_rolled (Some crossings) now answer busy on keeps steps =
-      subst (λ (a : Attempt). Marks event.Recover (old.seats attempt.crossings.caller) (new.seats attempt.crossings.caller) attempt a (rolled answer)) (sym keeps) (record {
+      subst (λ (a : Attempt). MarksPoints event.Recover (old.seats attempt.crossings.caller) (new.seats attempt.crossings.caller) attempt a (rolled answer)) (sym keeps) (record {
         passes = λ asked passed. by_rolled (new.seats attempt.crossings.caller) (record attempt { crossings = crossings }) answer (λ calm. step_passes test old new attempt are crossings answer busy steps passed calm);
         crosses = λ calm. step_keeps test old new attempt are crossings answer busy steps calm;
       })
 
   -- no recovery was in progress
-  pub marks_idle : new ≡ old → Marks event.Recover (old.seats attempt.crossings.caller) (new.seats attempt.crossings.caller) attempt attempt came.On
+  pub marks_idle : new ≡ old → MarksPoints event.Recover (old.seats attempt.crossings.caller) (new.seats attempt.crossings.caller) attempt attempt came.On
   marks_idle same = record {
     passes = λ asked passed. subst (λ (s : Sight). HasPassed (s.seats attempt.crossings.caller).flight attempt) (sym same) passed;
     crosses = λ calm. keeps_same attempt.crossings attempt.crossings refl;

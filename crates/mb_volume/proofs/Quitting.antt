@@ -15,7 +15,7 @@ use Rattle.mb_turn.specs.Passes.{Begins}
 use Rattle.mb_volume_core.proofs.Leaving.{gone, has_open_call, quit_origin, quits_by}
 use Rattle.mb_volume_core.proofs.Origins.{origin_of}
 use Rattle.mb_volume_core.proofs.Staying.{seat_now}
-use Rattle.mb_volume.specs.Parts.{Moves, Part, part_of, stand_in}
+use Rattle.mb_volume.specs.Parts.{MovesPart, Part, part_of, stand_in}
 use Rattle.mb_volume.specs.Underway.{IsLeftOff}
 use Rattle.mb_volume.proofs.Changing.{is_declared, moves_stays, stands_declared}
 use Rattle.mb_volume.proofs.Entered.{struck_still}
@@ -54,7 +54,7 @@ module _ {F D : Type 0} (saw now : CoreState F D) (caller mine begun ordinal : �
     pub quit_from : origin_of new ≡ origin_of now
     quit_from = quit_origin now mine quit_open.0.mine quit_open.0.here new made
 
-    pub quit_moves : Moves mine (sight_of now) (sight_of new)
+    pub quit_moves : MovesPart mine (sight_of now) (sight_of new)
     quit_moves = moves_stays mine (sight_of now) (sight_of new) quits.stays quits.history (quits_undue mine (sight_of now) (sight_of new) quits)
 
     begun_still : ((sight_of new).seats mine).begun ≡ ((sight_of now).seats mine).begun

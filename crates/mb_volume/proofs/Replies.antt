@@ -11,7 +11,7 @@ use Rattle.mb_kinds.specs.declared.replies.Reply.{Reply}
 use Rattle.mb_core_spec.specs.Numbers.{AreInOrder, CanFollow}
 use Rattle.mb_run.proofs.Lists.{all_map}
 use Rattle.mb_run.specs.Events.{IsReplyOf}
-use Rattle.mb_volume.specs.Underway.{AddsEntry, AreRising, IsReplyIn}
+use Rattle.mb_volume.specs.Underway.{AddsEntry, OrdinalsRise, IsReplyIn}
 
 all_at : {X : Type 0} (P : X → Type 0) (xs : List X) (x : X) (k : ℕ) → AllByRecursion P xs → k < length xs → slice_index_or xs k x ≡ x → P x
 all_at P [] x k all low is = absurd (omega (arith, low))
@@ -40,29 +40,29 @@ rises_after (next ∷ later) entry caller mine follow =
       | false ↦ λ other. rises_after later entry caller mine follow.1
     ] refl
 
-pub own_rises : (history : List Entry) (caller : ℕ) → AreInOrder history → AreRising (own history caller)
+pub own_rises : (history : List Entry) (caller : ℕ) → AreInOrder history → OrdinalsRise (own history caller)
 own_rises [] caller pairs = tt
 own_rises (entry ∷ later) caller pairs =
-    elim (nat_eq entry.caller caller) as (λ b. nat_eq entry.caller caller ≡ b → AreRising (cond b (entry ∷ own later caller) (own later caller))) [
+    elim (nat_eq entry.caller caller) as (λ b. nat_eq entry.caller caller ≡ b → OrdinalsRise (cond b (entry ∷ own later caller) (own later caller))) [
       | true ↦ λ same. (rises_after later entry caller (eqb-true entry.caller caller same) pairs.0, own_rises later caller pairs.1)
       | false ↦ λ other. own_rises later caller pairs.1
     ] refl
 
-before_last : (entries : List Entry) (entry : Entry) → AreRising (entries ++ entry ∷ []) → AllByRecursion (λ (one : Entry). one.ordinal < entry.ordinal) entries
+before_last : (entries : List Entry) (entry : Entry) → OrdinalsRise (entries ++ entry ∷ []) → AllByRecursion (λ (one : Entry). one.ordinal < entry.ordinal) entries
 before_last [] entry rises = tt
 before_last (one ∷ entries) entry rises = (all_last (λ (next : Entry). one.ordinal < next.ordinal) entries entry rises.0, before_last entries entry rises.1)
 
 -- the entry with the last one's ordinal is that one
-pub last_of : (entries : List Entry) (entry one : Entry) → AreRising (entries ++ entry ∷ []) → Contains (entries ++ entry ∷ []) one → one.ordinal ≡ entry.ordinal → entry ≡ one
+pub last_of : (entries : List Entry) (entry one : Entry) → OrdinalsRise (entries ++ entry ∷ []) → Contains (entries ++ entry ∷ []) one → one.ordinal ≡ entry.ordinal → entry ≡ one
 last_of entries entry one rises there same = elim (Contains-push_cases entries entry one there) [
   | inl earlier ↦ absurd (omega (arith, same, all_contains (λ (e : Entry). e.ordinal < entry.ordinal) entries one (before_last entries entry rises) earlier))
   | inr is ↦ is
 ]
 
 -- so the reply of the call is that of the entry that came
-pub reply_of : (caller ordinal : ℕ) (call : Call) (from now : List Entry) (answer : Reply) → AreRising now → (added : AddsEntry caller ordinal call from now) → IsReplyIn now ordinal answer → added.entry.reply ≡ answer
+pub reply_of : (caller ordinal : ℕ) (call : Call) (from now : List Entry) (answer : Reply) → OrdinalsRise now → (added : AddsEntry caller ordinal call from now) → IsReplyIn now ordinal answer → added.entry.reply ≡ answer
 reply_of caller ordinal call from now answer rises added is =
-    ap (λ (e : Entry). e.reply) (last_of from added.entry is.entry (subst AreRising added.whole rises) (subst (λ es. Contains es is.entry) added.whole is.there) (is.ordinal_is ∙ sym added.ordinal_is)) ∙ is.reply_is
+    ap (λ (e : Entry). e.reply) (last_of from added.entry is.entry (subst OrdinalsRise added.whole rises) (subst (λ es. Contains es is.entry) added.whole is.there) (is.ordinal_is ∙ sym added.ordinal_is)) ∙ is.reply_is
 
 -- ---- an entry of a caller in the history is one of its own
 

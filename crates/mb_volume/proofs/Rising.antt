@@ -23,12 +23,12 @@ use Rattle.mb_kinds.specs.declared.faults.Kind.{Kind}
 use Rattle.mb_kinds.specs.declared.faults.Ticket.{Ticket}
 use Rattle.mb_kinds.specs.declared.replies.Reply.{Reply}
 use Rattle.mb_run.proofs.Rising.{rises_none, rises_one, rises_then}
-use Rattle.mb_run.specs.Events.{Enters, FaultsWith, Finishes, Gathers, LeavesWith, SealsIf}
+use Rattle.mb_run.specs.Events.{EntersInSight, FaultsWith, FinishesInSight, GathersInSight, LeavesWith, SealsIf}
 use Rattle.mb_run.specs.Rising.{RisesWith}
 use Rattle.mb_run.specs.Seals.{is_due}
-use Rattle.mb_run.specs.Sights.{HasTicket, Sight}
+use Rattle.mb_run.specs.Sights.{SeatHasTicket, Sight}
 use Rattle.mb_run.specs.declared.answers.Enter.TheVariants as enter
-use Rattle.mb_volume.specs.Parts.{Moves, Part, part_of}
+use Rattle.mb_volume.specs.Parts.{MovesPart, Part, part_of}
 use Rattle.mb_volume.specs.Rising.{RisesAfter}
 
 -- ---- events that leave the fault records as they are
@@ -36,10 +36,10 @@ use Rattle.mb_volume.specs.Rising.{RisesAfter}
 pub nothing_still : (old new : Sight) → new ≡ old → new.records ≡ old.records
 nothing_still old new same = ap (λ (s : Sight). s.records) same
 
-pub done_still : (old new : Sight) (caller : ℕ) (call : Call) (answer : Reply) → Enters old new caller call (enter.Done answer) → new.records ≡ old.records
+pub done_still : (old new : Sight) (caller : ℕ) (call : Call) (answer : Reply) → EntersInSight old new caller call (enter.Done answer) → new.records ≡ old.records
 done_still old new caller call answer enters = elim enters [ inl left ↦ left.1.stays.records | inr made ↦ made.2.stays.records ]
 
-pub gathers_still : (old new : Sight) (ticket : Ticket) (need : Need) (before now : PagesState) (answer : Gathered) → HasTicket false (old.seats ticket.caller) ticket → Gathers old new ticket need before now answer → new.records ≡ old.records
+pub gathers_still : (old new : Sight) (ticket : Ticket) (need : Need) (before now : PagesState) (answer : Gathered) → SeatHasTicket false (old.seats ticket.caller) ticket → GathersInSight old new ticket need before now answer → new.records ≡ old.records
 gathers_still old new ticket need before now (gathered.Skip was is) has gathers = nothing_still old new gathers.1
 gathers_still old new ticket need before now gathered.Device has gathers = (gathers.1 has.flight has.here).stays.records
 gathers_still old new ticket need before now gathered.NoMemory has gathers = nothing_still old new gathers.0
@@ -49,7 +49,7 @@ sealed_still : (b : Bool) (old new : Sight) → SealsIf b old new → new.record
 sealed_still true old new seals = ap (λ (s : Sight). s.records) seals
 sealed_still false old new seals = ap (λ (s : Sight). s.records) seals
 
-pub finishes_still : (old new : Sight) (ticket : Ticket) (pages : PagesState) (made : Call) (answer : Finished) → Finishes old new ticket pages made answer → new.records ≡ old.records
+pub finishes_still : (old new : Sight) (ticket : Ticket) (pages : PagesState) (made : Call) (answer : Finished) → FinishesInSight old new ticket pages made answer → new.records ≡ old.records
 finishes_still old new ticket pages made (finished.Skip was is) finishes = nothing_still old new finishes.1
 finishes_still old new ticket pages made (finished.Busy holder) finishes = nothing_still old new finishes.3
 finishes_still old new ticket pages made (finished.Stale block) finishes = finishes.1.stays.records
@@ -89,7 +89,7 @@ records_own (fault ∷ more) caller theirs =
     ap (λ b. cond b (fault ∷ records_of more caller) (records_of more caller)) (eq-eqb fault.caller caller theirs.0) ∙ ap (λ rs. fault ∷ rs) (records_own more caller theirs.1)
 
 -- all that came are its own
-pub rises_own : (before now : ℕ) (old new : Sight) (caller : ℕ) → Moves caller old new → RisesWith before now old.records new.records → RisesWith before now (part_of old caller).struck (part_of new caller).struck
+pub rises_own : (before now : ℕ) (old new : Sight) (caller : ℕ) → MovesPart caller old new → RisesWith before now old.records new.records → RisesWith before now (part_of old caller).struck (part_of new caller).struck
 rises_own before now old new caller moves rises =
     let whole : length new.records ≡ length old.records + length moves.more = ap (λ (rs : List FaultRecord). length rs) moves.records ∙ length-append old.records moves.more in
     let longer = rises.longer in
@@ -104,7 +104,7 @@ rises_own before now old new caller moves rises =
     }
 
 -- as the caller saw its part before it had the turn
-pub rises_held : (before count : ℕ) (saw now new : Sight) (caller mine : ℕ) → mine ≡ caller → part_of now mine ≡ part_of saw caller → Moves mine now new → RisesWith before count now.records new.records
+pub rises_held : (before count : ℕ) (saw now new : Sight) (caller mine : ℕ) → mine ≡ caller → part_of now mine ≡ part_of saw caller → MovesPart mine now new → RisesWith before count now.records new.records
     → RisesWith before count (part_of saw caller).struck (part_of new caller).struck
 rises_held before count saw now new caller mine same part moves rises =
     let own = rises_own before count now new mine moves rises in

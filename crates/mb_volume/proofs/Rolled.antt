@@ -7,13 +7,13 @@ use Rattle.mb_kinds.specs.Own.{own}
 use Rattle.mb_kinds.specs.declared.calls.Call.{Call}
 use Rattle.mb_kinds.specs.declared.replies.Reply.TheVariants as reply
 use Rattle.mb_run.specs.Events.{Answers, entry_of}
-use Rattle.mb_run.specs.Recovering.{GoOn, GoesOn, RunsFor, Steps, Strikes, Waits}
+use Rattle.mb_run.specs.Recovering.{GoOn, CrossingsGoOn, RunsForFlight, Steps, StrikesStep, Waits}
 use Rattle.mb_run.specs.Sights.{IsWaiting, Sight}
 use Rattle.mb_run.specs.declared.answers.Stepped.{Stepped}
 use Rattle.mb_run.specs.declared.answers.Stepped.TheVariants as stepped
 use Rattle.mb_volume.specs.Attempts.{KeepsCrossings}
-use Rattle.mb_volume.specs.Parts.{Moves, Part, part_of}
-use Rattle.mb_volume.specs.Underway.{AddsEntryIf, Comes, IsFlying, IsUnderway, LacksEntry, rolled}
+use Rattle.mb_volume.specs.Parts.{MovesPart, Part, part_of}
+use Rattle.mb_volume.specs.Underway.{AddsEntryIf, Comes, FlightIsCall, IsCallUnderway, FlightLacksEntry, rolled}
 use Rattle.mb_volume.specs.declared.attempt.Attempt.{Attempt}
 use Rattle.mb_volume.specs.declared.events.Came.TheVariants as came
 use Rattle.mb_run.proofs.Undue.{entry_undue, waits_undue}
@@ -23,11 +23,11 @@ use Rattle.mb_volume.proofs.Faulted.{underway_on, underway_struck}
 use Rattle.mb_volume.proofs.Inside.{part_still}
 use Rattle.mb_volume.proofs.Standing.{IsFlight, flying}
 
-module _ (call : Call) (test : Option (Crossing → Bool)) (from : Part) (old : Sight) (attempt : Attempt) (u : IsUnderway call test from (part_of old attempt.crossings.caller) attempt) (waiting : IsWaiting (old.seats attempt.crossings.caller)) where
-  flies : IsFlying attempt.crossings.caller call from (part_of old attempt.crossings.caller) waiting.0
+module _ (call : Call) (test : Option (Crossing → Bool)) (from : Part) (old : Sight) (attempt : Attempt) (u : IsCallUnderway call test from (part_of old attempt.crossings.caller) attempt) (waiting : IsWaiting (old.seats attempt.crossings.caller)) where
+  flies : FlightIsCall attempt.crossings.caller call from (part_of old attempt.crossings.caller) waiting.0
   flies = flying call test from old attempt u waiting.0 waiting.1
 
-  pub runs_for : RunsFor old attempt.crossings
+  pub runs_for : RunsForFlight old attempt.crossings
   runs_for = (waiting.0, waiting.1, waiting.2, u.ordinal ∙ sym flies.ordinal)
 
   is_flight : IsFlight call from (part_of old attempt.crossings.caller) waiting.0
@@ -40,20 +40,20 @@ module _ (call : Call) (test : Option (Crossing → Bool)) (from : Part) (old : 
   waits_still : (new : Sight) → Waits old new → IsWaiting (new.seats attempt.crossings.caller)
   waits_still new waits = subst IsWaiting (sym (waits.seats attempt.crossings.caller)) waiting
 
-  module _ (crossings : Crossings) (on : GoesOn attempt.crossings crossings) where
+  module _ (crossings : Crossings) (on : CrossingsGoOn attempt.crossings crossings) where
     -- nobody was struck
-    underway_waits : (new : Sight) → Waits old new → new.records ≡ old.records → IsUnderway call test from (part_of new attempt.crossings.caller) (record attempt { crossings = crossings })
+    underway_waits : (new : Sight) → Waits old new → new.records ≡ old.records → IsCallUnderway call test from (part_of new attempt.crossings.caller) (record attempt { crossings = crossings })
     underway_waits new waits records =
-        subst (λ (p : Part). IsUnderway call test from p (record attempt { crossings = crossings })) (sym (part_still attempt.crossings.caller old new waits.config waits.counts.history (waits.seats attempt.crossings.caller) records))
+        subst (λ (p : Part). IsCallUnderway call test from p (record attempt { crossings = crossings })) (sym (part_still attempt.crossings.caller old new waits.config waits.counts.history (waits.seats attempt.crossings.caller) records))
         (underway_on call test from (part_of old attempt.crossings.caller) attempt u crossings on)
 
-    underway_strikes : (new : Sight) → Strikes test attempt.crossings crossings old new → IsUnderway call test from (part_of new attempt.crossings.caller) (record attempt { crossings = crossings })
+    underway_strikes : (new : Sight) → StrikesStep test attempt.crossings crossings old new → IsCallUnderway call test from (part_of new attempt.crossings.caller) (record attempt { crossings = crossings })
     underway_strikes new strikes =
         underway_struck call test from old attempt u new crossings strikes.fault waiting.0 waiting.1 on strikes.taken strikes.waits.config strikes.waits.counts.history (strikes.waits.seats attempt.crossings.caller) strikes.records
 
     comes_rolled : (new : Sight) (answer : Stepped) → Steps test (Some attempt.crossings) (Some crossings) old new answer
         → Comes call test attempt.crossings.caller from (part_of new attempt.crossings.caller) (record attempt { crossings = crossings }) (rolled answer)
-    comes_rolled new stepped.Idle steps = subst (λ (s : Sight). IsUnderway call test from (part_of s attempt.crossings.caller) (record attempt { crossings = crossings })) (sym steps.1) (underway_on call test from (part_of old attempt.crossings.caller) attempt u crossings on)
+    comes_rolled new stepped.Idle steps = subst (λ (s : Sight). IsCallUnderway call test from (part_of s attempt.crossings.caller) (record attempt { crossings = crossings })) (sym steps.1) (underway_on call test from (part_of old attempt.crossings.caller) attempt u crossings on)
     comes_rolled new (stepped.Unwound ticket) steps = (underway_waits new steps.1.waits steps.1.records, waits_still new steps.1.waits)
     comes_rolled new (stepped.Failed faults) steps = elim steps.1 [ inl plain ↦ underway_waits new plain.1 plain.0 | inr strikes ↦ underway_strikes new strikes ]
     comes_rolled new stepped.Dropped steps = (underway_waits new steps.1.waits steps.1.records, waits_still new steps.1.waits)
@@ -65,7 +65,7 @@ module _ (call : Call) (test : Option (Crossing → Bool)) (from : Part) (old : 
     comes_rolled new stepped.Device steps = answered_by call test from old attempt u new waiting.0 reply.Device is_flight waiting.2 (steps.1 waiting.0 waiting.1)
     comes_rolled new stepped.NoMemory steps =
         subst (λ (s : Sight). Comes call test attempt.crossings.caller from (part_of s attempt.crossings.caller) (record attempt { crossings = crossings }) came.NoMemory) (sym steps)
-        (underway_on call test from (part_of old attempt.crossings.caller) attempt u crossings on, subst LacksEntry (sym waiting.1) waiting.2)
+        (underway_on call test from (part_of old attempt.crossings.caller) attempt u crossings on, subst FlightLacksEntry (sym waiting.1) waiting.2)
 
   -- ---- with the crossings that are kept
 
@@ -78,14 +78,14 @@ module _ (call : Call) (test : Option (Crossing → Bool)) (from : Part) (old : 
 -- ---- what it leaves to the others
 
 module _ (test : Option (Crossing → Bool)) (old : Sight) (attempt : Attempt) (waiting : IsWaiting (old.seats attempt.crossings.caller)) where
-  module _ (crossings : Crossings) (on : GoesOn attempt.crossings crossings) where
-    moves_strikes : (new : Sight) → Strikes test attempt.crossings crossings old new → Moves attempt.crossings.caller old new
+  module _ (crossings : Crossings) (on : CrossingsGoOn attempt.crossings crossings) where
+    moves_strikes : (new : Sight) → StrikesStep test attempt.crossings crossings old new → MovesPart attempt.crossings.caller old new
     moves_strikes new strikes = moves_records attempt.crossings.caller old new (strikes.fault ∷ []) strikes.waits.config strikes.waits.seats strikes.waits.counts.history strikes.records (strikes.taken.caller, tt) (waits_undue old new strikes.waits)
 
-    moves_waits : (new : Sight) → Waits old new → new.records ≡ old.records → Moves attempt.crossings.caller old new
+    moves_waits : (new : Sight) → Waits old new → new.records ≡ old.records → MovesPart attempt.crossings.caller old new
     moves_waits new waits records = moves_records attempt.crossings.caller old new [] waits.config waits.seats waits.counts.history (records ∙ sym (append-nil old.records)) tt (waits_undue old new waits)
 
-    moves_rolled : (new : Sight) (answer : Stepped) → Steps test (Some attempt.crossings) (Some crossings) old new answer → Moves attempt.crossings.caller old new
+    moves_rolled : (new : Sight) (answer : Stepped) → Steps test (Some attempt.crossings) (Some crossings) old new answer → MovesPart attempt.crossings.caller old new
     moves_rolled new stepped.Idle steps = moves_nothing old new attempt.crossings.caller steps.1
     moves_rolled new (stepped.Unwound ticket) steps = moves_waits new steps.1.waits steps.1.records
     moves_rolled new (stepped.Failed faults) steps = elim steps.1 [ inl plain ↦ moves_waits new plain.1 plain.0 | inr strikes ↦ moves_strikes new strikes ]
@@ -105,6 +105,6 @@ module _ (test : Option (Crossing → Bool)) (old : Sight) (attempt : Attempt) (
   same_caller None now on keeps = absurd on
   same_caller (Some crossings) now on keeps = ap (λ (a : Attempt). a.crossings.caller) keeps ∙ on.caller
 
-  pub moves_by : (new : Sight) (by : Option Crossings) (answer : Stepped) → GoOn (Some attempt.crossings) by → Steps test (Some attempt.crossings) by old new answer → Moves attempt.crossings.caller old new
+  pub moves_by : (new : Sight) (by : Option Crossings) (answer : Stepped) → GoOn (Some attempt.crossings) by → Steps test (Some attempt.crossings) by old new answer → MovesPart attempt.crossings.caller old new
   moves_by new None answer on steps = absurd on
   moves_by new (Some crossings) answer on steps = moves_rolled crossings on new answer steps

@@ -23,7 +23,7 @@ use Rattle.mb_run.specs.CoreSight.{sight_of}
 use Rattle.mb_run.specs.Sights.{Limits}
 use Rattle.mb_volume.specs.Called.{AreOfFirst, IsAnsweredWith, SaysOfFaults, SaysOfLimit, is_own, own_faults}
 use Rattle.mb_volume.specs.Parts.{Part, part_of}
-use Rattle.mb_volume.specs.Underway.{Brings, Comes, IsAnswered, IsTold, SaysOfTwice}
+use Rattle.mb_volume.specs.Underway.{Brings, Comes, HasItsAnswer, IsTold, SaysOfTwice}
 use Rattle.mb_volume.specs.declared.attempt.Attempt.{Attempt}
 use Rattle.mb_volume.specs.declared.events.Came.{Came}
 use Rattle.mb_volume.specs.declared.events.Came.TheVariants as came
@@ -129,7 +129,7 @@ says_faults begun ordinal before more struck is whole theirs (reply.Restart firs
     ∙ ap (λ fs. fs ++ filter (λ (fault : FaultRecord). nat_eq fault.ordinal ordinal) more) (no_earlier before ordinal begun is early) ∙ all_kept more ordinal theirs in
     subst (λ fs. 2 ≤ length (own_faults fs)) kept says
 
-told_answer : (call : Call) (test : Option (Crossing → Bool)) (caller : ℕ) (from now : Part) (answer : Reply) → IsTold now → IsAnswered call test caller from now answer → IsAnsweredWith call test caller from now answer
+told_answer : (call : Call) (test : Option (Crossing → Bool)) (caller : ℕ) (from now : Part) (answer : Reply) → IsTold now → HasItsAnswer call test caller from now answer → IsAnsweredWith call test caller from now answer
 told_answer call test caller from now answer told is =
     let same = reply_of caller (from.seat.begun + 1) call from.entries now.entries answer told.rises is.entry is.reply in
     let twice : SaysOfTwice is.entry.entry.ordinal now.struck is.entry.entry.reply = all_last (λ (e : Entry). SaysOfTwice e.ordinal now.struck e.reply) from.entries is.entry.entry (subst (AllByRecursion (λ (e : Entry). SaysOfTwice e.ordinal now.struck e.reply)) is.entry.whole told.twice) in

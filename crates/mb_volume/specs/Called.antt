@@ -59,7 +59,7 @@ pub record IsAnsweredWith (call : Call) (test : Option (Crossing → Bool)) (cal
   pub limit : SaysOfLimit old.config.limit answer
 
 -- the call met want of memory: it has no entry, and began once at most
-pub record IsGivenUp (test : Option (Crossing → Bool)) (caller : ℕ) (old now : Part) : Type 0 where
+pub record CallIsGivenUp (test : Option (Crossing → Bool)) (caller : ℕ) (old now : Part) : Type 0 where
   pub entries : now.entries ≡ old.entries
   pub free : now.seat.flight ≡ None
   pub begun : old.seat.begun ≤ now.seat.begun
@@ -77,13 +77,13 @@ is_on_way kind.Replay = false
 is_on_way _ = true
 
 -- where the test holds of a call's first fault point of a kind, the count of faults rose
-abbrev pub TakesFirst : Option (Crossing → Bool) → ℕ → ℕ → ℕ → ℕ → Kind → Type 0
-TakesFirst test caller ordinal before now kind = IfSome test (λ fires. fires (record { caller = caller; ordinal = ordinal; kind = kind; nth = 1 }) ≡ true → Rose before now)
+abbrev pub RisesAtFirst : Option (Crossing → Bool) → ℕ → ℕ → ℕ → ℕ → Kind → Type 0
+RisesAtFirst test caller ordinal before now kind = IfSome test (λ fires. fires (record { caller = caller; ordinal = ordinal; kind = kind; nth = 1 }) ≡ true → Rose before now)
 
 -- so it is of each kind on its way
 abbrev pub TakesFirsts : Option (Crossing → Bool) → ℕ → ℕ → ℕ → ℕ → Type 0
-TakesFirsts test caller ordinal before now = (kind : Kind) → is_on_way kind ≡ true → TakesFirst test caller ordinal before now kind
+TakesFirsts test caller ordinal before now = (kind : Kind) → is_on_way kind ≡ true → RisesAtFirst test caller ordinal before now kind
 
 -- of the caller's next call, where it was answered with a plain reply
-abbrev pub TakesFaults : Option (Crossing → Bool) → ℕ → Part → ℕ → ℕ → Reply → Type 0
-TakesFaults test caller old before now answer = is_plain answer ≡ true → TakesFirsts test caller (old.seat.begun + 1) before now
+abbrev pub TakesPlannedFaults : Option (Crossing → Bool) → ℕ → Part → ℕ → ℕ → Reply → Type 0
+TakesPlannedFaults test caller old before now answer = is_plain answer ≡ true → TakesFirsts test caller (old.seat.begun + 1) before now

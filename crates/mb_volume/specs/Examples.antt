@@ -2,7 +2,7 @@
 use Rattle.std.specs.Prelude.{◌≡◌, ◌&&◌, nat_eq, Bool, false, Some}
 use Rattle.mb_edge.specs.declared.crossings.Crossing.{Crossing}
 use Rattle.mb_kinds.specs.declared.faults.Kind.TheVariants.{Gather, Leave, Remount}
-use Rattle.mb_volume.specs.Called.{TakesFirst, TakesFirsts, is_on_way}
+use Rattle.mb_volume.specs.Called.{RisesAtFirst, TakesFirsts, is_on_way}
 
 -- a plan with one rule: caller 1's second call is struck at its first fault point
 abbrev pub second_call : Crossing → Bool
@@ -12,8 +12,8 @@ second_call at = nat_eq at.caller 1 && nat_eq at.ordinal 2 && nat_eq at.nth 1
 abbrev pub WorkedFirsts : Type 0
 WorkedFirsts =
     TakesFirsts (Some second_call) 1 2 5 6
-    × (TakesFirst (Some second_call) 1 2 5 5 Gather → ⊥)
-    × (TakesFirst (Some second_call) 1 2 5 5 Leave → ⊥)
+    × (RisesAtFirst (Some second_call) 1 2 5 5 Gather → ⊥)
+    × (RisesAtFirst (Some second_call) 1 2 5 5 Leave → ⊥)
     × TakesFirsts (Some second_call) 0 2 5 5
     × TakesFirsts (Some second_call) 1 3 5 5
     × (is_on_way Remount ≡ false)

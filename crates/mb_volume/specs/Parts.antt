@@ -29,7 +29,7 @@ stand_in sight caller = stand_if (nat_lt caller sight.config.callers) (sight.sea
 
 -- what one caller's event changes: entries and fault records of that caller come, no other caller's call changes, and no checkpoint is
 -- taken but where one is due
-pub record Moves (caller : ℕ) (old new : Sight) : Type 0 where
+pub record MovesPart (caller : ℕ) (old new : Sight) : Type 0 where
   pub config : new.config ≡ old.config
   pub seats : (other : ℕ) → other ≢ caller → new.seats other ≡ old.seats other
   pub entries : Continues caller old.history new.history

@@ -13,7 +13,7 @@ use Rattle.mb_run.specs.Seals.{is_plain}
 use Rattle.mb_run.specs.Tallies.{HasFinished, count_of, is_logged}
 use Rattle.mb_run.specs.declared.runner.At.{At}
 use Rattle.mb_run.specs.declared.runner.At.TheVariants as at
-use Rattle.mb_volume.specs.Called.{TakesFirst, TakesFirsts, is_on_way}
+use Rattle.mb_volume.specs.Called.{RisesAtFirst, TakesFirsts, is_on_way}
 use Rattle.mb_volume.specs.declared.attempt.Attempt.{Attempt}
 use Rattle.mb_volume.specs.declared.events.Came.{Came}
 use Rattle.mb_volume.specs.declared.events.Came.TheVariants as came
@@ -22,9 +22,9 @@ use Rattle.mb_volume.specs.declared.events.Event.TheVariants as event
 
 -- ---- by where the call stands
 
-abbrev pub HasEntry : Option Flight → Type 0
-HasEntry None = ⊥
-HasEntry (Some flight) = flight.answered ≡ true
+abbrev pub FlightHasEntry : Option Flight → Type 0
+FlightHasEntry None = ⊥
+FlightHasEntry (Some flight) = flight.answered ≡ true
 
 -- a call inside was where it entered; where it gathered, if it has the tables; and where it finishes, if that was asked
 pub record IsPastEnter (attempt : Attempt) : Type 0 where
@@ -39,7 +39,7 @@ pub record IsPastLeave (crossings : Crossings) : Type 0 where
 
 -- a call that is outside with its entry was where it leaves
 abbrev pub HasPassedAt : Option Flight → Attempt → At → Type 0
-HasPassedAt flight attempt at.Outside = HasEntry flight → IsPastLeave attempt.crossings
+HasPassedAt flight attempt at.Outside = FlightHasEntry flight → IsPastLeave attempt.crossings
 HasPassedAt flight attempt (at.Inside ticket) = IsPastEnter attempt
 HasPassedAt flight attempt (at.Logged ticket) = HasFinished attempt.crossings
 
@@ -66,10 +66,10 @@ abbrev pub EnteredBy : Seat → Attempt → Came → Type 0
 EnteredBy seat attempt (came.Inside ticket) = (attempt.pages ≡ no_pages) × (attempt.asked ≡ false)
 EnteredBy seat attempt came = PassedBy seat attempt came
 
-abbrev pub Passes : Event → Seat → Seat → Attempt → Attempt → Came → Type 0
-Passes event.Enter old new before now came = HasPassed old.flight before → EnteredBy new now came
-Passes (event.Fault ticket crossing passed) old new before now came = IsAskedFor (event.Fault ticket crossing passed) before → PassedBy new now came
-Passes event old new before now came = IsAskedFor event before → HasPassed old.flight before → PassedBy new now came
+abbrev pub PassesPoints : Event → Seat → Seat → Attempt → Attempt → Came → Type 0
+PassesPoints event.Enter old new before now came = HasPassed old.flight before → EnteredBy new now came
+PassesPoints (event.Fault ticket crossing passed) old new before now came = IsAskedFor (event.Fault ticket crossing passed) before → PassedBy new now came
+PassesPoints event old new before now came = IsAskedFor event before → HasPassed old.flight before → PassedBy new now came
 
 -- no fault point on the call's way was counted
 pub record KeepsOwn (before now : Crossings) : Type 0 where
@@ -90,13 +90,13 @@ Crosses event.Recover before now came = IsCalm came → KeepsOwn before now
 Crosses _ before now came = now ≡ before
 
 -- what an event does to the fault points that its call passed; `was` and `is` are the seats of its caller
-pub record Marks (event : Event) (was is : Seat) (before now : Attempt) (came : Came) : Type 0 where
-  pub passes : Passes event was is before now came
+pub record MarksPoints (event : Event) (was is : Seat) (before now : Attempt) (came : Came) : Type 0 where
+  pub passes : PassesPoints event was is before now came
   pub crosses : Crosses event before.crossings now.crossings came
 
 -- the same by sights of a core
 abbrev pub MarksSeen : Event → Sight → Sight → Attempt → Attempt → Came → Type 0
-MarksSeen event old new before now came = Marks event (old.seats before.crossings.caller) (new.seats before.crossings.caller) before now came
+MarksSeen event old new before now came = MarksPoints event (old.seats before.crossings.caller) (new.seats before.crossings.caller) before now came
 
 -- ---- since the call began, when the count of faults was `first`
 
@@ -104,7 +104,7 @@ pub record HasHeard (test : Option (Crossing → Bool)) (caller ordinal first no
   pub caller_is : crossings.caller ≡ caller
   pub ordinal_is : crossings.ordinal ≡ ordinal
   pub later : first ≤ now
-  pub taken : (kind : Kind) → is_on_way kind ≡ true → count_of crossings kind ≢ 0 → TakesFirst test caller ordinal first now kind
+  pub taken : (kind : Kind) → is_on_way kind ≡ true → count_of crossings kind ≢ 0 → RisesAtFirst test caller ordinal first now kind
 
 pub record IsHeard (test : Option (Crossing → Bool)) (caller ordinal first now : ℕ) (seat : Seat) (attempt : Attempt) : Type 0 where
   pub heard : HasHeard test caller ordinal first now attempt.crossings

@@ -8,7 +8,7 @@ use Rattle.mb_run.specs.CoreSight.{sight_of}
 use Rattle.mb_run.specs.Sights.{IsWaiting, Sight, undue_in}
 use Rattle.mb_turn.specs.Passes.{IsIdle, Known}
 use Rattle.mb_volume.specs.Parts.{Part, part_of}
-use Rattle.mb_volume.specs.Underway.{IsUnderway}
+use Rattle.mb_volume.specs.Underway.{IsCallUnderway}
 use Rattle.mb_volume.specs.declared.attempt.Attempt.{Attempt}
 use Rattle.mb_volume.specs.Shared.{Shared}
 
@@ -34,5 +34,5 @@ module _ {F D : Type 0} where
   pub record IsMaking (call : Call) (test : Option (Crossing → Bool)) (pass : Known (Shared F D)) (attempt : Attempt) (shut : Bool) : Type 0 where
     pub caller : attempt.crossings.caller ≡ pass.caller
     pub from : Part
-    pub underway : IsUnderway call test from (part_in pass) attempt
+    pub underway : IsCallUnderway call test from (part_in pass) attempt
     pub waits : shut ≡ true → IsWaiting (part_in pass).seat

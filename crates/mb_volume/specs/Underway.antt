@@ -13,9 +13,9 @@ use Rattle.mb_kinds.specs.declared.replies.Reply.{Reply}
 use Rattle.mb_kinds.specs.declared.replies.Reply.TheVariants as reply
 use Rattle.mb_calls.specs.declared.performing.Performed.TheVariants as performed
 use Rattle.mb_core_spec.specs.Copies.{PagesState}
-use Rattle.mb_run.specs.Pages.{GrowsBy, HasTablesFor, Performs, has}
-use Rattle.mb_run.specs.Served.{AreCounts, AreSound, IsCounted, counted}
-use Rattle.mb_run.specs.Sights.{HasTicket, IsWaiting, Seat, Sight}
+use Rattle.mb_run.specs.Pages.{PagesGrowBy, HasTablesFor, PerformsOver, has}
+use Rattle.mb_run.specs.Served.{AreSixCounts, AreSound, IsCounted, counted}
+use Rattle.mb_run.specs.Sights.{SeatHasTicket, IsWaiting, Seat, Sight}
 use Rattle.mb_run.specs.declared.answers.Stepped.{Stepped}
 use Rattle.mb_run.specs.declared.answers.Stepped.TheVariants as stepped
 use Rattle.mb_run.specs.declared.runner.At.{At}
@@ -41,7 +41,7 @@ AddsEntryIf true caller ordinal call from now = AddsEntry caller ordinal call fr
 AddsEntryIf false caller ordinal call from now = now ≡ from
 
 -- the fault records of the call so far: each at a crossing that was counted
-pub record IsStruck (test : Option (Crossing → Bool)) (crossings : Crossings) (from now : List FaultRecord) : Type 0 where
+pub record StruckSoFar (test : Option (Crossing → Bool)) (crossings : Crossings) (from now : List FaultRecord) : Type 0 where
   pub more : List FaultRecord
   pub whole : now ≡ from ++ more
   pub theirs : AllByRecursion (λ (fault : FaultRecord). (fault.caller ≡ crossings.caller) × (fault.ordinal ≡ crossings.ordinal)) more
@@ -49,7 +49,7 @@ pub record IsStruck (test : Option (Crossing → Bool)) (crossings : Crossings) 
   pub sound : AreSound test more
 
 -- the call in flight is this one
-pub record IsFlying (caller : ℕ) (call : Call) (from now : Part) (flight : Flight) : Type 0 where
+pub record FlightIsCall (caller : ℕ) (call : Call) (from now : Part) (flight : Flight) : Type 0 where
   pub call_is : flight.call ≡ call
   pub ordinal : flight.ordinal ≡ from.seat.begun + 1
   pub begun : now.seat.begun ≡ from.seat.begun + 1
@@ -58,28 +58,28 @@ pub record IsFlying (caller : ℕ) (call : Call) (from now : Part) (flight : Fli
 -- the call did not begin, or is in flight
 abbrev pub IsBegunIf : ℕ → Call → Part → Part → Option Flight → Type 0
 IsBegunIf caller call from now None = (now.seat.begun ≡ from.seat.begun) × (now.entries ≡ from.entries) × (now.struck ≡ from.struck)
-IsBegunIf caller call from now (Some flight) = IsFlying caller call from now flight
+IsBegunIf caller call from now (Some flight) = FlightIsCall caller call from now flight
 
 -- the ticket that the caller has
-abbrev pub StandsAt : ℕ → Seat → At → Type 0
-StandsAt caller seat at.Outside = Unit {0}
-StandsAt caller seat (at.Inside ticket) = HasTicket false seat ticket × (ticket.caller ≡ caller)
-StandsAt caller seat (at.Logged ticket) = HasTicket true seat ticket × (ticket.caller ≡ caller)
+abbrev pub PlaceStands : ℕ → Seat → At → Type 0
+PlaceStands caller seat at.Outside = Unit {0}
+PlaceStands caller seat (at.Inside ticket) = SeatHasTicket false seat ticket × (ticket.caller ≡ caller)
+PlaceStands caller seat (at.Logged ticket) = SeatHasTicket true seat ticket × (ticket.caller ≡ caller)
 
 -- from the part as it was before the call, and as it is now
-pub record IsUnderway (call : Call) (test : Option (Crossing → Bool)) (from now : Part) (attempt : Attempt) : Type 0 where
+pub record IsCallUnderway (call : Call) (test : Option (Crossing → Bool)) (from now : Part) (attempt : Attempt) : Type 0 where
   pub config : now.config ≡ from.config
   pub within : attempt.crossings.caller < from.config.callers
   pub most : from.seat.begun < from.config.most
   pub ordinal : attempt.crossings.ordinal ≡ from.seat.begun + 1
-  pub counts : AreCounts attempt.crossings
+  pub counts : AreSixCounts attempt.crossings
   pub begun : IsBegunIf attempt.crossings.caller call from now now.seat.flight
-  pub stands : StandsAt attempt.crossings.caller now.seat attempt.at
+  pub stands : PlaceStands attempt.crossings.caller now.seat attempt.at
   pub tables : HasTablesFor now.config.callers attempt.pages
-  pub struck : IsStruck test attempt.crossings from.struck now.struck
+  pub struck : StruckSoFar test attempt.crossings from.struck now.struck
 
 abbrev pub IsOn : Call → Part → Attempt → Type 0
-IsOn call now attempt = (test : Option (Crossing → Bool)) × (from : Part) × IsUnderway call test from now attempt
+IsOn call now attempt = (test : Option (Crossing → Bool)) × (from : Part) × IsCallUnderway call test from now attempt
 
 -- a call that is given up met two faults of its own
 abbrev pub SaysOfTwice : ℕ → List FaultRecord → Reply → Type 0
@@ -87,9 +87,9 @@ SaysOfTwice ordinal struck (reply.Restart first second) = 2 ≤ length (own_faul
 SaysOfTwice ordinal struck _ = Unit {0}
 
 -- each entry has a greater ordinal than those before it
-abbrev pub AreRising : List Entry → Type 0
-AreRising [] = Unit {0}
-AreRising (entry ∷ later) = AllByRecursion (λ (next : Entry). entry.ordinal < next.ordinal) later × AreRising later
+abbrev pub OrdinalsRise : List Entry → Type 0
+OrdinalsRise [] = Unit {0}
+OrdinalsRise (entry ∷ later) = AllByRecursion (λ (next : Entry). entry.ordinal < next.ordinal) later × OrdinalsRise later
 
 -- an entry of that call has this reply
 pub record IsReplyIn (entries : List Entry) (ordinal : ℕ) (answer : Reply) : Type 0 where
@@ -99,7 +99,7 @@ pub record IsReplyIn (entries : List Entry) (ordinal : ℕ) (answer : Reply) : T
   pub reply_is : entry.reply ≡ answer
 
 -- the call was answered, as the core has it
-pub record IsAnswered (call : Call) (test : Option (Crossing → Bool)) (caller : ℕ) (from now : Part) (answer : Reply) : Type 0 where
+pub record HasItsAnswer (call : Call) (test : Option (Crossing → Bool)) (caller : ℕ) (from now : Part) (answer : Reply) : Type 0 where
   pub config : now.config ≡ from.config
   pub seat : now.seat ≡ record { begun = from.seat.begun + 1; flight = None }
   pub entry : AddsEntry caller (from.seat.begun + 1) call from.entries now.entries
@@ -107,9 +107,9 @@ pub record IsAnswered (call : Call) (test : Option (Crossing → Bool)) (caller 
   pub suffers : Suffers test caller from now
 
 -- it has no entry
-abbrev pub LacksEntry : Option Flight → Type 0
-LacksEntry None = Unit {0}
-LacksEntry (Some flight) = flight.answered ≡ false
+abbrev pub FlightLacksEntry : Option Flight → Type 0
+FlightLacksEntry None = Unit {0}
+FlightLacksEntry (Some flight) = flight.answered ≡ false
 
 -- a call in flight without an entry was ended, where it began
 pub record IsLeftOff (ordinal : ℕ) (old now : Part) : Type 0 where
@@ -131,32 +131,32 @@ rolled _ = came.Shut
 
 -- what a hold of the turn came to
 abbrev pub Comes : Call → Option (Crossing → Bool) → ℕ → Part → Part → Attempt → Came → Type 0
-Comes call test caller from now attempt (came.Answered reply) = IsAnswered call test caller from now reply
-Comes call test caller from now attempt (came.Inside ticket) = IsUnderway call test from now attempt × (attempt.at ≡ at.Inside ticket)
-Comes call test caller from now attempt came.On = IsUnderway call test from now attempt
-Comes call test caller from now attempt came.Shut = IsUnderway call test from now attempt × IsWaiting now.seat
-Comes call test caller from now attempt came.Busy = IsUnderway call test from now attempt
-Comes call test caller from now attempt came.NoMemory = IsUnderway call test from now attempt × LacksEntry now.seat.flight
+Comes call test caller from now attempt (came.Answered reply) = HasItsAnswer call test caller from now reply
+Comes call test caller from now attempt (came.Inside ticket) = IsCallUnderway call test from now attempt × (attempt.at ≡ at.Inside ticket)
+Comes call test caller from now attempt came.On = IsCallUnderway call test from now attempt
+Comes call test caller from now attempt came.Shut = IsCallUnderway call test from now attempt × IsWaiting now.seat
+Comes call test caller from now attempt came.Busy = IsCallUnderway call test from now attempt
+Comes call test caller from now attempt came.NoMemory = IsCallUnderway call test from now attempt × FlightLacksEntry now.seat.flight
 
 -- whatever it was before the call
 abbrev pub Goes : Call → Option (Crossing → Bool) → Part → Part → Attempt → Attempt → Came → Type 0
-Goes call test old new before now came = (from : Part) → IsUnderway call test from old before → Comes call test before.crossings.caller from new now came
+Goes call test old new before now came = (from : Part) → IsCallUnderway call test from old before → Comes call test before.crossings.caller from new now came
 
 -- a hold of the turn makes of the core's answer what the caller is told
 abbrev pub Brings : Call → Option (Crossing → Bool) → ℕ → Part → Part → Attempt → Came → Type 0
 Brings call test caller from now attempt (came.Answered reply) = IsAnsweredWith call test caller from now reply
-Brings call test caller from now attempt (came.Inside ticket) = IsUnderway call test from now attempt × (attempt.at ≡ at.Inside ticket)
-Brings call test caller from now attempt came.On = IsUnderway call test from now attempt
-Brings call test caller from now attempt came.Shut = IsUnderway call test from now attempt × IsWaiting now.seat
-Brings call test caller from now attempt came.Busy = IsUnderway call test from now attempt
-Brings call test caller from now attempt came.NoMemory = IsUnderway call test from now attempt × LacksEntry now.seat.flight
+Brings call test caller from now attempt (came.Inside ticket) = IsCallUnderway call test from now attempt × (attempt.at ≡ at.Inside ticket)
+Brings call test caller from now attempt came.On = IsCallUnderway call test from now attempt
+Brings call test caller from now attempt came.Shut = IsCallUnderway call test from now attempt × IsWaiting now.seat
+Brings call test caller from now attempt came.Busy = IsCallUnderway call test from now attempt
+Brings call test caller from now attempt came.NoMemory = IsCallUnderway call test from now attempt × FlightLacksEntry now.seat.flight
 
-abbrev pub Leads : Call → Option (Crossing → Bool) → Part → Part → Attempt → Attempt → Came → Type 0
-Leads call test old new before now came = (from : Part) → IsUnderway call test from old before → Brings call test before.crossings.caller from new now came
+abbrev pub LeadsCallOn : Call → Option (Crossing → Bool) → Part → Part → Attempt → Attempt → Came → Type 0
+LeadsCallOn call test old new before now came = (from : Part) → IsCallUnderway call test from old before → Brings call test before.crossings.caller from new now came
 
 -- what a core in order says of a caller's entries: their ordinals rise, and the replies fit the limit and the fault records
 pub record IsTold (now : Part) : Type 0 where
-  pub rises : AreRising now.entries
+  pub rises : OrdinalsRise now.entries
   pub limit : AllByRecursion (λ (entry : Entry). SaysOfLimit now.config.limit entry.reply) now.entries
   pub twice : AllByRecursion (λ (entry : Entry). SaysOfTwice entry.ordinal now.struck entry.reply) now.entries
 
@@ -172,13 +172,13 @@ abbrev pub GoesUnaskedSeen : Call → Sight → Sight → Attempt → Attempt �
 GoesUnaskedSeen call old new before now came = GoesUnasked call (part_of old before.crossings.caller) (part_of new before.crossings.caller) before now came
 
 -- the place has that ticket
-abbrev pub HoldsTicket : At → Ticket → Type 0
-HoldsTicket at.Outside ticket = ⊥
-HoldsTicket (at.Inside mine) ticket = mine ≡ ticket
-HoldsTicket (at.Logged mine) ticket = mine ≡ ticket
+abbrev pub PlaceHoldsTicket : At → Ticket → Type 0
+PlaceHoldsTicket at.Outside ticket = ⊥
+PlaceHoldsTicket (at.Inside mine) ticket = mine ≡ ticket
+PlaceHoldsTicket (at.Logged mine) ticket = mine ≡ ticket
 
 -- the crossing is the next one of its kind, and the hook faulted there
-pub record IsMet (test : Option (Crossing → Bool)) (struck : Option Crossing) (attempt : Attempt) (crossing : Crossing) (passed : Crossings) : Type 0 where
+pub record IsMetNext (test : Option (Crossing → Bool)) (struck : Option Crossing) (attempt : Attempt) (crossing : Crossing) (passed : Crossings) : Type 0 where
   pub next : crossing ≡ record { caller = attempt.crossings.caller; ordinal = attempt.crossings.ordinal; kind = crossing.kind; nth = next_nth attempt.crossings.counts crossing.kind }
   pub passed_is : passed ≡ counted attempt.crossings crossing.kind
   pub struck_is : struck ≡ Some crossing
@@ -189,12 +189,12 @@ abbrev pub MayCome : Call → Option (Crossing → Bool) → Option Crossing →
 MayCome call test struck seat attempt event.Enter = attempt.at ≡ at.Outside
 MayCome call test struck seat attempt (event.Gather ticket need) = (attempt.at ≡ at.Inside ticket) × (need.first < 262144) × (1 ≤ need.count) × (need.count ≤ 32)
 MayCome call test struck seat attempt (event.Finish ticket ready) =
-    (attempt.at ≡ at.Inside ticket) × (has attempt.pages 0 ≡ true) × Performs attempt.pages ticket.caller call ticket.moment (performed.Ready ready)
+    (attempt.at ≡ at.Inside ticket) × (has attempt.pages 0 ≡ true) × PerformsOver attempt.pages ticket.caller call ticket.moment (performed.Ready ready)
 MayCome call test struck seat attempt (event.Leave ticket) = attempt.at ≡ at.Logged ticket
-MayCome call test struck seat attempt (event.Fault ticket crossing passed) = HoldsTicket attempt.at ticket × IsMet test struck attempt crossing passed
+MayCome call test struck seat attempt (event.Fault ticket crossing passed) = PlaceHoldsTicket attempt.at ticket × IsMetNext test struck attempt crossing passed
 MayCome call test struck seat attempt event.Recover = IsWaiting seat
 
 -- what the caller has after an event: where it gathered, nothing, or more, if it had none of the blocks
 abbrev pub GrowsAfter : Event → PagesState → PagesState → Type 0
-GrowsAfter (event.Gather ticket need) before now = GrowsBy need before now
+GrowsAfter (event.Gather ticket need) before now = PagesGrowBy need before now
 GrowsAfter _ before now = Unit {0}

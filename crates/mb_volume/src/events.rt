@@ -1,15 +1,15 @@
 ghost use Rattle.std.specs.Prelude.{◌≡◌, ◌<◌, ◌≤◌, true};
 ghost use Rattle.mb_calls.specs.declared.performing.Performed.TheVariants as performed;
 ghost use Rattle.mb_edge.specs.declared.hooks.Word.TheVariants as word;
-ghost use Rattle.mb_run.specs.Pages.{GrowsBy, Performs, has};
+ghost use Rattle.mb_run.specs.Pages.{PagesGrowBy, PerformsOver, has};
 ghost use Rattle.mb_run.specs.Rising.{RisesWith};
-ghost use Rattle.mb_run.specs.Sights.{IsOrderly, IsWaiting};
+ghost use Rattle.mb_run.specs.Sights.{IsOrderlyInSight, IsWaiting};
 ghost use Rattle.mb_run.specs.declared.runner.At.TheVariants as at;
-ghost use Rattle.mb_volume.specs.Parts.{Moves, part_of};
+ghost use Rattle.mb_volume.specs.Parts.{MovesPart, part_of};
 ghost use Rattle.mb_volume.specs.Passed.{MarksSeen};
 ghost use Rattle.mb_volume.specs.Rising.{RisesAfter, word_for};
 ghost use Rattle.mb_volume.specs.declared.events.Event.TheVariants as events;
-ghost use Rattle.mb_volume.specs.Underway.{GrowsAfter, HoldsTicket, IsMet, IsOn, MayCome, rolled, GoesSeen, GoesUnaskedSeen};
+ghost use Rattle.mb_volume.specs.Underway.{GrowsAfter, PlaceHoldsTicket, IsMetNext, IsOn, MayCome, rolled, GoesSeen, GoesUnaskedSeen};
 
 use crate::attempt::Attempt;
 use mb_calls::Ready;
@@ -58,14 +58,14 @@ pub(crate) enum Came {
 fn enter<C: EventCore>(alloc: Global, core: &mut C, attempt: &mut Attempt, call: &Call) -> Came
     requires on { IsOn call.now (part_of (C.sight core.old) attempt.old.crossings.caller) attempt.old }
     requires outside { attempt.old.at ≡ at.Outside }
-    requires right { IsOrderly (C.sight core.old) }
+    requires right { IsOrderlyInSight (C.sight core.old) }
     ensures goes { GoesUnaskedSeen call.now (C.sight core.old) (C.sight core.new) attempt.old attempt.new result }
     ensures marks { MarksSeen events.Enter (C.sight core.old) (C.sight core.new) attempt.old attempt.new result }
     ensures same { attempt.new.crossings.caller ≡ attempt.old.crossings.caller }
-    ensures moves { Moves attempt.old.crossings.caller (C.sight core.old) (C.sight core.new) }
+    ensures moves { MovesPart attempt.old.crossings.caller (C.sight core.old) (C.sight core.new) }
     ensures still { (C.sight core.new).records ≡ (C.sight core.old).records }
     ensures origin { C.origin core.new ≡ C.origin core.old }
-    ensures right { IsOrderly (C.sight core.new) }
+    ensures right { IsOrderlyInSight (C.sight core.new) }
 {
     match core.enter(alloc, attempt.crossings.caller, call) {
         Enter::Done(reply) => Came::Answered(reply),
@@ -92,15 +92,15 @@ fn gather<C: EventCore>(
     requires first { need.first < 262144 }
     requires some { 1 ≤ need.count }
     requires count { need.count ≤ 32 }
-    requires right { IsOrderly (C.sight core.old) }
-    ensures grown { GrowsBy need attempt.old.pages attempt.new.pages }
+    requires right { IsOrderlyInSight (C.sight core.old) }
+    ensures grown { PagesGrowBy need attempt.old.pages attempt.new.pages }
     ensures goes { GoesUnaskedSeen call.now (C.sight core.old) (C.sight core.new) attempt.old attempt.new result }
     ensures marks { MarksSeen (events.Gather ticket.now need) (C.sight core.old) (C.sight core.new) attempt.old attempt.new result }
     ensures same { attempt.new.crossings.caller ≡ attempt.old.crossings.caller }
-    ensures moves { Moves attempt.old.crossings.caller (C.sight core.old) (C.sight core.new) }
+    ensures moves { MovesPart attempt.old.crossings.caller (C.sight core.old) (C.sight core.new) }
     ensures still { (C.sight core.new).records ≡ (C.sight core.old).records }
     ensures origin { C.origin core.new ≡ C.origin core.old }
-    ensures right { IsOrderly (C.sight core.new) }
+    ensures right { IsOrderlyInSight (C.sight core.new) }
 {
     let _ = call;
     match core.gather(alloc, ticket, need, &mut attempt.pages) {
@@ -129,15 +129,15 @@ fn finish<C: EventCore>(
     requires on { IsOn call.now (part_of (C.sight core.old) attempt.old.crossings.caller) attempt.old }
     requires inside { attempt.old.at ≡ at.Inside ticket.now }
     requires there { has attempt.old.pages 0 ≡ true }
-    requires ready { Performs attempt.old.pages ticket.now.caller call.now ticket.now.moment (performed.Ready ready) }
-    requires right { IsOrderly (C.sight core.old) }
+    requires ready { PerformsOver attempt.old.pages ticket.now.caller call.now ticket.now.moment (performed.Ready ready) }
+    requires right { IsOrderlyInSight (C.sight core.old) }
     ensures goes { GoesUnaskedSeen call.now (C.sight core.old) (C.sight core.new) attempt.old attempt.new result }
     ensures marks { MarksSeen (events.Finish ticket.now ready) (C.sight core.old) (C.sight core.new) attempt.old attempt.new result }
     ensures same { attempt.new.crossings.caller ≡ attempt.old.crossings.caller }
-    ensures moves { Moves attempt.old.crossings.caller (C.sight core.old) (C.sight core.new) }
+    ensures moves { MovesPart attempt.old.crossings.caller (C.sight core.old) (C.sight core.new) }
     ensures still { (C.sight core.new).records ≡ (C.sight core.old).records }
     ensures origin { C.origin core.new ≡ C.origin core.old }
-    ensures right { IsOrderly (C.sight core.new) }
+    ensures right { IsOrderlyInSight (C.sight core.new) }
 {
     let finished = core.finish(alloc, ticket, &attempt.pages, call, ready);
     match finished {
@@ -165,14 +165,14 @@ fn finish<C: EventCore>(
 fn leave<C: EventCore>(core: &mut C, attempt: &mut Attempt, call: &Call, ticket: &Ticket) -> Came
     requires on { IsOn call.now (part_of (C.sight core.old) attempt.old.crossings.caller) attempt.old }
     requires logged { attempt.old.at ≡ at.Logged ticket.now }
-    requires right { IsOrderly (C.sight core.old) }
+    requires right { IsOrderlyInSight (C.sight core.old) }
     ensures goes { GoesUnaskedSeen call.now (C.sight core.old) (C.sight core.new) attempt.old attempt.new result }
     ensures marks { MarksSeen (events.Leave ticket.now) (C.sight core.old) (C.sight core.new) attempt.old attempt.new result }
     ensures same { attempt.new.crossings.caller ≡ attempt.old.crossings.caller }
-    ensures moves { Moves attempt.old.crossings.caller (C.sight core.old) (C.sight core.new) }
+    ensures moves { MovesPart attempt.old.crossings.caller (C.sight core.old) (C.sight core.new) }
     ensures still { (C.sight core.new).records ≡ (C.sight core.old).records }
     ensures origin { C.origin core.new ≡ C.origin core.old }
-    ensures right { IsOrderly (C.sight core.new) }
+    ensures right { IsOrderlyInSight (C.sight core.new) }
 {
     let _ = call;
     match core.leave(ticket) {
@@ -195,16 +195,16 @@ fn fault<C: EventCore, H: Hook>(
     passed: &Crossings,
 ) -> Came
     requires on { IsOn call.now (part_of (C.sight core.old) attempt.old.crossings.caller) attempt.old }
-    requires holds { HoldsTicket attempt.old.at ticket.now }
-    requires met { IsMet (H.test hook.now) (H.struck hook.now) attempt.old crossing.now passed.now }
-    requires right { IsOrderly (C.sight core.old) }
+    requires holds { PlaceHoldsTicket attempt.old.at ticket.now }
+    requires met { IsMetNext (H.test hook.now) (H.struck hook.now) attempt.old crossing.now passed.now }
+    requires right { IsOrderlyInSight (C.sight core.old) }
     ensures goes { GoesSeen call.now (H.test hook.now) (C.sight core.old) (C.sight core.new) attempt.old attempt.new result }
     ensures marks { MarksSeen (events.Fault ticket.now crossing.now passed.now) (C.sight core.old) (C.sight core.new) attempt.old attempt.new result }
     ensures same { attempt.new.crossings.caller ≡ attempt.old.crossings.caller }
-    ensures moves { Moves attempt.old.crossings.caller (C.sight core.old) (C.sight core.new) }
+    ensures moves { MovesPart attempt.old.crossings.caller (C.sight core.old) (C.sight core.new) }
     ensures rises { RisesAfter word.Fault (H.faults hook.now) (H.faults hook.now) (C.sight core.old).records (C.sight core.new).records }
     ensures origin { C.origin core.new ≡ C.origin core.old }
-    ensures right { IsOrderly (C.sight core.new) }
+    ensures right { IsOrderlyInSight (C.sight core.new) }
 {
     let _ = call;
     let _ = core.fault(ticket, crossing.kind, crossing.nth, hook);
@@ -235,15 +235,15 @@ fn recover<C: EventCore, H: Hook>(
 ) -> Came
     requires on { IsOn call.now (part_of (C.sight core.old) attempt.old.crossings.caller) attempt.old }
     requires waits { IsWaiting ((C.sight core.old).seats attempt.old.crossings.caller) }
-    requires right { IsOrderly (C.sight core.old) }
+    requires right { IsOrderlyInSight (C.sight core.old) }
     ensures goes { GoesSeen call.now (H.test hook.old) (C.sight core.old) (C.sight core.new) attempt.old attempt.new result }
     ensures marks { MarksSeen events.Recover (C.sight core.old) (C.sight core.new) attempt.old attempt.new result }
     ensures same { attempt.new.crossings.caller ≡ attempt.old.crossings.caller }
-    ensures moves { Moves attempt.old.crossings.caller (C.sight core.old) (C.sight core.new) }
+    ensures moves { MovesPart attempt.old.crossings.caller (C.sight core.old) (C.sight core.new) }
     ensures rises { RisesWith (H.faults hook.old) (H.faults hook.new) (C.sight core.old).records (C.sight core.new).records }
     ensures test { H.test hook.new ≡ H.test hook.old }
     ensures origin { C.origin core.new ≡ C.origin core.old }
-    ensures right { IsOrderly (C.sight core.new) }
+    ensures right { IsOrderlyInSight (C.sight core.new) }
 {
     let _ = call;
     let mut by = Some(attempt.crossings);
@@ -270,17 +270,17 @@ pub(crate) fn act<C: EventCore, H: Hook>(
 ) -> Came
     requires on { IsOn call.now (part_of (C.sight core.old) attempt.old.crossings.caller) attempt.old }
     requires may { MayCome call.now (H.test hook.old) (H.struck hook.old) ((C.sight core.old).seats attempt.old.crossings.caller) attempt.old event }
-    requires right { IsOrderly (C.sight core.old) }
+    requires right { IsOrderlyInSight (C.sight core.old) }
     ensures grown { GrowsAfter event attempt.old.pages attempt.new.pages }
     ensures goes { GoesSeen call.now (H.test hook.old) (C.sight core.old) (C.sight core.new) attempt.old attempt.new result }
     ensures marks { MarksSeen event (C.sight core.old) (C.sight core.new) attempt.old attempt.new result }
     ensures same { attempt.new.crossings.caller ≡ attempt.old.crossings.caller }
-    ensures moves { Moves attempt.old.crossings.caller (C.sight core.old) (C.sight core.new) }
+    ensures moves { MovesPart attempt.old.crossings.caller (C.sight core.old) (C.sight core.new) }
     ensures rises { RisesAfter (word_for event) (H.faults hook.old) (H.faults hook.new) (C.sight core.old).records (C.sight core.new).records }
     ensures grows { H.faults hook.old ≤ H.faults hook.new }
     ensures test { H.test hook.new ≡ H.test hook.old }
     ensures origin { C.origin core.new ≡ C.origin core.old }
-    ensures right { IsOrderly (C.sight core.new) }
+    ensures right { IsOrderlyInSight (C.sight core.new) }
 {
     match event {
         Event::Enter => enter(alloc, core, attempt, call),

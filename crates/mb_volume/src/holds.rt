@@ -1,16 +1,16 @@
 ghost use Rattle.std.specs.Prelude.{◌≡◌, ◌<◌, ◌≤◌, true, false, IfNone, IfSome};
 ghost use Rattle.mb_calls.specs.declared.performing.Performed.TheVariants as performed;
-ghost use Rattle.mb_run.specs.Pages.{GrowsBy, IsUnderWay, Performs, has};
+ghost use Rattle.mb_run.specs.Pages.{PagesGrowBy, IsUnderWay, PerformsOver, has};
 ghost use Rattle.mb_run.specs.Rising.{RisesWith};
 ghost use Rattle.mb_run.specs.Served.{counted};
 ghost use Rattle.mb_run.specs.Sights.{IsWaiting};
 ghost use Rattle.mb_run.specs.declared.runner.At.TheVariants as at;
 ghost use Rattle.mb_turn.specs.Passes.{IsIdle};
 ghost use Rattle.mb_volume.specs.Attempts.{new_attempt};
-ghost use Rattle.mb_volume.specs.Passed.{Hears, HearsAt, HearsFault, Marks};
+ghost use Rattle.mb_volume.specs.Passed.{Hears, HearsAt, HearsFault, MarksPoints};
 ghost use Rattle.mb_volume.specs.Passing.{IsLater, IsMaking, part_in};
 ghost use Rattle.mb_volume.specs.Rising.{RisesAfter, word_for};
-ghost use Rattle.mb_volume.specs.Underway.{GrowsAfter, HoldsTicket, IsLeftOff, Leads, MayCome};
+ghost use Rattle.mb_volume.specs.Underway.{GrowsAfter, PlaceHoldsTicket, IsLeftOff, LeadsCallOn, MayCome};
 
 use crate::attempt::Attempt;
 use crate::events::{Came, Event};
@@ -55,8 +55,8 @@ impl<F: FileSys, D: Disk> Volume<F, D> {
         requires may { MayCome call.now (H.test hook.old) (H.struck hook.old) (part_in pass.old).seat attempt.old event }
         ensures grown { GrowsAfter event attempt.old.pages attempt.new.pages }
         ensures later { IsLater self.now.table pass.old pass.new }
-        ensures leads { Leads call.now (H.test hook.old) (part_in pass.old) (part_in pass.new) attempt.old attempt.new result.0 }
-        ensures marks { Marks event (part_in pass.old).seat (part_in pass.new).seat attempt.old attempt.new result.0 }
+        ensures leads { LeadsCallOn call.now (H.test hook.old) (part_in pass.old) (part_in pass.new) attempt.old attempt.new result.0 }
+        ensures marks { MarksPoints event (part_in pass.old).seat (part_in pass.new).seat attempt.old attempt.new result.0 }
         ensures same { attempt.new.crossings.caller ≡ attempt.old.crossings.caller }
         ensures rises { RisesAfter (word_for event) (H.faults hook.old) (H.faults hook.new) (part_in pass.old).struck (part_in pass.new).struck }
         ensures grows { H.faults hook.old ≤ H.faults hook.new }
@@ -85,10 +85,11 @@ impl<F: FileSys, D: Disk> Volume<F, D> {
     ) -> Option<Came>
         requires idle { IsIdle self.now.table pass.old }
         requires making { IsMaking call.now (H.test hook.old) pass.old attempt.old false }
-        requires holds { HoldsTicket attempt.old.at ticket.now }
-        ensures unasked { IfNone result ((pass.new ≡ pass.old) × (attempt.new ≡ record attempt.old { crossings = counted attempt.old.crossings kind })) }
+        requires holds { PlaceHoldsTicket attempt.old.at ticket.now }
+        ensures unasked { IfNone result ((pass.new ≡ pass.old)
+            × (attempt.new ≡ record attempt.old { crossings = counted attempt.old.crossings kind })) }
         ensures later { IsLater self.now.table pass.old pass.new }
-        ensures leads { IfSome result (Leads call.now (H.test hook.old) (part_in pass.old) (part_in pass.new) attempt.old attempt.new) }
+        ensures leads { IfSome result (LeadsCallOn call.now (H.test hook.old) (part_in pass.old) (part_in pass.new) attempt.old attempt.new) }
         ensures passed { IfNone result (HearsAt (H.test hook.old) (H.faults hook.old) (H.faults hook.new) attempt.old.crossings kind) }
         ensures struck { IfSome result (HearsFault (H.test hook.old) (H.faults hook.old) (H.faults hook.new) (part_in pass.new).seat attempt.old attempt.new kind) }
         ensures same { attempt.new.crossings.caller ≡ attempt.old.crossings.caller }
@@ -125,8 +126,9 @@ impl<F: FileSys, D: Disk> Volume<F, D> {
         requires making { IsMaking call.now (H.test hook.old) pass.old attempt.old false }
         requires outside { attempt.old.at ≡ at.Outside }
         ensures later { IsLater self.now.table pass.old pass.new }
-        ensures leads { Leads call.now (H.test hook.old) (part_in pass.old) (part_in pass.new) attempt.old attempt.new result }
-        ensures hears { Hears (H.test hook.old) (H.faults hook.old) (H.faults hook.new) (part_in pass.old).seat (part_in pass.new).seat attempt.old attempt.new result }
+        ensures leads { LeadsCallOn call.now (H.test hook.old) (part_in pass.old) (part_in pass.new) attempt.old attempt.new result }
+        ensures hears { Hears (H.test hook.old) (H.faults hook.old) (H.faults hook.new)
+            (part_in pass.old).seat (part_in pass.new).seat attempt.old attempt.new result }
         ensures same { attempt.new.crossings.caller ≡ attempt.old.crossings.caller }
         ensures rises { RisesWith (H.faults hook.old) (H.faults hook.new) (part_in pass.old).struck (part_in pass.new).struck }
         ensures test { H.test hook.new ≡ H.test hook.old }
@@ -160,10 +162,11 @@ impl<F: FileSys, D: Disk> Volume<F, D> {
         requires making { IsMaking call.now (H.test hook.old) pass.old attempt.old false }
         requires inside { attempt.old.at ≡ at.Inside ticket.now }
         requires need { (need.first < 262144) × (1 ≤ need.count) × (need.count ≤ 32) }
-        ensures grown { IfSome result.1 (λ code. GrowsBy need attempt.old.pages attempt.new.pages) }
+        ensures grown { IfSome result.1 (λ code. PagesGrowBy need attempt.old.pages attempt.new.pages) }
         ensures later { IsLater self.now.table pass.old pass.new }
-        ensures leads { Leads call.now (H.test hook.old) (part_in pass.old) (part_in pass.new) attempt.old attempt.new result.0 }
-        ensures hears { Hears (H.test hook.old) (H.faults hook.old) (H.faults hook.new) (part_in pass.old).seat (part_in pass.new).seat attempt.old attempt.new result.0 }
+        ensures leads { LeadsCallOn call.now (H.test hook.old) (part_in pass.old) (part_in pass.new) attempt.old attempt.new result.0 }
+        ensures hears { Hears (H.test hook.old) (H.faults hook.old) (H.faults hook.new)
+            (part_in pass.old).seat (part_in pass.new).seat attempt.old attempt.new result.0 }
         ensures same { attempt.new.crossings.caller ≡ attempt.old.crossings.caller }
         ensures rises { RisesWith (H.faults hook.old) (H.faults hook.new) (part_in pass.old).struck (part_in pass.new).struck }
         ensures test { H.test hook.new ≡ H.test hook.old }
@@ -193,10 +196,11 @@ impl<F: FileSys, D: Disk> Volume<F, D> {
         requires making { IsMaking call.now (H.test hook.old) pass.old attempt.old false }
         requires inside { attempt.old.at ≡ at.Inside ticket.now }
         requires there { has attempt.old.pages 0 ≡ true }
-        requires ready { Performs attempt.old.pages ticket.now.caller call.now ticket.now.moment (performed.Ready ready) }
+        requires ready { PerformsOver attempt.old.pages ticket.now.caller call.now ticket.now.moment (performed.Ready ready) }
         ensures later { IsLater self.now.table pass.old pass.new }
-        ensures leads { Leads call.now (H.test hook.old) (part_in pass.old) (part_in pass.new) attempt.old attempt.new result }
-        ensures hears { Hears (H.test hook.old) (H.faults hook.old) (H.faults hook.new) (part_in pass.old).seat (part_in pass.new).seat attempt.old attempt.new result }
+        ensures leads { LeadsCallOn call.now (H.test hook.old) (part_in pass.old) (part_in pass.new) attempt.old attempt.new result }
+        ensures hears { Hears (H.test hook.old) (H.faults hook.old) (H.faults hook.new)
+            (part_in pass.old).seat (part_in pass.new).seat attempt.old attempt.new result }
         ensures same { attempt.new.crossings.caller ≡ attempt.old.crossings.caller }
         ensures rises { RisesWith (H.faults hook.old) (H.faults hook.new) (part_in pass.old).struck (part_in pass.new).struck }
         ensures test { H.test hook.new ≡ H.test hook.old }
@@ -228,8 +232,9 @@ impl<F: FileSys, D: Disk> Volume<F, D> {
         requires making { IsMaking call.now (H.test hook.old) pass.old attempt.old false }
         requires logged { attempt.old.at ≡ at.Logged ticket.now }
         ensures later { IsLater self.now.table pass.old pass.new }
-        ensures leads { Leads call.now (H.test hook.old) (part_in pass.old) (part_in pass.new) attempt.old attempt.new result }
-        ensures hears { Hears (H.test hook.old) (H.faults hook.old) (H.faults hook.new) (part_in pass.old).seat (part_in pass.new).seat attempt.old attempt.new result }
+        ensures leads { LeadsCallOn call.now (H.test hook.old) (part_in pass.old) (part_in pass.new) attempt.old attempt.new result }
+        ensures hears { Hears (H.test hook.old) (H.faults hook.old) (H.faults hook.new)
+            (part_in pass.old).seat (part_in pass.new).seat attempt.old attempt.new result }
         ensures same { attempt.new.crossings.caller ≡ attempt.old.crossings.caller }
         ensures rises { RisesWith (H.faults hook.old) (H.faults hook.new) (part_in pass.old).struck (part_in pass.new).struck }
         ensures test { H.test hook.new ≡ H.test hook.old }
@@ -265,8 +270,9 @@ impl<F: FileSys, D: Disk> Volume<F, D> {
         requires going { IsUnderWay attempt.old.pages attempt.old.crossings.caller call.now way.old }
         ensures going { IsUnderWay attempt.new.pages attempt.new.crossings.caller call.now way.new }
         ensures later { IsLater self.now.table pass.old pass.new }
-        ensures leads { Leads call.now (H.test hook.old) (part_in pass.old) (part_in pass.new) attempt.old attempt.new result }
-        ensures hears { Hears (H.test hook.old) (H.faults hook.old) (H.faults hook.new) (part_in pass.old).seat (part_in pass.new).seat attempt.old attempt.new result }
+        ensures leads { LeadsCallOn call.now (H.test hook.old) (part_in pass.old) (part_in pass.new) attempt.old attempt.new result }
+        ensures hears { Hears (H.test hook.old) (H.faults hook.old) (H.faults hook.new)
+            (part_in pass.old).seat (part_in pass.new).seat attempt.old attempt.new result }
         ensures same { attempt.new.crossings.caller ≡ attempt.old.crossings.caller }
         ensures rises { RisesWith (H.faults hook.old) (H.faults hook.new) (part_in pass.old).struck (part_in pass.new).struck }
         ensures test { H.test hook.new ≡ H.test hook.old }
@@ -301,8 +307,9 @@ impl<F: FileSys, D: Disk> Volume<F, D> {
         requires going { IsUnderWay attempt.old.pages attempt.old.crossings.caller call.now way.old }
         ensures going { IsUnderWay attempt.new.pages attempt.new.crossings.caller call.now way.new }
         ensures later { IsLater self.now.table pass.old pass.new }
-        ensures leads { Leads call.now (H.test hook.old) (part_in pass.old) (part_in pass.new) attempt.old attempt.new result }
-        ensures hears { Hears (H.test hook.old) (H.faults hook.old) (H.faults hook.new) (part_in pass.old).seat (part_in pass.new).seat attempt.old attempt.new result }
+        ensures leads { LeadsCallOn call.now (H.test hook.old) (part_in pass.old) (part_in pass.new) attempt.old attempt.new result }
+        ensures hears { Hears (H.test hook.old) (H.faults hook.old) (H.faults hook.new)
+            (part_in pass.old).seat (part_in pass.new).seat attempt.old attempt.new result }
         ensures same { attempt.new.crossings.caller ≡ attempt.old.crossings.caller }
         ensures rises { RisesWith (H.faults hook.old) (H.faults hook.new) (part_in pass.old).struck (part_in pass.new).struck }
         ensures test { H.test hook.new ≡ H.test hook.old }
@@ -349,8 +356,9 @@ impl<F: FileSys, D: Disk> Volume<F, D> {
         requires going { IsUnderWay attempt.old.pages attempt.old.crossings.caller call.now way.old }
         ensures going { IsUnderWay attempt.new.pages attempt.new.crossings.caller call.now way.new }
         ensures later { IsLater self.now.table pass.old pass.new }
-        ensures leads { Leads call.now (H.test hook.old) (part_in pass.old) (part_in pass.new) attempt.old attempt.new result }
-        ensures hears { Hears (H.test hook.old) (H.faults hook.old) (H.faults hook.new) (part_in pass.old).seat (part_in pass.new).seat attempt.old attempt.new result }
+        ensures leads { LeadsCallOn call.now (H.test hook.old) (part_in pass.old) (part_in pass.new) attempt.old attempt.new result }
+        ensures hears { Hears (H.test hook.old) (H.faults hook.old) (H.faults hook.new)
+            (part_in pass.old).seat (part_in pass.new).seat attempt.old attempt.new result }
         ensures same { attempt.new.crossings.caller ≡ attempt.old.crossings.caller }
         ensures rises { RisesWith (H.faults hook.old) (H.faults hook.new) (part_in pass.old).struck (part_in pass.new).struck }
         ensures test { H.test hook.new ≡ H.test hook.old }

@@ -1,7 +1,7 @@
 ghost use Rattle.std.specs.Prelude.{◌≡◌, ◌<◌, IfSome, length, true};
 ghost use Rattle.mb_core_spec.specs.Copies.{TableCopy};
-ghost use Rattle.mb_run.specs.Events.{IsAsked};
-ghost use Rattle.mb_run.specs.Pages.{IsUnderWay, Performs, has};
+ghost use Rattle.mb_run.specs.Events.{AsksForLacking};
+ghost use Rattle.mb_run.specs.Pages.{IsUnderWay, PerformsOver, has};
 
 use mb_callers::Pages;
 use mb_calls::{Performed, Performing};
@@ -9,7 +9,7 @@ use mb_iface::FileSys;
 use mb_kinds::{Call, Ticket};
 use std::alloc::Global;
 
-/// Performs the call of a ticket over its pages, which have the tables of all callers, with the file system's code; it goes
+/// PerformsOver the call of a ticket over its pages, which have the tables of all callers, with the file system's code; it goes
 /// on where `way` has it stopped over fewer of them.
 pub(crate) fn perform<F: FileSys>(
     alloc: Global,
@@ -23,8 +23,8 @@ pub(crate) fn perform<F: FileSys>(
     requires declared { IfSome pages.now.tables (λ (given : TableCopy). ticket.now.caller < length given.sessions) }
     requires going { IsUnderWay pages.now ticket.now.caller call.now way.old }
     ensures going { IsUnderWay pages.now ticket.now.caller call.now way.new }
-    ensures performs { Performs pages.now ticket.now.caller call.now ticket.now.moment result }
-    ensures asked { IsAsked pages.now result }
+    ensures performs { PerformsOver pages.now ticket.now.caller call.now ticket.now.moment result }
+    ensures asked { AsksForLacking pages.now result }
 {
     let Some(sessions) = pages.sessions() else {
         unreachable!()

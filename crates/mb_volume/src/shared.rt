@@ -6,9 +6,9 @@ ghost use Rattle.mb_core_spec.specs.Right.{Right};
 ghost use Rattle.mb_core_spec.specs.State.{CallerState};
 ghost use Rattle.mb_run.specs.CoreSight.{sight_of};
 ghost use Rattle.mb_run.specs.Seals.{AreInTime};
-ghost use Rattle.mb_run.specs.Sights.{IsOrderly, undue_in};
+ghost use Rattle.mb_run.specs.Sights.{IsOrderlyInSight, undue_in};
 ghost use Rattle.mb_volume.specs.Attempts.{without_pages};
-ghost use Rattle.mb_volume.specs.Parts.{Moves, part_of, stand_in};
+ghost use Rattle.mb_volume.specs.Parts.{MovesPart, part_of, stand_in};
 ghost use Rattle.mb_volume.specs.Passed.{MarksSeen};
 ghost use Rattle.mb_volume.specs.Rising.{RisesAfter, word_for};
 ghost use Rattle.mb_volume.specs.Shared.{origin_of};
@@ -89,7 +89,7 @@ impl<F: FileSys, D: Disk> SharedCore<F, D> {
 
     pub(crate) fn into_core(self) -> VolumeCore<F, D>
         ensures core { result ≡ self.core }
-        ensures right { IsOrderly (sight_of result.core) }
+        ensures right { IsOrderlyInSight (sight_of result.core) }
     {
         let SharedCore { kept } = self;
         let Kept { core, spare: _ } = Box::into_inner(kept);
@@ -125,7 +125,7 @@ impl<F: FileSys, D: Disk> SharedCore<F, D> {
         ensures goes { GoesSeen call.now (H.test hook.old) (sight_of self.old.core.core) (sight_of self.new.core.core) attempt.old attempt.new result }
         ensures marks { MarksSeen event (sight_of self.old.core.core) (sight_of self.new.core.core) attempt.old attempt.new result }
         ensures same { attempt.new.crossings.caller ≡ attempt.old.crossings.caller }
-        ensures moves { Moves attempt.old.crossings.caller (sight_of self.old.core.core) (sight_of self.new.core.core) }
+        ensures moves { MovesPart attempt.old.crossings.caller (sight_of self.old.core.core) (sight_of self.new.core.core) }
         ensures rises { RisesAfter (word_for event) (H.faults hook.old) (H.faults hook.new) self.old.core.core.journal.records self.new.core.core.journal.records }
         ensures grows { H.faults hook.old ≤ H.faults hook.new }
         ensures test { H.test hook.new ≡ H.test hook.old }
@@ -140,7 +140,8 @@ impl<F: FileSys, D: Disk> SharedCore<F, D> {
     /// Ends a caller's call in flight, which has no entry.
     pub(crate) fn quit(&mut self, caller: u8)
         requires { HasOpenCall self.old.core.core caller }
-        ensures quit { (mine : CallerState) → slice_get self.old.core.core.callers caller ≡ Some mine → self.new.core.core ≡ with_room (ended self.old.core.core caller mine self.new.core.core.cache.pins) self.new.core.core }
+        ensures quit { (mine : CallerState) → slice_get self.old.core.core.callers caller ≡ Some mine
+            → self.new.core.core ≡ with_room (ended self.old.core.core caller mine self.new.core.core.cache.pins) self.new.core.core }
     {
         self.kept.core.core.quit(caller);
     }

@@ -5,9 +5,9 @@ ghost use Rattle.mb_kinds.specs.Own.{own};
 ghost use Rattle.mb_run.specs.CoreSight.{sight_of};
 ghost use Rattle.mb_run.specs.Rising.{RisesWith};
 ghost use Rattle.mb_run.specs.Seals.{AreInTime};
-ghost use Rattle.mb_run.specs.Sights.{IsOrderly, undue_in};
+ghost use Rattle.mb_run.specs.Sights.{IsOrderlyInSight, undue_in};
 ghost use Rattle.mb_turn.specs.Passes.{IsIdle, dealt};
-ghost use Rattle.mb_volume.specs.Called.{IsAnsweredWith, IsGivenUp, TakesFaults};
+ghost use Rattle.mb_volume.specs.Called.{IsAnsweredWith, CallIsGivenUp, TakesPlannedFaults};
 ghost use Rattle.mb_volume.specs.Parts.{stand_in};
 ghost use Rattle.mb_volume.specs.Passing.{IsLater, IsMaking, part_in, seen_by};
 
@@ -45,7 +45,8 @@ impl<F: FileSys, D: Disk> Volume<F, D> {
     ) -> Result<(Volume<F, D>, Passes<SharedCore<F, D>>), VolumeCore<F, D>>
         requires seals { AreInTime core.core.config.threshold (length core.core.journal.oplog) core.core.journal.sealed_at core.core.journal.history }
         ensures callers { IfOk result (λ started. started.0.callers ≡ (sight_of core.core).config.callers) }
-        ensures passes { IfOk result (λ started. started.1.items ≡ dealt started.0.table (sight_of core.core).config.callers (record { core = core })) }
+        ensures passes { IfOk result (λ started.
+            started.1.items ≡ dealt started.0.table (sight_of core.core).config.callers (record { core = core })) }
         ensures core { IfErr result (λ back. back ≡ core) }
     {
         let callers = core.config().callers.as_slice().len() as u8;
@@ -73,9 +74,9 @@ impl<F: FileSys, D: Disk> Volume<F, D> {
         requires most { (part_in pass.old).seat.begun < (part_in pass.old).config.most }
         ensures later { IsLater self.now.table pass.old pass.new }
         ensures ok { IfOk result (IsAnsweredWith call.now (H.test hook.old) pass.old.caller (part_in pass.old) (part_in pass.new)) }
-        ensures err { OnErr result (IsGivenUp (H.test hook.old) pass.old.caller (part_in pass.old) (part_in pass.new)) }
+        ensures err { OnErr result (CallIsGivenUp (H.test hook.old) pass.old.caller (part_in pass.old) (part_in pass.new)) }
         ensures rises { RisesWith (H.faults hook.old) (H.faults hook.new) (part_in pass.old).struck (part_in pass.new).struck }
-        ensures taken { IfOk result (TakesFaults (H.test hook.old) pass.old.caller (part_in pass.old) (H.faults hook.old) (H.faults hook.new)) }
+        ensures taken { IfOk result (TakesPlannedFaults (H.test hook.old) pass.old.caller (part_in pass.old) (H.faults hook.old) (H.faults hook.new)) }
         ensures test { H.test hook.new ≡ H.test hook.old }
     {
         let mut attempt = self.begin(alloc, pass);
@@ -123,10 +124,12 @@ impl<F: FileSys, D: Disk> Volume<F, D> {
         ensures first { AllByRecursion (λ pass. result.core.first ≡ pass.value.core.core.first) passes.items }
         ensures config { AllByRecursion (λ pass. result.core.config ≡ pass.value.core.core.config) passes.items }
         ensures seen { AllByRecursion (λ pass. IsPrefix (seen_by pass).history (sight_of result.core).history) passes.items }
-        ensures mine { AllByRecursion (λ pass. own (sight_of result.core).history pass.caller ≡ (part_in pass).entries) passes.items }
-        ensures stand { AllByRecursion (λ pass. stand_in (sight_of result.core) pass.caller ≡ stand_in (seen_by pass) pass.caller) passes.items }
+        ensures mine { AllByRecursion (λ pass.
+            own (sight_of result.core).history pass.caller ≡ (part_in pass).entries) passes.items }
+        ensures stand { AllByRecursion (λ pass.
+            stand_in (sight_of result.core) pass.caller ≡ stand_in (seen_by pass) pass.caller) passes.items }
         ensures seals { AllByRecursion (λ pass. undue_in (sight_of result.core) ≤ undue_in (seen_by pass)) passes.items }
-        ensures right { IsOrderly (sight_of result.core) }
+        ensures right { IsOrderlyInSight (sight_of result.core) }
     {
         let Volume { turn } = self;
         turn.close(passes).into_core()

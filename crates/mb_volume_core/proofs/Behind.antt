@@ -11,7 +11,7 @@ use Rattle.mb_core_state.specs.Answers.{Leaving}
 use Rattle.mb_core_state.specs.declared.answers.Left.{Left}
 use Rattle.mb_core_state.specs.declared.answers.Left.TheVariants as left
 use Rattle.mb_run.specs.CoreSight.{sight_of}
-use Rattle.mb_run.specs.Events.{FlushesWith, Leaves, LeavesWith, WritesBehind}
+use Rattle.mb_run.specs.Events.{FlushesWith, EndsFlight, LeavesWith, WritesBehind}
 use Rattle.mb_run.specs.Sights.{Sight}
 use Rattle.mb_volume_core.specs.Flushes.{FlushesAfter}
 use Rattle.mb_volume_core.proofs.Origins.{origin_of}
@@ -20,8 +20,8 @@ use Rattle.mb_volume_core.proofs.Sealing.{flush_later, flush_rose, flushes}
 -- ---- as a driver sees it
 
 -- a call that left stays so
-leaves_on : (caller : ℕ) (flight : Flight) (old mid new : Sight) (made : Flushed) → Leaves caller flight old mid → FlushesWith mid new made → Leaves caller flight old new
-leaves_on caller flight old mid new flushed.One leaves written = subst (Leaves caller flight old) (sym written.1) (record {
+leaves_on : (caller : ℕ) (flight : Flight) (old mid new : Sight) (made : Flushed) → EndsFlight caller flight old mid → FlushesWith mid new made → EndsFlight caller flight old new
+leaves_on caller flight old mid new flushed.One leaves written = subst (EndsFlight caller flight old) (sym written.1) (record {
   stays = record {
     config = leaves.stays.config;
     records = leaves.stays.records;
@@ -38,8 +38,8 @@ leaves_on caller flight old mid new flushed.One leaves written = subst (Leaves c
   log = record { sealed_at = leaves.log.sealed_at; ops = leaves.log.ops; trail = leaves.log.trail };
   floor = leaves.floor;
 })
-leaves_on caller flight old mid new flushed.Clean leaves written = subst (Leaves caller flight old) (sym written.1) leaves
-leaves_on caller flight old mid new flushed.Device leaves written = subst (Leaves caller flight old) (sym written) leaves
+leaves_on caller flight old mid new flushed.Clean leaves written = subst (EndsFlight caller flight old) (sym written.1) leaves
+leaves_on caller flight old mid new flushed.Device leaves written = subst (EndsFlight caller flight old) (sym written) leaves
 
 -- as many pages wait before it as when the call left
 writes_on : (before now : ℕ) (old mid new : Sight) (made : Flushed) → mid.sealed ≡ old.sealed → FlushesWith mid new made → (made ≡ flushed.Device → Rose before now)

@@ -17,13 +17,13 @@ use Rattle.mb_core_spec.specs.declared.stages.Stage.{Stage}
 use Rattle.mb_core_spec.specs.declared.stages.Stage.TheVariants as stage
 use Rattle.mb_core_spec.specs.declared.steps.Step.TheVariants as step
 use Rattle.mb_core_order.proofs.Readings.{flying_inside}
-use Rattle.mb_core_state.specs.Entering.{Enters as CoreEnters, GoesIn, HasEntry, HasTicketNow, IsCause, IsHandedOut, IsShut, LacksEntry, LacksTicket, begun_if, flight_if, reserved_by, waiting_if}
+use Rattle.mb_core_state.specs.Entering.{EntersInSight as CoreEnters, GoesIn, HasEntry, HasTicketNow, IsCause, IsHandedOut, IsShut, LacksEntry, LacksTicket, begun_if, flight_if, reserved_by, waiting_if}
 use Rattle.mb_core_state.specs.declared.answers.Enter.{Enter as Entered}
 use Rattle.mb_core_state.specs.declared.answers.Enter.TheVariants as entered
 use Rattle.mb_core_events.specs.Callings.{MayCall}
 use Rattle.mb_run.specs.CoreSight.{is_fresh, pages_kept, seat_of, sight_of, stales_of}
-use Rattle.mb_run.specs.Events.{Answers, Begins, Enters, EntersInside, IsReplyOf, IsUnplain, KeepsLog, Leaves, Stays}
-use Rattle.mb_run.specs.Served.{MayBegin, MayEnter}
+use Rattle.mb_run.specs.Events.{Answers, BeginsFlight, EntersInSight, EntersInside, IsReplyOf, IsUnplain, KeepsLog, EndsFlight, LeavesOthersAlone}
+use Rattle.mb_run.specs.Served.{MayBeginOrGoOn, MayEnterInSight}
 use Rattle.mb_run.specs.Sights.{IsOld, Seat, flight_of, is_new, one_if as one_where, recovers}
 use Rattle.mb_volume_core.specs.Answers.{entered_as}
 use Rattle.mb_volume_core.proofs.Leaving.{gone, leaves_at, reply_of}
@@ -31,12 +31,12 @@ use Rattle.mb_volume_core.proofs.Origins.{origin_of}
 use Rattle.mb_volume_core.proofs.Staying.{begun_now, floor_without, keeps_log, marks_none, marks_one, open_now, own_now, seat_now, set_same, set_twice, stays_at}
 
 -- the driver's call is one that the core takes
-pub may_call : {F D : Type 0} (core : CoreState F D) (caller : ℕ) (call : Call) → MayEnter (sight_of core) caller call → MayCall core caller call
+pub may_call : {F D : Type 0} (core : CoreState F D) (caller : ℕ) (call : Call) → MayEnterInSight (sight_of core) caller call → MayCall core caller call
 may_call core caller call may = record {
   declared = may.within;
-  same = λ mine flight here flies. subst (MayBegin core.config.most ((sight_of core).seats caller) call) (ap (λ (o : Option CallerState). (seat_of o).flight) here ∙ flies) may.may;
+  same = λ mine flight here flies. subst (MayBeginOrGoOn core.config.most ((sight_of core).seats caller) call) (ap (λ (o : Option CallerState). (seat_of o).flight) here ∙ flies) may.may;
   few = λ mine here free.
-      (let few : ((sight_of core).seats caller).begun < core.config.most = subst (MayBegin core.config.most ((sight_of core).seats caller) call) (ap (λ (o : Option CallerState). (seat_of o).flight) here ∙ free) may.may in
+      (let few : ((sight_of core).seats caller).begun < core.config.most = subst (MayBeginOrGoOn core.config.most ((sight_of core).seats caller) call) (ap (λ (o : Option CallerState). (seat_of o).flight) here ∙ free) may.may in
       subst (λ (n : ℕ). n < core.config.most) (ap (λ (o : Option CallerState). (seat_of o).begun) here) few);
 }
 
@@ -112,7 +112,7 @@ module _ {F D : Type 0} (told : D → Option Image) (faults : D → ℕ) (core :
   -- ---- the call waits, or goes inside
 
   module _ (after : CoreState F D) (now : CallerState) (stored : after.callers ≡ slice_set core.callers caller now) (o : Option Flight) (flies : mine.flight ≡ o) (lacks : LacksEntry o) (number : now.begun ≡ (state o).begun)
-      (stays : Stays caller (sight_of core) (sight_of after)) where
+      (stays : LeavesOthersAlone caller (sight_of core) (sight_of after)) where
     begun_sum : begun after.callers ≡ begun core.callers + one_where (is_new ((sight_of core).seats caller).flight)
     begun_sum =
         let sum = begun_now core after caller now stored mine here in
@@ -120,7 +120,7 @@ module _ {F D : Type 0} (told : D → Option Image) (faults : D → ℕ) (core :
         let same = new_is o flies in
         omega (arith, sum, number, more, same)
 
-    begins_at : (flight : Flight) → now.flight ≡ Some flight → flight.ordinal ≡ (the_flight o).ordinal → flight.answered ≡ false → after.journal.history ≡ core.journal.history → KeepsLog (sight_of core) (sight_of after) → after.floor ≡ core.floor → Begins caller flight (sight_of core) (sight_of after)
+    begins_at : (flight : Flight) → now.flight ≡ Some flight → flight.ordinal ≡ (the_flight o).ordinal → flight.answered ≡ false → after.journal.history ≡ core.journal.history → KeepsLog (sight_of core) (sight_of after) → after.floor ≡ core.floor → BeginsFlight caller flight (sight_of core) (sight_of after)
     begins_at flight goes ordinal unanswered history log floor =
         let calls = open_now core after caller now stored mine here in
         let one = opens_one o flies lacks in
@@ -160,12 +160,12 @@ module _ {F D : Type 0} (told : D → Option Image) (faults : D → ℕ) (core :
 
   -- the call had its entry
   handed_out : (new : CoreState F D) (answer : Reply) → IsHandedOut core new caller mine answer → (o : Option Flight) → mine.flight ≡ o → HasEntry o
-      → (flight : Flight) × Leaves caller flight (sight_of core) (sight_of new) × IsReplyOf core.journal.history caller flight.ordinal answer
+      → (flight : Flight) × EndsFlight caller flight (sight_of core) (sight_of new) × IsReplyOf core.journal.history caller flight.ordinal answer
   handed_out new answer out None flies has = absurd has
   handed_out new answer out (Some flight) flies has =
       let made : CoreState F D = with_room (ended core caller mine new.cache.pins) new in
       let leaves = leaves_at core caller mine here made flight flies has refl (stays_at core made caller (gone mine) refl refl refl refl refl) refl (keeps_log core made refl refl (marks_none core.journal.trail core.journal.trail refl)) (floor_without caller core.floor) in
-      (flight, subst (λ (c : CoreState F D). Leaves caller flight (sight_of core) (sight_of c)) (sym out.event) leaves, reply_of caller core.journal.history mine flight answer (r.orderly.answers caller mine here) flies has out.answer_is)
+      (flight, subst (λ (c : CoreState F D). EndsFlight caller flight (sight_of core) (sight_of c)) (sym out.event) leaves, reply_of caller core.journal.history mine flight answer (r.orderly.answers caller mine here) flies has out.answer_is)
 
   given_up_if : (new : CoreState F D) (answer : Reply) (o : Option Flight) → mine.flight ≡ o → LacksEntry o
       → new ≡ with_room (answered_by (waiting_if core caller mine given o) caller (state o) (the_flight o) answer new.cache.pins) new → Answers caller (the_flight o) answer (sight_of core) (sight_of new)
@@ -179,15 +179,15 @@ module _ {F D : Type 0} (told : D → Option Image) (faults : D → ℕ) (core :
       subst (λ (c : CoreState F D). Answers caller flight answer (sight_of core) (sight_of c)) (sym event)
       (answers_at made (gone mine) refl (Some flight) flies lacks refl (stays_at core made caller (gone mine) refl refl refl refl refl) answer refl refl (keeps_log core made refl refl (marks_none core.journal.trail core.journal.trail refl)) (floor_without caller core.floor))
 
-  shut_if : (new : CoreState F D) (o : Option Flight) → mine.flight ≡ o → LacksEntry o → new ≡ with_room (waiting_if core caller mine given o) new → Begins caller (the_flight o) (sight_of core) (sight_of new)
+  shut_if : (new : CoreState F D) (o : Option Flight) → mine.flight ≡ o → LacksEntry o → new ≡ with_room (waiting_if core caller mine given o) new → BeginsFlight caller (the_flight o) (sight_of core) (sight_of new)
   shut_if new None flies lacks event =
       let made : CoreState F D = with_room (beginning core caller mine given) new in
-      subst (λ (c : CoreState F D). Begins caller (the_flight None) (sight_of core) (sight_of c)) (sym event)
+      subst (λ (c : CoreState F D). BeginsFlight caller (the_flight None) (sight_of core) (sight_of c)) (sym event)
       (begins_at made (state None) refl None flies lacks refl (stays_at core made caller (state None) refl refl refl refl refl) (the_flight None) refl refl refl refl (keeps_log core made refl refl (marks_none core.journal.trail core.journal.trail refl)) refl)
   shut_if new (Some flight) flies lacks event =
       let made : CoreState F D = with_room core new in
       let stored = sym (set_same core.callers caller mine here) in
-      subst (λ (c : CoreState F D). Begins caller flight (sight_of core) (sight_of c)) (sym event)
+      subst (λ (c : CoreState F D). BeginsFlight caller flight (sight_of core) (sight_of c)) (sym event)
       (begins_at made mine stored (Some flight) flies lacks refl (stays_at core made caller mine stored refl refl refl refl) flight flies refl lacks refl (keeps_log core made refl refl (marks_none core.journal.trail core.journal.trail refl)) refl)
 
   -- the call is inside already
@@ -201,7 +201,7 @@ module _ {F D : Type 0} (told : D → Option Image) (faults : D → ℕ) (core :
       let stored = sym (set_same core.callers caller mine here) in
       let with_ticket : Flight = record flight { ticket = Some ticket } in
       let has : mine.flight ≡ Some with_ticket = now.flies ∙ (let ticketed : Option Ticket → Option Flight = λ t. Some (record flight { ticket = t }) in ap ticketed now.held) in
-      let begins : Begins caller with_ticket (sight_of core) (sight_of core) =
+      let begins : BeginsFlight caller with_ticket (sight_of core) (sight_of core) =
       begins_at core mine stored (Some flight) now.flies unanswered refl (stays_at core core caller mine stored refl refl refl refl) with_ticket has refl unanswered refl (keeps_log core core refl refl (marks_none core.journal.trail core.journal.trail refl)) refl in
       let never : IsOld core.incarnation ((sight_of core).seats caller).flight → ⊥ = λ old.
       (let earlier : IfSome flight.ticket (λ (t : Ticket). t.incarnation < core.incarnation) = subst (IsOld core.incarnation) (ap (λ (s : Seat). s.flight) seat_is ∙ now.flies) old in
@@ -209,7 +209,7 @@ module _ {F D : Type 0} (told : D → Option Image) (faults : D → ℕ) (core :
       let present = now.present in
       omega (arith, low, present)) in
       record {
-        begins = subst (λ (f : Flight). Begins caller (record f { ticket = Some ticket }) (sight_of core) (sight_of core)) (sym same) begins;
+        begins = subst (λ (f : Flight). BeginsFlight caller (record f { ticket = Some ticket }) (sight_of core) (sight_of core)) (sym same) begins;
         runs = running;
         own = is.caller_is;
         ordinal = is.ordinal ∙ sym (ap (λ (f : Flight). f.ordinal) same);
@@ -248,7 +248,7 @@ module _ {F D : Type 0} (told : D → Option Image) (faults : D → ℕ) (core :
       let now : CallerState = goes_in (state mine.flight) flight ticket reserved in
       let made : CoreState F D = with_room (entering core caller (state mine.flight) flight ticket reserved) new in
       let is = anew.inside.ticket_is in
-      let begins : Begins caller (record flight { ticket = Some ticket }) (sight_of core) (sight_of made) =
+      let begins : BeginsFlight caller (record flight { ticket = Some ticket }) (sight_of core) (sight_of made) =
       begins_at made now refl mine.flight refl lacks refl (stays_at core made caller now refl refl refl refl refl) (record flight { ticket = Some ticket }) refl refl (lacks_is mine.flight lacks) refl
       (keeps_log core made refl refl (marks_one core.journal.trail made.journal.trail (step.Entered ticket) refl refl)) refl in
       let kept = (r.orderly.undoable caller mine here).outside (outside running without) in
@@ -256,7 +256,7 @@ module _ {F D : Type 0} (told : D → Option Image) (faults : D → ℕ) (core :
       let pages_if : (o : Option Flight) → (state o).pages ≡ mine.pages = λ o. elim o as (λ x. (state x).pages ≡ mine.pages) [ None ↦ refl | Some f ↦ refl ] in
       let empty : (sight_of made).copies caller ≡ no_pages = ap pages_kept (own_now core made caller now refl mine here) ∙ pages_if mine.flight ∙ none in
       subst (λ (c : CoreState F D). EntersInside (sight_of core) (sight_of c) caller given ticket) (sym anew.inside.event) (record {
-        begins = subst (λ (f : Flight). Begins caller (record f { ticket = Some ticket }) (sight_of core) (sight_of made)) (sym flight_same) begins;
+        begins = subst (λ (f : Flight). BeginsFlight caller (record f { ticket = Some ticket }) (sight_of core) (sight_of made)) (sym flight_same) begins;
         runs = running;
         own = ap (λ (t : Ticket). t.caller) is;
         ordinal = ap (λ (t : Ticket). t.ordinal) is ∙ sym (ap (λ (f : Flight). f.ordinal) flight_same);
@@ -269,7 +269,7 @@ module _ {F D : Type 0} (told : D → Option Image) (faults : D → ℕ) (core :
         trail = λ old. refl;
       })
 
-  pub enters_by : (new : CoreState F D) (answer : Entered) → CoreEnters core new caller mine given answer → Enters (sight_of core) (sight_of new) caller given (entered_as answer)
+  pub enters_by : (new : CoreState F D) (answer : Entered) → CoreEnters core new caller mine given answer → EntersInSight (sight_of core) (sight_of new) caller given (entered_as answer)
   enters_by new (entered.Done answer) by = elim by [
     | inl out ↦ inl (handed_out new answer out mine.flight refl out.has)
     | inr up ↦ inr (
@@ -281,7 +281,7 @@ module _ {F D : Type 0} (told : D → Option Image) (faults : D → ℕ) (core :
   enters_by new entered.Shut by = (
     shut_recovers core.stage by.1,
     lacks_here by.0,
-    subst (λ (f : Flight). Begins caller f (sight_of core) (sight_of new)) (sym flight_same) (shut_if new mine.flight refl by.0 by.2),
+    subst (λ (f : Flight). BeginsFlight caller f (sight_of core) (sight_of new)) (sym flight_same) (shut_if new mine.flight refl by.0 by.2),
   )
   enters_by new (entered.Inside ticket) by = elim by.3 [
     | inl again ↦ subst (λ (c : CoreState F D). EntersInside (sight_of core) (sight_of c) caller given ticket) (sym again.1) (stays_inside ticket by.1 by.0 again.0)

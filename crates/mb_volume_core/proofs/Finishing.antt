@@ -33,16 +33,16 @@ use Rattle.mb_core_spec.specs.declared.stages.Stage.TheVariants as stage
 use Rattle.mb_core_spec.specs.declared.steps.Step.TheVariants as step
 use Rattle.mb_core_order.proofs.Keepings.{without_mine}
 use Rattle.mb_core_state.specs.Answers.{IsPresent}
-use Rattle.mb_core_state.specs.Finishing.{Finishes as EndsBy, IsLogged}
+use Rattle.mb_core_state.specs.Finishing.{FinishesInSight as EndsBy, IsLogged}
 use Rattle.mb_core_state.specs.declared.answers.Finished.{Finished}
 use Rattle.mb_core_state.specs.declared.answers.Finished.TheVariants as finished
 use Rattle.mb_core_events.specs.Callings.{HoldsTicket, MayFinish}
 use Rattle.mb_core_events.proofs.Knowing.{runs_now, ticket_of_is}
 use Rattle.mb_run.specs.CoreSight.{is_fresh, pages_kept, seat_of, sight_of, stales_of}
-use Rattle.mb_run.specs.Events.{Finishes, IsReadyAt, IsStale, Logs}
+use Rattle.mb_run.specs.Events.{FinishesInSight, IsReadyAt, IsStale, Logs}
 use Rattle.mb_volume_core.specs.Seals.{SealsAfter}
 use Rattle.mb_run.specs.Pages.{HasTablesFor, has}
-use Rattle.mb_run.specs.Sights.{HasTicket, Seat}
+use Rattle.mb_run.specs.Sights.{SeatHasTicket, Seat}
 use Rattle.mb_volume_core.specs.Answers.{as_performed}
 use Rattle.mb_volume_core.proofs.Answering.{open_is}
 use Rattle.mb_volume_core.proofs.Freshness.{holds_fresh}
@@ -93,7 +93,7 @@ given_tables None P there holds = absurd (let wrong : false ≡ true = there in 
 given_tables (Some given) P there holds = (given, refl, holds)
 
 module _ {F D : Type 0} (told : D → Option Image) (faults : D → ℕ) (core : CoreState F D) (r : Right told faults core) (ticket : Ticket) (pages : PagesState) where
-  pub may_finish : (ready : PerformedReady) → HasTicket false ((sight_of core).seats ticket.caller) ticket → has pages 0 ≡ true → HasTablesFor (length core.config.callers) pages → IsReadyAt (sight_of core) ticket pages ready
+  pub may_finish : (ready : PerformedReady) → SeatHasTicket false ((sight_of core).seats ticket.caller) ticket → has pages 0 ≡ true → HasTablesFor (length core.config.callers) pages → IsReadyAt (sight_of core) ticket pages ready
       → MayFinish core ticket pages (as_performed ready)
   may_finish ready has_ticket there tables is =
       let holds = holds_ticket core ticket false has_ticket in
@@ -204,7 +204,7 @@ module _ {F D : Type 0} (told : D → Option Image) (faults : D → ℕ) (core :
 
     -- `after` is the core with the checkpoint that was due
     pub finishes_are : (ready : Ready) (answer : Finished) → EndsBy core new ticket of.mine of.flight pages ready answer → (after : CoreState F D) (made : Call) → SealsAfter answer made new after
-        → Finishes (sight_of core) (sight_of after) ticket pages made answer
+        → FinishesInSight (sight_of core) (sight_of after) ticket pages made answer
     finishes_are ready (finished.Skip was now) by after made seals = (skipped core new ticket was now by, ap sight_of seals ∙ ap sight_of by.same)
     finishes_are ready (finished.Busy holder) by after made seals =
         let whose : holder.caller ≡ by.1.at = (ticket_of_is told faults core r by.1.at holder by.1.ticket).caller_is in

@@ -20,9 +20,9 @@ use Rattle.mb_core_state.specs.declared.answers.Gathered.{Gathered}
 use Rattle.mb_core_state.specs.declared.answers.Gathered.TheVariants as gathered
 use Rattle.mb_core_events.specs.Callings.{HoldsTicket, IsAsked, IsUnanswered}
 use Rattle.mb_run.specs.CoreSight.{is_fresh, pages_kept, seat_of, sight_of, stales_of}
-use Rattle.mb_run.specs.Events.{Answers, Gains, Gathers}
-use Rattle.mb_run.specs.Pages.{Grows, HasTablesFor, LacksAll, has}
-use Rattle.mb_run.specs.Sights.{HasTicket}
+use Rattle.mb_run.specs.Events.{Answers, Gains, GathersInSight}
+use Rattle.mb_run.specs.Pages.{PagesGrow, HasTablesFor, LacksAll, has}
+use Rattle.mb_run.specs.Sights.{SeatHasTicket}
 use Rattle.mb_volume_core.proofs.Growing.{blocks_grow, tables_grow}
 use Rattle.mb_volume_core.proofs.Origins.{origin_of}
 use Rattle.mb_volume_core.proofs.Answering.{answered, open_is}
@@ -49,7 +49,7 @@ has_first first old new more = elim (nat_eq first 0) as (λ b. nat_eq first 0 �
 
 -- ---- the ticket of a call in flight
 
-pub holds_ticket : {F D : Type 0} (core : CoreState F D) (ticket : Ticket) (done : Bool) → HasTicket done ((sight_of core).seats ticket.caller) ticket → (of : HoldsTicket core ticket) × (of.flight.answered ≡ done)
+pub holds_ticket : {F D : Type 0} (core : CoreState F D) (ticket : Ticket) (done : Bool) → SeatHasTicket done ((sight_of core).seats ticket.caller) ticket → (of : HoldsTicket core ticket) × (of.flight.answered ≡ done)
 holds_ticket core ticket done given =
     let here = seated (slice_get core.callers ticket.caller) given.flight given.here in
     (record { mine = here.0; here = here.1; flight = given.flight; flies = here.2; held = given.mine }, given.answered)
@@ -81,10 +81,10 @@ module _ {F D : Type 0} (told : D → Option Image) (faults : D → ℕ) (core :
     ]
 
     -- what the caller has grows, where it had none of the blocks
-    gathered_more : LacksAll before need → Grows before now
+    gathered_more : LacksAll before need → PagesGrow before now
     gathered_more lacks = elim (cases_lt 0 need.first) [
-      | inl some ↦ (let blocks = by.blocks (omega (arith, some)) in subst (Grows before) (sym blocks.got_is) (blocks_grow before need lacks blocks.reads (omega (arith, some)) blocks.numbers_are))
-      | inr none ↦ (let zero_is : need.first ≡ 0 = omega (arith, none) in subst (Grows before) (sym (by.tables zero_is).got_is) (tables_grow before need lacks (live_copy core.tables) zero_is asked.some))
+      | inl some ↦ (let blocks = by.blocks (omega (arith, some)) in subst (PagesGrow before) (sym blocks.got_is) (blocks_grow before need lacks blocks.reads (omega (arith, some)) blocks.numbers_are))
+      | inr none ↦ (let zero_is : need.first ≡ 0 = omega (arith, none) in subst (PagesGrow before) (sym (by.tables zero_is).got_is) (tables_grow before need lacks (live_copy core.tables) zero_is asked.some))
     ]
 
     abbrev grown : CallerState
@@ -118,7 +118,7 @@ module _ {F D : Type 0} (told : D → Option Image) (faults : D → ℕ) (core :
 
   pub gathers_are : (answer : Gathered) → IsUnanswered core ticket
       → ((mine : CallerState) (flight : Flight) → slice_get core.callers ticket.caller ≡ Some mine → mine.flight ≡ Some flight → Gathering told faults core new ticket need mine flight before now answer)
-      → Gathers (sight_of core) (sight_of new) ticket need before now answer
+      → GathersInSight (sight_of core) (sight_of new) ticket need before now answer
   gathers_are (gathered.Skip was present) of by =
       let its = by of.0.mine of.0.flight of.0.here of.0.flies in
       (skipped core new ticket was present its.0, ap sight_of its.0.same, its.1)

@@ -13,7 +13,7 @@ use Rattle.mb_copies.proofs.Numbers.{first_of}
 use Rattle.mb_cache.specs.Kept.{CopyList, KeptBlock, kept_at, shown}
 use Rattle.mb_core_spec.specs.Copies.{PagesState, TableCopy}
 use Rattle.mb_kinds.specs.declared.calls.Call.{Call}
-use Rattle.mb_run.specs.Pages.{Grows, IsUnderWay, LacksAll, has}
+use Rattle.mb_run.specs.Pages.{PagesGrow, IsUnderWay, LacksAll, has}
 use Rattle.mb_tree.specs.declared.seats.Seat.{Seat}
 use Rattle.std.proofs.lemmas.Option.{same_Some}
 use Rattle.std.specs.List.{AllByRecursion}
@@ -68,14 +68,14 @@ module _ (pages : PagesState) (need : Need) (lacks : LacksAll pages need) where
   numbered : 1 ≤ need.first → AllByRecursion (λ (other : ℕ). 1 ≤ other) (blocks_of need)
   numbered some = each_block need (λ (other : ℕ). 1 ≤ other) (λ block from below. omega (arith, some, from)) (λ at below is. omega (arith, is))
 
-  pub blocks_grow : (reads : CopyList) → 1 ≤ need.first → numbers reads ≡ blocks_of need → Grows pages (with_blocks pages reads)
+  pub blocks_grow : (reads : CopyList) → 1 ≤ need.first → numbers reads ≡ blocks_of need → PagesGrow pages (with_blocks pages reads)
   blocks_grow reads some are = record {
     blocks = λ block. each_grows (kept_at pages.blocks block) (kept_at (stored pages.blocks reads) block)
         (λ there. stored_other pages.blocks reads block (subst (IsNoneOf block) (sym are) (none_of pages block there (blocks_of need) (numbered some) lacks)));
     tables = given_stays pages.tables;
   }
 
-  pub tables_grow : (now : TableCopy) → need.first ≡ 0 → 1 ≤ need.count → Grows pages (with_tables pages now)
+  pub tables_grow : (now : TableCopy) → need.first ≡ 0 → 1 ≤ need.count → PagesGrow pages (with_tables pages now)
   tables_grow now none some = record {
     blocks = λ block. each_grows (kept_at pages.blocks block) (kept_at pages.blocks block) (λ there. refl);
     tables = none_given pages.tables (λ (given : TableCopy). Some now ≡ Some given) (subst (λ n. has pages n ≡ false) none (first_of need (λ (block : ℕ). has pages block ≡ false) some lacks));

@@ -14,10 +14,10 @@ use Rattle.mb_core_spec.specs.declared.steps.Step.TheVariants as step
 use Rattle.mb_core_state.specs.Answers.{Leaving}
 use Rattle.mb_core_state.specs.declared.answers.Left.{Left}
 use Rattle.mb_core_state.specs.declared.answers.Left.TheVariants as left
-use Rattle.mb_core_events.specs.Callings.{HasEntry, HasOpenCall}
+use Rattle.mb_core_events.specs.Callings.{CallHasEntry, HasOpenCall}
 use Rattle.mb_run.specs.CoreSight.{seat_of, sight_of}
-use Rattle.mb_run.specs.Events.{IsReplyOf, KeepsLog, Leaves, LeavesWith, Quits, Stays}
-use Rattle.mb_run.specs.Sights.{HasTicket, IsWaiting, Seat}
+use Rattle.mb_run.specs.Events.{IsReplyOf, KeepsLog, EndsFlight, LeavesWith, Quits, LeavesOthersAlone}
+use Rattle.mb_run.specs.Sights.{SeatHasTicket, IsWaiting, Seat}
 use Rattle.mb_volume_core.proofs.Origins.{origin_of}
 use Rattle.mb_volume_core.proofs.Staying.{begun_now, floor_without, keeps_log, marks_none, marks_one, open_now, seat_now, seated, stays_at}
 
@@ -32,7 +32,7 @@ reply_of caller history mine flight answer answers flies answered kept =
     let its = answers flight flies answered in
     record { entry = its.0; there = its.1; caller_is = its.2; ordinal_is = its.3; reply_is = same_Some its.0.reply answer (sym its.4 ∙ kept) }
 
-pub has_entry : {F D : Type 0} (core : CoreState F D) (ticket : Ticket) → HasTicket true ((sight_of core).seats ticket.caller) ticket → HasEntry core ticket
+pub has_entry : {F D : Type 0} (core : CoreState F D) (ticket : Ticket) → SeatHasTicket true ((sight_of core).seats ticket.caller) ticket → CallHasEntry core ticket
 has_entry core ticket has =
     let its = seated (slice_get core.callers ticket.caller) has.flight has.here in
     (record { mine = its.0; here = its.1; flight = has.flight; flies = its.2; held = has.mine }, has.answered)
@@ -44,8 +44,8 @@ has_open_call core caller waits =
 
 module _ {F D : Type 0} (core : CoreState F D) (caller : ℕ) (mine : CallerState) (here : slice_get core.callers caller ≡ Some mine) where
   -- a flight that has its entry ends
-  pub leaves_at : (after : CoreState F D) (flight : Flight) → mine.flight ≡ Some flight → flight.answered ≡ true → after.callers ≡ slice_set core.callers caller (gone mine) → Stays caller (sight_of core) (sight_of after)
-      → after.journal.history ≡ core.journal.history → KeepsLog (sight_of core) (sight_of after) → (after.floor ≡ None) ⊎ (after.floor ≡ core.floor) → Leaves caller flight (sight_of core) (sight_of after)
+  pub leaves_at : (after : CoreState F D) (flight : Flight) → mine.flight ≡ Some flight → flight.answered ≡ true → after.callers ≡ slice_set core.callers caller (gone mine) → LeavesOthersAlone caller (sight_of core) (sight_of after)
+      → after.journal.history ≡ core.journal.history → KeepsLog (sight_of core) (sight_of after) → (after.floor ≡ None) ⊎ (after.floor ≡ core.floor) → EndsFlight caller flight (sight_of core) (sight_of after)
   leaves_at after flight flies answered stored stays history log floor =
       let sum : begun after.callers + mine.begun ≡ begun core.callers + mine.begun = begun_now core after caller (gone mine) stored mine here in
       let calls : open_calls after.callers + one_if (is_open (open_flight mine.flight)) ≡ open_calls core.callers + 0 = open_now core after caller (gone mine) stored mine here in
@@ -86,7 +86,7 @@ module _ {F D : Type 0} (core new : CoreState F D) (ticket : Ticket) (mine : Cal
       let stays = stays_at core made ticket.caller (gone mine) refl refl refl refl refl in
       let leaves = leaves_at core ticket.caller mine here made flight flies answered refl stays refl
       (keeps_log core made refl refl (marks_one core.journal.trail made.journal.trail (step.Left ticket) refl refl)) (floor_without ticket.caller core.floor) in
-      (by.0, (flight, subst (λ (c : CoreState F D). Leaves ticket.caller flight (sight_of core) (sight_of c)) (sym by.2) leaves, reply_of ticket.caller core.journal.history mine flight answer answers flies answered by.1))
+      (by.0, (flight, subst (λ (c : CoreState F D). EndsFlight ticket.caller flight (sight_of core) (sight_of c)) (sym by.2) leaves, reply_of ticket.caller core.journal.history mine flight answer answers flies answered by.1))
 
   pub left_origin : (answer : Left) → Leaving core new ticket mine answer → origin_of new ≡ origin_of core
   left_origin (left.Skip was now) by = ap (λ (c : CoreState F D). origin_of c) by.same

@@ -21,7 +21,7 @@ use Rattle.mb_core_order.proofs.Beginning.{all_of}
 use Rattle.mb_core_order.proofs.Orderlies.{brief}
 use Rattle.mb_core_order.proofs.Readings.{flying_inside}
 use Rattle.mb_run.specs.CoreSight.{are_blocks_fresh, are_tables_fresh, is_block_fresh, is_fresh, pages_kept, seat_of, sight_of}
-use Rattle.mb_run.specs.Sights.{AreApart, IsOrderly, steps_left}
+use Rattle.mb_run.specs.Sights.{AreApart, IsOrderlyInSight, steps_left}
 use Rattle.mb_run.proofs.InTime.{InTime}
 use Rattle.mb_volume_core.proofs.Watching.{watched_since}
 
@@ -127,7 +127,7 @@ module _ {F D : Type 0} (told : D → Option Image) (faults : D → ℕ) (core :
       let same = r.orderly.numbered.callers_are in
       (flies.flight, ap (λ (o : Option CallerState). (seat_of o).flight) has.1 ∙ flies.flies, omega (arith, low, same))
 
-  pub orderly : InTime (sight_of core) → IsOrderly (sight_of core)
+  pub orderly : InTime (sight_of core) → IsOrderlyInSight (sight_of core)
   orderly seals = record {
     seals = seals;
     covers = (let most = r.orderly.trailed.covers in let is = watched_since (length core.callers) core.config.threshold core.journal.history r.orderly.trailed.watch core.journal.trail r.orderly.trailed.folded in omega (arith, most, is));

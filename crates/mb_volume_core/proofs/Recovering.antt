@@ -34,15 +34,15 @@ use Rattle.mb_core_state.specs.declared.answers.Phase.{Phase}
 use Rattle.mb_core_state.specs.declared.answers.Phase.TheVariants as phase
 use Rattle.mb_core_events.specs.Callings.{Unwinds, phase_now}
 use Rattle.mb_core_events.proofs.Phases.{drops_at, remounts_at, reopens_at, replays_at, resumes_at, unwinds_at}
-use Rattle.mb_recover.specs.Steps.{CountsAt, Drops, IsMet, IsPointOf, IsUnfired, IsUnheard, Plainly, Recovers, Remounts, Replays, RunsFor as HasFor, caller_of, counted_if, next_if, next_of, striking_at}
+use Rattle.mb_recover.specs.Steps.{CountsAt, Drops, IsMet, IsPointOf, IsUnfired, IsUnheard, Plainly, Recovers, Remounts, Replays, RunsForFlight as HasFor, caller_of, counted_if, next_if, next_of, striking_at}
 use Rattle.mb_recover.specs.declared.steps.Stepped.{Stepped as Recovered}
 use Rattle.mb_recover.specs.declared.steps.Stepped.TheVariants as recovered
 use Rattle.mb_run.specs.CoreSight.{seat_of, sight_of}
 use Rattle.mb_run.specs.Events.{Answers}
-use Rattle.mb_run.specs.Lengths.{Stands}
-use Rattle.mb_run.specs.Recovering.{EndsByDevice, GoOn, IsAtNone, IsPassed, IsTaken, Rolls, RunsFor, Steps, StrikesBy, Waits, awaits_remount}
-use Rattle.mb_run.specs.Served.{AreCounts, counted}
-use Rattle.mb_run.specs.Seals.{Marks}
+use Rattle.mb_run.specs.Lengths.{ComesNoFurther}
+use Rattle.mb_run.specs.Recovering.{StepEndsByDevice, GoOn, IsAtNone, PassesPoint, FaultIsTaken, Rolls, RunsForFlight, Steps, StrikesBy, Waits, awaits_remount}
+use Rattle.mb_run.specs.Served.{AreSixCounts, counted}
+use Rattle.mb_run.specs.Seals.{MarksTrail}
 use Rattle.mb_run.specs.Sights.{recovers, steps_left}
 use Rattle.mb_run.specs.declared.answers.Stepped.TheVariants as stepped
 use Rattle.mb_run.proofs.Counting.{counted_goes, counted_taken}
@@ -56,21 +56,21 @@ use Rattle.mb_volume_core.proofs.Staying.{begun_now, floor_without, keeps_log, m
 
 -- ---- the crossings of the call that runs the step
 
-pub has_for : {F D : Type 0} (core : CoreState F D) (by : Option Crossings) → IfSome by (RunsFor (sight_of core)) → IfSome by (HasFor core)
+pub has_for : {F D : Type 0} (core : CoreState F D) (by : Option Crossings) → IfSome by (RunsForFlight (sight_of core)) → IfSome by (HasFor core)
 has_for core None runs = tt
 has_for core (Some by) runs =
     let here = seated (slice_get core.callers by.caller) runs.0 runs.1 in
     record { of = (record { mine = here.0; here = here.1; flight = runs.0; flies = here.2 }, runs.2); ordinal = runs.3 }
 
-goes_nowhere : (by : Option Crossings) → IfSome by AreCounts → GoOn by by
+goes_nowhere : (by : Option Crossings) → IfSome by AreSixCounts → GoOn by by
 goes_nowhere None are = tt
 goes_nowhere (Some by) are = record { caller = refl; ordinal = refl; counts = λ kind. omega arith; six = refl; fits = are.fits }
 
-goes_counted : (kind : Kind) (by : Option Crossings) → IfSome by AreCounts → GoOn by (counted_if kind by)
+goes_counted : (kind : Kind) (by : Option Crossings) → IfSome by AreSixCounts → GoOn by (counted_if kind by)
 goes_counted kind None are = tt
 goes_counted kind (Some by) are = counted_goes by kind are
 
-pub goes_on : (now : Phase) (by after : Option Crossings) → IfSome by AreCounts → CountsAt now by after → GoOn by after
+pub goes_on : (now : Phase) (by after : Option Crossings) → IfSome by AreSixCounts → CountsAt now by after → GoOn by after
 goes_on phase.Remount by after are is = subst (GoOn by) (sym is) (goes_counted Remount by are)
 goes_on (phase.Replay number) by after are is = subst (GoOn by) (sym is) (goes_counted Replay by are)
 goes_on phase.Idle by after are is = subst (GoOn by) (sym is) (goes_nowhere by are)
@@ -97,7 +97,7 @@ at_none (Some by) None is = tt
 at_none (Some by) (Some now) is = same_Some now by is
 
 -- a fault point where no fault came
-passed_at : (test : Option (Crossing → Bool)) (kind : Kind) (by after : Option Crossings) → after ≡ counted_if kind by → IfSome by (IsUnfired test kind) → IsPassed test kind by after
+passed_at : (test : Option (Crossing → Bool)) (kind : Kind) (by after : Option Crossings) → after ≡ counted_if kind by → IfSome by (IsUnfired test kind) → PassesPoint test kind by after
 passed_at test kind None after is unfired = tt
 passed_at test kind (Some by) None is unfired = tt
 passed_at test kind (Some by) (Some now) is unfired = record { counts = same_Some now (counted by kind) is; unfired = unfired }
@@ -151,7 +151,7 @@ module _ {F D : Type 0} (told : D → Option Image) (faults : D → ℕ) (core :
   -- ---- an event that touches no call
 
   module _ (event : CoreState F D) (is : new ≡ with_room event new) (config : event.config ≡ core.config) (incarnation : event.incarnation ≡ core.incarnation) (callers : event.callers ≡ core.callers) (floor : event.floor ≡ core.floor)
-      (history : event.journal.history ≡ core.journal.history) (trail : Marks core.journal.trail event.journal.trail) where
+      (history : event.journal.history ≡ core.journal.history) (trail : MarksTrail core.journal.trail event.journal.trail) where
     callers_are : new.callers ≡ core.callers
     callers_are = ap (λ (c : CoreState F D). c.callers) is ∙ callers
 
@@ -165,7 +165,7 @@ module _ {F D : Type 0} (told : D → Option Image) (faults : D → ℕ) (core :
         begun = ap (λ (all : List CallerState). (sight_of (record core { callers = all })).begun) callers_are;
         open_calls = ap (λ (all : List CallerState). (sight_of (record core { callers = all })).open_calls) callers_are;
       };
-      log = record { sealed_at = ap (λ (c : CoreState F D). c.journal.sealed_at) is ∙ sealed_at; ops = subst (λ (c : CoreState F D). (sight_of c).ops ≤ ops) (sym is) shorter; trail = subst (λ (c : CoreState F D). Marks core.journal.trail c.journal.trail) (sym is) trail };
+      log = record { sealed_at = ap (λ (c : CoreState F D). c.journal.sealed_at) is ∙ sealed_at; ops = subst (λ (c : CoreState F D). (sight_of c).ops ≤ ops) (sym is) shorter; trail = subst (λ (c : CoreState F D). MarksTrail core.journal.trail c.journal.trail) (sym is) trail };
       floor = inr (ap (λ (c : CoreState F D). c.floor) is ∙ floor);
     }
 
@@ -297,7 +297,7 @@ module _ {F D : Type 0} (told : D → Option Image) (faults : D → ℕ) (core :
     drop_comes recovered.NoMemory is = absurd is
 
     -- the disk failed
-    device_comes : (asks : Option Crossings) → IfSome asks (HasFor core) → FailsStep faults core new (caller_of asks) read.Device → EndsByDevice asks (sight_of core) (sight_of new) × (origin_of new ≡ origin_of core)
+    device_comes : (asks : Option Crossings) → IfSome asks (HasFor core) → FailsStep faults core new (caller_of asks) read.Device → StepEndsByDevice asks (sight_of core) (sight_of new) × (origin_of new ≡ origin_of core)
     device_comes None runs fails = (ap sight_of fails.1.0, ap origin_of fails.1.0)
     device_comes (Some asks) runs fails =
         let call = runs.of.0 in
@@ -365,14 +365,14 @@ module _ {F D : Type 0} (told : D → Option Image) (faults : D → ℕ) (core :
       replay_comes (recovered.Again count) heard is = absurd is
 
       -- the hook faulted
-      module _ (are : IfSome by AreCounts) (strokes : List Stroke) where
-        taken : (crossings : Crossings) (at : Crossing) → AreCounts crossings → next_of at.kind crossings ≡ at → IfSome test (λ fires. fires at ≡ true) → IsTaken test crossings (counted crossings at.kind) (fault_at at)
+      module _ (are : IfSome by AreSixCounts) (strokes : List Stroke) where
+        taken : (crossings : Crossings) (at : Crossing) → AreSixCounts crossings → next_of at.kind crossings ≡ at → IfSome test (λ fires. fires at ≡ true) → FaultIsTaken test crossings (counted crossings at.kind) (fault_at at)
         taken crossings at six same tested =
-            subst (λ (c : Crossing). IsTaken test crossings (counted crossings at.kind) (fault_at c)) same
+            subst (λ (c : Crossing). FaultIsTaken test crossings (counted crossings at.kind) (fault_at c)) same
             (counted_taken test crossings at.kind six (subst (λ (c : Crossing). IfSome test (λ fires. fires c ≡ true)) (sym same) tested))
 
         strikes : (event : CoreState F D) (is : new ≡ with_room event new) → Waits (sight_of core) (sight_of new) → (at : Crossing) → new.journal.records ≡ core.journal.records ++ fault_at at ∷ [] → IsPointOf (phase_now core) at.kind
-            → (asks : Option Crossings) → IfSome asks AreCounts → next_if at.kind asks ≡ Some at → IfSome test (λ fires. fires at ≡ true) → CountsAt (phase_now core) asks after → StrikesBy test asks after (sight_of core) (sight_of new)
+            → (asks : Option Crossings) → IfSome asks AreSixCounts → next_if at.kind asks ≡ Some at → IfSome test (λ fires. fires at ≡ true) → CountsAt (phase_now core) asks after → StrikesBy test asks after (sight_of core) (sight_of new)
         strikes event is waited at records point None six next tested counting = absurd (let wrong : None ≡ Some at = next in cc)
         strikes event is waited at records point (Some crossings) six next tested counting =
             let same : next_of at.kind crossings ≡ at = same_Some (next_of at.kind crossings) at next in
@@ -464,17 +464,17 @@ rose_at told faults core new by test strokes answer is told_so = device_only tol
 -- ---- where the disk failed, the recovery stands where it stood
 
 module _ {F D : Type 0} (faults : D → ℕ) (core new : CoreState F D) where
-  ends_stands : (caller : ℕ) (mine : CallerState) (flight : Flight) → slice_get core.callers caller ≡ Some mine → EndsIf (with_disk core new.cache.disk) new caller mine (Some flight) → Stands (sight_of core) (sight_of new)
+  ends_stands : (caller : ℕ) (mine : CallerState) (flight : Flight) → slice_get core.callers caller ≡ Some mine → EndsIf (with_disk core new.cache.disk) new caller mine (Some flight) → ComesNoFurther (sight_of core) (sight_of new)
   ends_stands caller mine flight here ends =
       ended_stands core caller mine here new (ap (λ (c : CoreState F D). c.journal.oplog) ends.0) (ap (λ (c : CoreState F D). c.stage) ends.0) (ap (λ (c : CoreState F D). c.callers) ends.0)
 
-  fails_stands : (by : Option Crossings) → IfSome by (HasFor core) → FailsStep faults core new (caller_of by) read.Device → Stands (sight_of core) (sight_of new)
+  fails_stands : (by : Option Crossings) → IfSome by (HasFor core) → FailsStep faults core new (caller_of by) read.Device → ComesNoFurther (sight_of core) (sight_of new)
   fails_stands None runs fails = stands_still (sight_of core) (sight_of new) (ap sight_of fails.1.0)
   fails_stands (Some asks) runs fails =
       let call = runs.of.0 in
       ends_stands asks.caller call.mine call.flight call.here (subst (EndsIf (with_disk core new.cache.disk) new asks.caller call.mine) (open_is call.mine.flight call.flight call.flies runs.of.1) (fails.1 call.mine call.here))
 
-  device_stands : (told : D → Option Image) (by : Option Crossings) (test : Option (Crossing → Bool)) (strokes : List Stroke) → IfSome by (HasFor core) → Recovers told faults core new by test strokes recovered.Device → Stands (sight_of core) (sight_of new)
+  device_stands : (told : D → Option Image) (by : Option Crossings) (test : Option (Crossing → Bool)) (strokes : List Stroke) → IfSome by (HasFor core) → Recovers told faults core new by test strokes recovered.Device → ComesNoFurther (sight_of core) (sight_of new)
   device_stands told by test strokes runs is = elim is [
     | inl plainly ↦ absurd plainly
     | inr others ↦ elim others [
@@ -487,5 +487,5 @@ module _ {F D : Type 0} (faults : D → ℕ) (core new : CoreState F D) where
   ]
 
   pub stands_at : (told : D → Option Image) (by : Option Crossings) (test : Option (Crossing → Bool)) (strokes : List Stroke) (answer : Recovered) → IfSome by (HasFor core) → Recovers told faults core new by test strokes answer → stepped_as answer ≡ stepped.Device
-      → Stands (sight_of core) (sight_of new)
+      → ComesNoFurther (sight_of core) (sight_of new)
   stands_at told by test strokes answer runs is told_so = device_stands told by test strokes runs (subst (Recovers told faults core new by test strokes) (is_device answer told_so) is)

@@ -14,7 +14,7 @@ use Rattle.mb_recover.specs.declared.steps.Stepped.{Stepped as Recovered}
 use Rattle.mb_recover.specs.declared.steps.Stepped.TheVariants as recovered
 use Rattle.mb_run.proofs.Rising.{rises_none, rises_one}
 use Rattle.mb_run.specs.CoreSight.{sight_of}
-use Rattle.mb_run.specs.Recovering.{EndsByDevice, RunsFor, Steps}
+use Rattle.mb_run.specs.Recovering.{StepEndsByDevice, RunsForFlight, Steps}
 use Rattle.mb_run.specs.Rising.{RisesWith}
 use Rattle.mb_run.specs.Sights.{Sight}
 use Rattle.mb_volume_core.specs.Answers.{stepped_as}
@@ -30,7 +30,7 @@ struck_point phase.Reopen kind count point = absurd point
 struck_point phase.Resume kind count point = absurd point
 
 -- a call that the disk's failure ended met no fault
-device_still : (by : Option Crossings) (old new : Sight) → IfSome by (RunsFor old) → EndsByDevice by old new → new.records ≡ old.records
+device_still : (by : Option Crossings) (old new : Sight) → IfSome by (RunsForFlight old) → StepEndsByDevice by old new → new.records ≡ old.records
 device_still None old new runs ends = ap (λ (s : Sight). s.records) ends
 device_still (Some asks) old new runs ends = (ends runs.0 runs.1).stays.records
 
@@ -75,7 +75,7 @@ module _ {F D : Type 0} (told : D → Option Image) (faults : D → ℕ) (core n
     ]
   ]
 
-  pub rises : (answer : Recovered) → IfSome by (RunsFor (sight_of core)) → Recovers told faults core new by test strokes answer → Steps test by after (sight_of core) (sight_of new) (stepped_as answer) → HasStruckCause (phase_now core) before now answer → Rises
+  pub rises : (answer : Recovered) → IfSome by (RunsForFlight (sight_of core)) → Recovers told faults core new by test strokes answer → Steps test by after (sight_of core) (sight_of new) (stepped_as answer) → HasStruckCause (phase_now core) before now answer → Rises
   rises (recovered.Again count) runs is steps cause = again count cause is
   rises (recovered.Failed count) runs is steps cause = failed count cause is
   rises recovered.Idle runs is steps cause = still recovered.Idle cause (ap (λ (s : Sight). s.records) steps.1)

@@ -11,8 +11,8 @@ use Rattle.mb_core_order.proofs.Beginning.{set_here, set_there}
 use Rattle.mb_core_order.proofs.Overlays.{total_set}
 use Rattle.mb_run.specs.CoreSight.{pages_kept, seat_of, sight_of, stales_of}
 use Rattle.mb_core_spec.specs.declared.steps.Step.{Step}
-use Rattle.mb_run.specs.Events.{KeepsLog, Stays}
-use Rattle.mb_run.specs.Seals.{Marks, is_other}
+use Rattle.mb_run.specs.Events.{KeepsLog, LeavesOthersAlone}
+use Rattle.mb_run.specs.Seals.{MarksTrail, is_other}
 use Rattle.mb_run.specs.Sights.{limits_of}
 
 -- ---- a list of callers
@@ -52,7 +52,7 @@ module _ {F D : Type 0} (core after : CoreState F D) (caller : ℕ) (now : Calle
   theirs : (other : ℕ) → other ≢ caller → slice_get after.callers other ≡ slice_get core.callers other
   theirs other apart = ap (λ (callers : List CallerState). slice_get callers other) stored ∙ set_there core.callers caller other now apart
 
-  pub stays_at : after.config ≡ core.config → after.journal.records ≡ core.journal.records → after.stage ≡ core.stage → after.incarnation ≡ core.incarnation → Stays caller (sight_of core) (sight_of after)
+  pub stays_at : after.config ≡ core.config → after.journal.records ≡ core.journal.records → after.stage ≡ core.stage → after.incarnation ≡ core.incarnation → LeavesOthersAlone caller (sight_of core) (sight_of after)
   stays_at config records stage incarnation = record {
     config = ap limits_of config;
     records = records;
@@ -80,15 +80,15 @@ module _ {F D : Type 0} (core after : CoreState F D) (caller : ℕ) (now : Calle
 
 -- ---- the operation log stays, and the trace goes on
 
-pub keeps_log : {F D : Type 0} (core new : CoreState F D) → new.journal.sealed_at ≡ core.journal.sealed_at → new.journal.oplog ≡ core.journal.oplog → Marks core.journal.trail new.journal.trail → KeepsLog (sight_of core) (sight_of new)
+pub keeps_log : {F D : Type 0} (core new : CoreState F D) → new.journal.sealed_at ≡ core.journal.sealed_at → new.journal.oplog ≡ core.journal.oplog → MarksTrail core.journal.trail new.journal.trail → KeepsLog (sight_of core) (sight_of new)
 keeps_log core new sealed_at oplog trail = record { sealed_at = sealed_at; ops = (let same : length new.journal.oplog ≡ length core.journal.oplog = ap length oplog in omega (arith, same)); trail = trail }
 
 -- the trace stays, or has one step more
-pub marks_none : (old new : List Step) → new ≡ old → Marks old new
+pub marks_none : (old new : List Step) → new ≡ old → MarksTrail old new
 marks_none old new same = record { steps = []; whole = same ∙ sym (append-nil old); others = tt }
 
-pub marks_one : (old new : List Step) (one : Step) → is_other one ≡ true → new ≡ old ++ one ∷ [] → Marks old new
+pub marks_one : (old new : List Step) (one : Step) → is_other one ≡ true → new ≡ old ++ one ∷ [] → MarksTrail old new
 marks_one old new one is more = record { steps = one ∷ []; whole = more; others = (is, tt) }
 
-pub marks_two : (old new : List Step) (one other : Step) → is_other one ≡ true → is_other other ≡ true → new ≡ (old ++ one ∷ []) ++ other ∷ [] → Marks old new
+pub marks_two : (old new : List Step) (one other : Step) → is_other one ≡ true → is_other other ≡ true → new ≡ (old ++ one ∷ []) ++ other ∷ [] → MarksTrail old new
 marks_two old new one other first last more = record { steps = one ∷ other ∷ []; whole = more ∙ append_assoc old (one ∷ []) (other ∷ []); others = (first, (last, tt)) }

@@ -12,7 +12,7 @@ use Rattle.mb_core_state.specs.declared.answers.Fault.{Fault}
 use Rattle.mb_core_state.specs.declared.answers.Fault.TheVariants as fault
 use Rattle.mb_core_events.specs.Callings.{HoldsTicket}
 use Rattle.mb_run.specs.CoreSight.{sight_of}
-use Rattle.mb_run.specs.Events.{FaultsWith, Strikes as StrikesSight}
+use Rattle.mb_run.specs.Events.{FaultsWith, StrikesCall}
 use Rattle.mb_run.specs.Sights.{IsTicketOf}
 use Rattle.mb_volume_core.proofs.Origins.{origin_of}
 use Rattle.mb_volume_core.proofs.Staying.{keeps_log, marks_one, seated}
@@ -23,7 +23,7 @@ holds_ticket core ticket has =
     record { mine = its.0; here = its.1; flight = has.0; flies = its.2; held = has.2 }
 
 module _ {F D : Type 0} (core new : CoreState F D) (ticket : Ticket) (kind : Kind) (nth : ℕ) (strokes : List Stroke) where
-  strikes_at : StrikesSight (sight_of core) (sight_of (with_room (striking core ticket kind nth strokes) new)) ticket kind nth
+  strikes_at : StrikesCall (sight_of core) (sight_of (with_room (striking core ticket kind nth strokes) new)) ticket kind nth
   strikes_at = record {
     config = refl;
     records = refl;
@@ -38,7 +38,7 @@ module _ {F D : Type 0} (core new : CoreState F D) (ticket : Ticket) (kind : Kin
 
   pub faults_by : (answer : Fault) → Strikes core new ticket kind nth strokes answer → FaultsWith (sight_of core) (sight_of new) ticket kind nth answer
   faults_by (fault.Skip was now) by = ((λ same. by.other (by.mine_is ∙ same ∙ sym by.now_is)), ap (λ (c : CoreState F D). sight_of c) by.same)
-  faults_by (fault.Struck number) by = (by.0, subst (λ (c : CoreState F D). StrikesSight (sight_of core) (sight_of c) ticket kind nth) (sym by.2) strikes_at)
+  faults_by (fault.Struck number) by = (by.0, subst (λ (c : CoreState F D). StrikesCall (sight_of core) (sight_of c) ticket kind nth) (sym by.2) strikes_at)
 
   pub fault_origin : (answer : Fault) → Strikes core new ticket kind nth strokes answer → origin_of new ≡ origin_of core
   fault_origin (fault.Skip was now) by = ap (λ (c : CoreState F D). origin_of c) by.same

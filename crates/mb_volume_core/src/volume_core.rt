@@ -3,7 +3,7 @@ ghost use Rattle.mb_core_spec.specs.Right.{Right};
 ghost use Rattle.mb_core_spec.specs.declared.config.Config.{Config};
 ghost use Rattle.mb_run.specs.CoreSight.{sight_of};
 ghost use Rattle.mb_run.specs.Seals.{is_due};
-ghost use Rattle.mb_run.specs.Served.{AreCounts};
+ghost use Rattle.mb_run.specs.Served.{AreSixCounts};
 ghost use Rattle.mb_volume_core.specs.Flushes.{FlushesAfter};
 ghost use Rattle.mb_volume_core.specs.Seals.{SealsAfter};
 
@@ -41,7 +41,7 @@ fn in_order<F: FileSys, D: Disk>(core: &Core<F, D>)
 
 /// A call has six counts, each of 32 bits. It does nothing, and shows this to whoever calls it.
 fn counts_fit(by: &Option<Crossings>)
-    ensures { IfSome by.now AreCounts }
+    ensures { IfSome by.now AreSixCounts }
 {
     if let Some(crossings) = by {
         let [_enter, _gather, _finish, _leave, _remount, _replay] = crossings.counts;

@@ -1,6 +1,6 @@
 use Rattle.std.proofs.Common.{inl, inr, subst}
 use Rattle.mb_layout.specs.declared.dinodes.Dinode.{Dinode}
-use Rattle.mb_dirs.specs.Rewriting.{Rewrites}
+use Rattle.mb_dirs.specs.Rewriting.{RewritesInode}
 use Rattle.mb_dirs.specs.declared.steps.Advanced.TheVariants as advanced
 use Rattle.mb_dirs.proofs.GrowthSteps.{too_long, no_room, way_asked, out_of_range, block_asked, all_done}
 use Rattle.mb_dirs.proofs.grows.grow.Goals.{then-block-eq0-via-then-block-eq0, then-block-eq0-via-else-block-eq0+then-block-ge262144}
@@ -27,4 +27,4 @@ returns-in-Lacking g c = block_asked (g.V.View.shown c.args.view.now) c.args.cha
 
 pub returns-in-Done-rewrite : goal.returns-in-Done-rewrite
 returns-in-Done-rewrite g c = all_done (g.V.View.shown c.args.view.now) c.args.changes.now c.args.dir c.args.links c.args.moment c.args.name.now c.args.ino c.in-Here.inode c.in-Here.ensures c.reach.new.changes c.in-At.block c.in-At.ensures c.put_slot.new.changes c.rewrite.new.changes c.in-Done.ensures
-    (subst (λ (d : Dinode). Rewrites (g.V.View.shown c.args.view.now) c.put_slot.new.changes c.rewrite.new.changes c.args.dir d advanced.Done) c.longer.ensures c.in-Done-rewrite.ensures)
+    (subst (λ (d : Dinode). RewritesInode (g.V.View.shown c.args.view.now) c.put_slot.new.changes c.rewrite.new.changes c.args.dir d advanced.Done) c.longer.ensures c.in-Done-rewrite.ensures)

@@ -1,5 +1,5 @@
 use Rattle.std.proofs.Common.{◌≡◌, ◌≤◌}
-use Rattle.mb_run.specs.Sights.{IsOrderly}
+use Rattle.mb_run.specs.Sights.{IsOrderlyInSight}
 use Rattle.mb_run.proofs.settles.flush_all.Given as goal
 
 abbrev pub invariant-pages : goal.invariant-pages
@@ -7,7 +7,7 @@ invariant-pages g l = record {
   rest : g.C.EventCore.sight l.core ≡ record (g.C.EventCore.sight l.fn.core) { sealed = (g.C.EventCore.sight l.core).sealed };
   later : g.C.EventCore.faults l.fn.core ≤ g.C.EventCore.faults l.core;
   origin : g.C.EventCore.origin l.core ≡ g.C.EventCore.origin l.fn.core;
-  right : IsOrderly (g.C.EventCore.sight l.core);
+  right : IsOrderlyInSight (g.C.EventCore.sight l.core);
 }
 
 abbrev pub decreases-pages : goal.decreases-pages

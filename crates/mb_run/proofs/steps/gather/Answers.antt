@@ -1,5 +1,5 @@
 use Rattle.std.proofs.Common.{inl, inr, ap, sym, subst, refl, true, ◌∙◌}
-use Rattle.mb_run.specs.Pages.{Grows, GrowsBy}
+use Rattle.mb_run.specs.Pages.{PagesGrow, PagesGrowBy}
 use Rattle.mb_run.specs.declared.runner.Runner.{Runner}
 use Rattle.mb_run.proofs.UnderWay.{grows_same}
 use Rattle.mb_kinds.specs.declared.faults.Kind.TheVariants as kind
@@ -57,10 +57,10 @@ pub returns-in-Device-clause-grown : goal.returns-in-Device-clause-grown
 returns-in-Device-clause-grown g c = inl (ap (λ (r : Runner). r.pages) c.advance.ensures)
 
 pub returns-in-NoMemory-clause-grown : goal.returns-in-NoMemory-clause-grown
-returns-in-NoMemory-clause-grown g c = inr (λ lacks. subst (λ p. Grows c.args.runner.now.pages p) (sym (c.in-NoMemory.ensures.gathers.1 ∙ ap (λ (r : Runner). r.pages) c.if-is_struck.ensures.asks.1)) (grows_same c.args.runner.now.pages))
+returns-in-NoMemory-clause-grown g c = inr (λ lacks. subst (λ p. PagesGrow c.args.runner.now.pages p) (sym (c.in-NoMemory.ensures.gathers.1 ∙ ap (λ (r : Runner). r.pages) c.if-is_struck.ensures.asks.1)) (grows_same c.args.runner.now.pages))
 
 pub returns-in-Done-clause-grown : goal.returns-in-Done-clause-grown
-returns-in-Done-clause-grown g c = subst (λ p. GrowsBy c.args.need p c.gather.new.pages) (ap (λ (r : Runner). r.pages) c.if-is_struck.ensures.asks.1) (inr c.in-Done.ensures.gathers.1.grows)
+returns-in-Done-clause-grown g c = subst (λ p. PagesGrowBy c.args.need p c.gather.new.pages) (ap (λ (r : Runner). r.pages) c.if-is_struck.ensures.asks.1) (inr c.in-Done.ensures.gathers.1.grows)
 
 pub returns-then-is_struck-clause-calm : goal.returns-then-is_struck-clause-calm
 returns-then-is_struck-clause-calm g c = λ goes. struck_calm true (g.H.Hook.test c.args.hook.now) (g.C.EventCore.sight c.args.core.now) (g.C.EventCore.sight c.is_struck.new.core) _ c.args.runner.now c.is_struck.new.runner _ c.args.ticket.now kind.Gather c.if-is_struck.ensures.asks

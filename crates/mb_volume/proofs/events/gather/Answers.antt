@@ -1,5 +1,5 @@
 use Rattle.std.proofs.Common.{◌≡◌, true, false, refl, ap, inl, inr, subst, sym}
-use Rattle.mb_run.specs.Pages.{Grows}
+use Rattle.mb_run.specs.Pages.{PagesGrow}
 use Rattle.mb_run.proofs.UnderWay.{grows_same}
 use Rattle.mb_volume.specs.declared.attempt.Attempt.{Attempt}
 use Rattle.mb_core_state.specs.declared.answers.Gathered.TheVariants as gathered
@@ -55,7 +55,7 @@ pub returns-in-Device-clause-grown : goal.returns-in-Device-clause-grown
 returns-in-Device-clause-grown g c = inl (ap (λ (a : Attempt). a.pages) c.back-in-Device.ensures)
 
 pub returns-in-NoMemory-clause-grown : goal.returns-in-NoMemory-clause-grown
-returns-in-NoMemory-clause-grown g c = inr (λ lacks. subst (λ p. Grows c.args.attempt.now.pages p) (sym c.in-NoMemory.ensures.gathers.1) (grows_same c.args.attempt.now.pages))
+returns-in-NoMemory-clause-grown g c = inr (λ lacks. subst (λ p. PagesGrow c.args.attempt.now.pages p) (sym c.in-NoMemory.ensures.gathers.1) (grows_same c.args.attempt.now.pages))
 
 pub returns-in-Done-clause-grown : goal.returns-in-Done-clause-grown
 returns-in-Done-clause-grown g c = inr c.in-Done.ensures.gathers.1.grows

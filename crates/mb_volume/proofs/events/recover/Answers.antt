@@ -1,7 +1,7 @@
 use Rattle.std.proofs.Common.{subst, sym}
 use Rattle.mb_run.specs.Sights.{Sight}
 use Rattle.mb_volume.specs.Parts.{part_of}
-use Rattle.mb_volume.specs.Underway.{IsUnderway}
+use Rattle.mb_volume.specs.Underway.{IsCallUnderway}
 use Rattle.mb_volume.proofs.Entered.{moves_nothing}
 use Rattle.mb_volume.proofs.Marking.{marks_idle, marks_rolled}
 use Rattle.mb_volume.proofs.Rolled.{comes_by, moves_by, runs_for, same_caller}
@@ -12,7 +12,7 @@ recover_step-stepped-requires-clause-by g c = runs_for _ _ _ (g.C.EventCore.sigh
 
 pub returns-in-Idle-clause-goes : goal.returns-in-Idle-clause-goes
 returns-in-Idle-clause-goes g c = λ from u.
-    subst (λ (s : Sight). IsUnderway c.args.call.now (g.H.Hook.test c.args.hook.now) from (part_of s c.args.attempt.now.crossings.caller) c.args.attempt.now) (sym c.in-Idle.ensures.steps.1) u
+    subst (λ (s : Sight). IsCallUnderway c.args.call.now (g.H.Hook.test c.args.hook.now) from (part_of s c.args.attempt.now.crossings.caller) c.args.attempt.now) (sym c.in-Idle.ensures.steps.1) u
 
 pub returns-in-Idle-clause-moves : goal.returns-in-Idle-clause-moves
 returns-in-Idle-clause-moves g c = moves_nothing _ _ _ c.in-Idle.ensures.steps.1

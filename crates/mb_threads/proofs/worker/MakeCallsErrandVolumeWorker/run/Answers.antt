@@ -9,7 +9,7 @@ use Rattle.mb_volume.proofs.Holding.{later_same, later_then}
 use Rattle.mb_threads.proofs.Together.{dealt_idle}
 use Rattle.mb_threads.proofs.Sending.{volume_sync, worker_send}
 use Rattle.mb_threads.proofs.Making.{calls_mine, made_more, may_more}
-use Rattle.mb_threads.specs.Workers.{HasMade}
+use Rattle.mb_threads.specs.Workers.{HasMadeCalls}
 use Rattle.mb_threads.proofs.worker.MakeCallsErrandVolumeWorker.run.Goals as goal
 
 pub loop-made-init : goal.loop-made-init
@@ -28,7 +28,7 @@ loop-made-preserved g c =
     let next = calls_mine calls c.loop-made.made-index c.args.own.pass.caller c.made-item.result here (c.if-made-caller.false ∙ c.caller-caller.ensures) in
     record {
       later = later_then _ _ _ _ c.loop-made.invariant.later c.call.ensures.later;
-      made = subst (λ (cs : List Call). HasMade cs (g.H.Hook.test c.args.own.hook) (part_in c.call.new.pass)) (sym next)
+      made = subst (λ (cs : List Call). HasMadeCalls cs (g.H.Hook.test c.args.own.hook) (part_in c.call.new.pass)) (sym next)
           (made_more (calls_of (take c.loop-made.made-index calls) c.args.own.pass.caller) c.made-item.result.call (g.H.Hook.test c.args.own.hook) c.loop-made.pass.caller (part_in c.loop-made.pass) (part_in c.call.new.pass) c.in-Ok.field-0
           c.loop-made.invariant.made (rw c.loop-made.invariant.test at c.in-Ok.ensures.ok));
       caller = c.loop-made.invariant.caller;

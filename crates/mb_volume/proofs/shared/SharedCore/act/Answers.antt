@@ -1,7 +1,7 @@
 use Rattle.std.proofs.Common.{ap, sym, subst, ◌∙◌}
 use Rattle.mb_run.specs.CoreSight.{sight_of}
 use Rattle.mb_volume.specs.Parts.{part_of}
-use Rattle.mb_volume.specs.Passed.{Marks}
+use Rattle.mb_volume.specs.Passed.{MarksPoints}
 use Rattle.mb_volume.specs.Shared.{Shared}
 use Rattle.mb_volume.specs.Underway.{Goes, IsOn, MayCome}
 use Rattle.mb_volume.specs.declared.attempt.Attempt.{Attempt}
@@ -41,5 +41,5 @@ returns-clause-same g c = c.act.ensures.same ∙ ap (λ (a : Attempt). a.crossin
 pub returns-clause-marks : goal.returns-clause-marks
 returns-clause-marks g c =
     let attempt = c.args.attempt.now in
-    subst (λ (s : Shared g.row.F.Denot g.row.D.Denot). Marks c.args.event ((sight_of s.core.core).seats attempt.crossings.caller) ((sight_of c.act.new.core.core).seats attempt.crossings.caller) attempt c.act.new.attempt c.act.result) c.self.view_is
+    subst (λ (s : Shared g.row.F.Denot g.row.D.Denot). MarksPoints c.args.event ((sight_of s.core.core).seats attempt.crossings.caller) ((sight_of c.act.new.core.core).seats attempt.crossings.caller) attempt c.act.new.attempt c.act.result) c.self.view_is
     (marks_emptied c.args.event (sight_of c.self.inside.kept.value.core.core).seats (sight_of c.act.new.core.core).seats attempt c.act.new.attempt c.act.result (rw (c.swap_pages.ensures.attempt, c.deref_mut-kept.ensures.value) at c.act.ensures.marks))

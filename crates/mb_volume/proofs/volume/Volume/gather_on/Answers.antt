@@ -1,5 +1,5 @@
 use Rattle.std.proofs.Common.{◌≡◌, true, subst, sym}
-use Rattle.mb_run.specs.Pages.{GrowsBy, IsUnderWay, has}
+use Rattle.mb_run.specs.Pages.{PagesGrowBy, IsUnderWay, has}
 use Rattle.mb_run.proofs.UnderWay.{gathered_way}
 use Rattle.mb_volume.specs.Passed.{Hears}
 use Rattle.mb_volume.specs.Passing.{part_in}
@@ -21,6 +21,6 @@ returns-else-is_none-clause-going g c =
     let same = sym c.foresee-need.ensures.same in
     let there = subst (λ pages. has pages 0 ≡ true) same c.requires.there in
     let going = subst (λ pages. IsUnderWay pages c.args.attempt.now.crossings.caller c.args.call.now c.args.way.now) same c.requires.going in
-    let grown = said_there c.gather-came.result.1 (GrowsBy c.foresee-need.result c.foresee-need.new.self c.gather-came.new.attempt.pages) c.if-is_none.ensures c.gather-came.ensures.grown in
+    let grown = said_there c.gather-came.result.1 (PagesGrowBy c.foresee-need.result c.foresee-need.new.self c.gather-came.new.attempt.pages) c.if-is_none.ensures c.gather-came.ensures.grown in
     subst (λ caller. IsUnderWay c.gather-came.new.attempt.pages caller c.args.call.now c.keep_way.new.way) (sym c.gather-came.ensures.same)
     (gathered_way c.foresee-need.new.self c.gather-came.new.attempt.pages c.args.attempt.now.crossings.caller c.args.call.now c.foresee-need.result c.args.way.now c.keep_way.new.way there going c.keep_way.ensures grown)

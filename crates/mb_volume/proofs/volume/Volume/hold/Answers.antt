@@ -1,7 +1,7 @@
 use Rattle.std.proofs.Common.{subst, sym}
 use Rattle.mb_run.specs.CoreSight.{sight_of}
 use Rattle.mb_volume.specs.Parts.{Part}
-use Rattle.mb_volume.specs.Underway.{IsUnderway, MayCome}
+use Rattle.mb_volume.specs.Underway.{IsCallUnderway, MayCome}
 use Rattle.mb_volume.proofs.Holding.{declared_on, held_leads, held_marks, later_held, others_held, taken_part}
 use Rattle.mb_volume.proofs.Telling.{is_told}
 use Rattle.mb_volume.proofs.Rising.{rises_held}
@@ -13,7 +13,7 @@ act-came-requires-clause-on g c =
     let making = c.requires.making in
     let low = declared_on (sight_of saw) c.args.pass.now.caller c.args.call.now _ _ c.args.attempt.now making.caller making.underway in
     let same = taken_part saw c.take-shared.result.core.core saw c.args.pass.now.caller c.args.attempt.now.crossings.caller making.caller low c.take-shared.ensures.origin c.take-shared.ensures.mine c.take-shared.ensures.stand in
-    (_, making.from, subst (λ (p : Part). IsUnderway c.args.call.now (g.H.Hook.test c.args.hook.now) making.from p c.args.attempt.now) (sym same) making.underway)
+    (_, making.from, subst (λ (p : Part). IsCallUnderway c.args.call.now (g.H.Hook.test c.args.hook.now) making.from p c.args.attempt.now) (sym same) making.underway)
 
 pub act-came-requires-clause-may : goal.act-came-requires-clause-may
 act-came-requires-clause-may g c =

@@ -1,6 +1,6 @@
 use Rattle.std.proofs.Common.{◌∙◌, sym, subst}
 use Rattle.mb_run.specs.CoreSight.{sight_of}
-use Rattle.mb_run.specs.Recovering.{RunsFor, Steps}
+use Rattle.mb_run.specs.Recovering.{RunsForFlight, Steps}
 use Rattle.mb_run.specs.declared.answers.Stepped.{Stepped}
 use Rattle.mb_run.proofs.InTime.{if_some_at, steps_time}
 use Rattle.mb_volume_core.proofs.Orderly.{orderly}
@@ -42,4 +42,4 @@ returns-clause-rises g c =
 pub returns-clause-right : goal.returns-clause-right
 returns-clause-right g c =
     orderly g.D.Disk.told g.D.Disk.faults c.recover_step-stepped.new.core c.in_order-2.ensures
-    (steps_time (g.H.Hook.test c.args.hook.now) c.args.by.now c.recover_step-stepped.new.by _ _ _ (if_some_at (RunsFor (sight_of c.args.self.now.core)) c.args.by.now c.requires.by) (returns-clause-steps g c) c.requires.right.seals)
+    (steps_time (g.H.Hook.test c.args.hook.now) c.args.by.now c.recover_step-stepped.new.by _ _ _ (if_some_at (RunsForFlight (sight_of c.args.self.now.core)) c.args.by.now c.requires.by) (returns-clause-steps g c) c.requires.right.seals)
