@@ -17,7 +17,7 @@ use Rattle.mb_core_spec.specs.declared.stages.Stage.{Stage}
 use Rattle.mb_core_spec.specs.declared.stages.Stage.TheVariants as stage
 use Rattle.mb_core_spec.specs.declared.steps.Step.TheVariants as step
 use Rattle.mb_core_order.proofs.Readings.{flying_inside}
-use Rattle.mb_core_state.specs.Entering.{EntersInSight as CoreEnters, GoesIn, HasEntry, HasTicketNow, IsCause, IsHandedOut, IsShut, LacksEntry, LacksTicket, begun_if, flight_if, reserved_by, waiting_if}
+use Rattle.mb_core_state.specs.Entering.{Enters as CoreEnters, GoesIn, HasEntry, HasTicketNow, IsCause, IsHandedOut, IsShut, LacksEntry, LacksTicket, begun_if, flight_if, reserved_by, waiting_if}
 use Rattle.mb_core_state.specs.declared.answers.Enter.{Enter as Entered}
 use Rattle.mb_core_state.specs.declared.answers.Enter.TheVariants as entered
 use Rattle.mb_core_events.specs.Callings.{MayCall}

@@ -33,7 +33,7 @@ use Rattle.mb_core_spec.specs.declared.stages.Stage.TheVariants as stage
 use Rattle.mb_core_spec.specs.declared.steps.Step.TheVariants as step
 use Rattle.mb_core_order.proofs.Keepings.{without_mine}
 use Rattle.mb_core_state.specs.Answers.{IsPresent}
-use Rattle.mb_core_state.specs.Finishing.{FinishesInSight as EndsBy, IsLogged}
+use Rattle.mb_core_state.specs.Finishing.{Finishes as EndsBy, IsLogged}
 use Rattle.mb_core_state.specs.declared.answers.Finished.{Finished}
 use Rattle.mb_core_state.specs.declared.answers.Finished.TheVariants as finished
 use Rattle.mb_core_events.specs.Callings.{HoldsTicket, MayFinish}

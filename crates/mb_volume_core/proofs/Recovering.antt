@@ -34,7 +34,7 @@ use Rattle.mb_core_state.specs.declared.answers.Phase.{Phase}
 use Rattle.mb_core_state.specs.declared.answers.Phase.TheVariants as phase
 use Rattle.mb_core_events.specs.Callings.{Unwinds, phase_now}
 use Rattle.mb_core_events.proofs.Phases.{drops_at, remounts_at, reopens_at, replays_at, resumes_at, unwinds_at}
-use Rattle.mb_recover.specs.Steps.{CountsAt, Drops, IsMet, IsPointOf, IsUnfired, IsUnheard, Plainly, Recovers, Remounts, Replays, RunsForFlight as HasFor, caller_of, counted_if, next_if, next_of, striking_at}
+use Rattle.mb_recover.specs.Steps.{CountsAt, Drops, IsMet, IsPointOf, IsUnfired, IsUnheard, Plainly, Recovers, Remounts, Replays, RunsFor as HasFor, caller_of, counted_if, next_if, next_of, striking_at}
 use Rattle.mb_recover.specs.declared.steps.Stepped.{Stepped as Recovered}
 use Rattle.mb_recover.specs.declared.steps.Stepped.TheVariants as recovered
 use Rattle.mb_run.specs.CoreSight.{seat_of, sight_of}
