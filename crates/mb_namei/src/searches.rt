@@ -75,18 +75,20 @@ pub fn search<V: View>(view: &V, changes: &Changes, dir: u16, size: u32, name: &
     if parts < MANY {
         return search_by(view, changes, None, dir, size, name);
     }
-    search_by(
-        view,
-        changes,
-        Addresses::read(view, changes, dir),
-        dir,
-        size,
-        name,
-    )
+    search_far(view, changes, dir, size, name)
 }
 
-/// Searches a directory part after part, whose addresses are at hand where there are any. It stands in its caller twice: where
-/// none are, each part goes by the inode.
+/// Searches a directory of many parts. It stays out of its caller, whose way to a directory of few parts is short.
+#[inline(never)]
+fn search_far<V: View>(view: &V, changes: &Changes, dir: u16, size: u32, name: &Name) -> Sought
+    ensures { Seeks (V.shown view.now) changes.now dir size name.now result }
+{
+    let addresses = Addresses::read(view, changes, dir);
+    search_by(view, changes, addresses, dir, size, name)
+}
+
+/// Searches a directory part after part, whose addresses are at hand where there are any. It stands in its callers: where none
+/// are, each part goes by the inode.
 #[inline(always)]
 fn search_by<V: View>(
     view: &V,
