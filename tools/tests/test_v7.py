@@ -912,9 +912,9 @@ class PromptAndPages(Case):
         for command in commands:
             self.assertRegex(page, rf'(?m)^\.(B|BI) "?(v7 )?{command}\b')
         statuses = re.findall(r"^  (\d[\d, ]*?)  ", said, re.M)
-        self.assertEqual(statuses, ["0", "1", "2", "3", "4", "5", "6", "7", "8", "70", "71", "130, 143"])
+        self.assertEqual(statuses, ["0", "1", "2", "3", "4", "5", "6", "7", "8", "70", "71", "129, 130, 143"])
         listed = page[page.index(".SH EXIT STATUS") : page.index(".SH", page.index(".SH EXIT STATUS") + 1)]
-        listed = re.findall(r'(?m)^\.BR? (\d+(?: ", " \d+)?)$', listed)
+        listed = re.findall(r'(?m)^\.BR? (\d+(?: ", " \d+)*)$', listed)
         self.assertEqual([numbers.replace(' ", " ', ", ") for numbers in listed], statuses)
 
 
