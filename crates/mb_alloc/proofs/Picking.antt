@@ -15,9 +15,6 @@ pub record HasPassed (shown : ℕ → Option (List ℕ)) (changes : ChangeList) 
   pub same : (blocks : ℕ → List ℕ) → IsPart shown blocks
       → pick_from (is_free_number (over blocks (changed changes))) (cached_below bytes count) ≡ pick_from (is_free_number (over blocks (changed changes))) (cached_below bytes (count - passed))
 
-pub passed_none : (shown : ℕ → Option (List ℕ)) (changes : ChangeList) (bytes : List ℕ) (count : ℕ) → HasPassed shown changes bytes count 0
-passed_none shown changes bytes count = record { same = λ blocks part. ap (λ n. pick_from (is_free_number (over blocks (changed changes))) (cached_below bytes n)) (omega arith) }
-
 pub one_more : (blocks : ℕ → List ℕ) (bytes : List ℕ) (left ino : ℕ) (is : Bool) → ino ≡ cached_of bytes left → is_free_number blocks ino ≡ is
     → pick_from (is_free_number blocks) (cached_below bytes (suc left)) ≡ cond is (Some (ino, cached_below bytes left)) (pick_from (is_free_number blocks) (cached_below bytes left))
 one_more blocks bytes left ino is reads told =

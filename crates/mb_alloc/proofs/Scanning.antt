@@ -135,9 +135,6 @@ pub record HasScanned (shown : ℕ → Option (List ℕ)) (changes : ChangeList)
   pub found : (blocks : ℕ → List ℕ) → IsPart shown blocks → size ≡ isize_of (over blocks (changed changes) 1) → words_back list 0 count ≡ free_below (over blocks (changed changes)) ino
 
 module _ (shown : ℕ → Option (List ℕ)) (changes : ChangeList) (size : ℕ) where
-  pub scanned_none : (list : List ℕ) → length list ≡ 200 → HasScanned shown changes size list 0 3
-  scanned_none list long = record { few = omega arith; long = long; found = λ blocks part is. refl }
-
   pub scanned_free : (list now : List ℕ) (count ino : ℕ) → count < 100 → ino < 65536 → now ≡ put_at list (198 - 2 * count) (word_bytes ino)
       → ((blocks : ℕ → List ℕ) → IsPart shown blocks → size ≡ isize_of (over blocks (changed changes) 1) → is_free_number (over blocks (changed changes)) ino ≡ true)
       → HasScanned shown changes size list count ino → HasScanned shown changes size now (count + 1) (ino + 1)
@@ -232,9 +229,6 @@ pub words_first : (list : List ℕ) (count : ℕ) → count ≢ 0 → words_back
 words_first list count some = (let e : count ≡ suc (count - 1) = omega (arith, some) in ap (words_back list 0) e)
 
 -- ---- the pick
-
-pub picked_cached : (blocks : ℕ → List ℕ) (ino : ℕ) (rest : List ℕ) → pick_from (is_free_number blocks) (cached_in blocks) ≡ Some (ino, rest) → pick_of blocks ≡ Some (ino, rest)
-picked_cached blocks ino rest found = ap (λ o. option_or o (pick_from (is_free_number blocks) (free_numbers blocks))) found
 
 pub picked_listed : (blocks : ℕ → List ℕ) (ino : ℕ) (rest : List ℕ) → pick_from (is_free_number blocks) (cached_in blocks) ≡ None → free_numbers blocks ≡ ino ∷ rest → pick_of blocks ≡ Some (ino, rest)
 picked_listed blocks ino rest none is =

@@ -9,7 +9,7 @@ use Rattle.mb_kinds.specs.Changed.{ChangeList, changed}
 use Rattle.mb_blocks.proofs.PartBytes.{entry_is}
 use Rattle.mb_bmap.specs.declared.routes.Route.{Route}
 use Rattle.mb_bmap.specs.Ways.{route_of, way}
-use Rattle.mb_bmap.specs.Locating.{address_on, IsBounded, IsFirstHole, IsOnWayTo, OnWay, Locates, LocatesAt}
+use Rattle.mb_bmap.specs.Locating.{address_on, IsBounded, OnWay, Locates, LocatesAt}
 use Rattle.mb_bmap.specs.declared.addresses.Located.{Located}
 use Rattle.mb_bmap.specs.declared.addresses.Located.TheVariants as located
 use Rattle.mb_bmap.proofs.Walking.{route_is}
@@ -47,15 +47,6 @@ module _ (shown : ℕ → Option (List ℕ)) (changes : ChangeList) (ino : ℕ) 
           ],
         ));
   }
-
-  pub missing_here : (level here : ℕ) → HasFollowed shown changes ino r level here → here ≡ 0 → OnWay shown changes ino r (λ blocks. IsFirstHole blocks ino r level)
-  missing_here level here was none blocks part bounded = (let w = was.followed blocks part bounded in record { hole = w.0 ∙ none; before = w.1 })
-
-  pub far_here : (level here : ℕ) → level ≤ r.depth → HasFollowed shown changes ino r level here → 262144 ≤ here → OnWay shown changes ino r (λ blocks. IsFirstHole blocks ino r level)
-  far_here level here low was far blocks part bounded = (let w = (was.followed blocks part bounded).0 in let b = bounded level low in absurd (omega (arith, w, b, far)))
-
-  pub asked_here : (level here last : ℕ) → level < last → HasFollowed shown changes ino r level here → OnWay shown changes ino r (λ blocks. IsOnWayTo blocks ino r last here)
-  asked_here level here last low was blocks part bounded = inr (level, low, sym (was.followed blocks part bounded).0)
 
   pub found_here : (level here last : ℕ) → level ≡ last → HasFollowed shown changes ino r level here → OnWay shown changes ino r (λ blocks. address_on blocks ino r last ≡ here)
   found_here level here last end was blocks part bounded = ap (address_on (over blocks (changed changes)) ino r) (sym end) ∙ (was.followed blocks part bounded).0

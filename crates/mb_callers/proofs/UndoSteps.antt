@@ -34,10 +34,6 @@ module _ (now start : ℕ → ℕ) (whole steps rest : List Undo) (so_far : (blo
       let one : is_pin at step ≡ 1 = ap (is_pin at) pin ∙ ap one_if (let same : nat_eq at at ≡ true = grind (arith, nat_tests) in same) in
       omega (arith, so_far at, more, one, covers at)
 
-  less_one : (test : Bool) (left : ℕ) (n m w s : ℕ) → left ≡ cond test (n - 1) n → 0 < n → n + w ≡ s + (m + one_if test) → left + w ≡ s + m
-  less_one true left n m w s is some sum = omega (arith, is, some, sum)
-  less_one false left n m w s is some sum = omega (arith, is, sum)
-
   less_none : (test : Bool) (left : ℕ) (n m w s : ℕ) → left ≡ cond test (n - 1) n → (test ≡ true → 0 < n) → n + w ≡ s + (m + one_if test) → left + w ≡ s + m
   less_none true left n m w s is some sum = omega (arith, is, some refl, sum)
   less_none false left n m w s is some sum = omega (arith, is, sum)

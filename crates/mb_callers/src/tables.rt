@@ -52,12 +52,14 @@ impl KeptTables {
         })
     }
 
+    /// The sessions.
     pub fn sessions(&self) -> &Sessions
         ensures { result.now ≡ self.now.sessions }
     {
         &self.sessions
     }
 
+    /// How often each file is open.
     pub fn opens(&self) -> &Opens
         ensures { result.now ≡ self.now.opens }
     {

@@ -26,7 +26,7 @@ use Rattle.mb_calls.specs.declared.walks.Ahead.{Ahead}
 use Rattle.mb_calls.specs.declared.walks.PathWalk.{PathWalk}
 use Rattle.mb_calls.specs.declared.walks.PathWalks.{PathWalks}
 use Rattle.mb_calls.proofs.Nearby.{has_first, near_more}
-use Rattle.mb_calls.proofs.Walking.{find_followed, place_followed, way_followed, way_head, followed_on, grown_part}
+use Rattle.mb_calls.proofs.Walking.{place_followed, way_followed, way_head, followed_on, grown_part}
 
 module _ (path : List ℕ) (from next : ℕ) (cut : IsCut path from next) where
   cut_is : drop from path ≡ piece_of path from next ++ slash ∷ drop next path
@@ -78,9 +78,6 @@ module _ (shown : ℕ → Option (List ℕ)) (seat : Seat) (path : List ℕ) (wa
 
 -- what the rest of a walk finds is what the path finds
 module _ (shown : ℕ → Option (List ℕ)) (seat : Seat) (path : List ℕ) (walk : PathWalk) (rest : List ℕ) (kept : IsKept shown seat path walk) (is : rest ≡ drop walk.from path) (image : Image) (tree : Tree) (over : IsOver shown seat image tree) where
-  pub rest_find : (result : Result Stat Halt) → Matches result (find_path tree.nodes seat.cred walk.dir rest) → Matches result (find_path tree.nodes seat.cred seat.cwd path)
-  rest_find result h = subst (Matches result) (sym (find_followed tree.nodes seat.cred seat.cwd path walk.dir (drop walk.from path) (kept.followed image tree over) ∙ ap (find_path tree.nodes seat.cred walk.dir) (sym is))) h
-
   pub rest_place : (result : Result Placed Halt) → Matches result (find_place tree.nodes seat.cred walk.dir rest) → Matches result (find_place tree.nodes seat.cred seat.cwd path)
   rest_place result h = subst (Matches result) (sym (place_followed tree.nodes seat.cred seat.cwd path walk.dir (drop walk.from path) (kept.followed image tree over) ∙ ap (find_place tree.nodes seat.cred walk.dir) (sym is))) h
 

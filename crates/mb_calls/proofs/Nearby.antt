@@ -112,12 +112,6 @@ module _ (nodes : Numbered Node) (seat : Seat) (made : Call) where
     pub find_looked : (stat : Stat) → find_path nodes seat.cred seat.cwd path ≡ Ok stat → IsLooked nodes seat made stat.ino
     find_looked stat h = passed path has (found_on_way nodes seat.cred seat.cwd path stat h)
 
-    pub find_passed : (tree : Tree) → tree.nodes ≡ nodes → (ino : ℕ) → IsOnWay nodes seat.cred (start_of seat.cwd path) (components path) ino → IsLooked nodes seat made ino
-    find_passed tree is ino h = passed path has h
-
-    pub place_passed : (ino : ℕ) → (steps : ℕ) × (steps < length (components path)) × (walk nodes seat.cred (start_of seat.cwd path) (take steps (components path)) ≡ Ok ino) → IsLooked nodes seat made ino
-    place_passed ino h = passed path has (before_is nodes seat.cred (start_of seat.cwd path) (components path) ino h)
-
   pub named_looked : (named : ℕ) → IsLooked nodes seat made named → (ino : ℕ) → ino ≡ named → IsLooked nodes seat made ino
   named_looked named h ino is = subst (IsLooked nodes seat made) (sym is) h
 

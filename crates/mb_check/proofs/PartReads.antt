@@ -37,9 +37,6 @@ module _ (blocks : ℕ → List ℕ) (table : InodeTable) (dir : ℕ) (kept : In
   whole_slots : kept.size ≡ 16 * slots
   whole_slots = (let even = (keeps.inode.parts keeps.directory).even in omega (arith, even))
 
-  pub below_size : (part : ℕ) → part < (kept.size + 511) / 512 → 512 * part < kept.size
-  below_size part low = omega (arith, low)
-
   pub before_is : (part : ℕ) → 512 * part < kept.size → slots_before kept.size part ≡ 32 * part
   before_is part less = (let whole = whole_slots in omega (arith, less, whole))
 

@@ -1,5 +1,5 @@
 -- All slots of a directory were counted: the counts before the next one.
-use Rattle.std.proofs.Common.{◌≡◌, inl, inr, ℕ, zero, suc, ◌+◌, ◌*◌, ◌/◌, ◌<◌, ◌≤◌, List, [], ◌∷◌, ◌++◌, Bool, true, false, ◌&&◌, nat_le, min, if◌then◌else◌, map, Result, Ok, Err, length, count_by, drop, refl, sym, ap, subst, ◌∙◌, arith}
+use Rattle.std.proofs.Common.{if◌then◌else◌, ◌≡◌, inl, inr, ℕ, zero, suc, ◌+◌, ◌*◌, ◌/◌, ◌<◌, ◌≤◌, List, [], ◌∷◌, ◌++◌, Bool, true, false, ◌&&◌, nat_le, min, map, Result, Ok, Err, length, count_by, drop, refl, sym, ap, subst, ◌∙◌, arith}
 use Rattle.std.specs.List.{range_with_len}
 use Rattle.std.proofs.Math.Seq.{drop-nil}
 use Rattle.std.proofs.lemmas.Bool.{cases_lt}
@@ -138,9 +138,6 @@ module _ (blocks : ℕ → List ℕ) (table : InodeTable) (dir : ℕ) (kept : In
 
   slots_of : kept.size / 16 ≡ size_at blocks dir / 16
   slots_of = ap (λ n. n / 16) keeps.inode.size
-
-  pub starts_none : 0 ≡ slots_before kept.size 0
-  starts_none = omega arith
 
   module _ (met : List ℕ) (part : ℕ) where
     module _ (less : 512 * part < kept.size) (so_far : walked met (each_from items 0 (slots_before kept.size part)) ≡ Ok met) where

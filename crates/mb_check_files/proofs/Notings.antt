@@ -1,12 +1,12 @@
 -- What is listed of the parts of a file, as more of them are gone through.
-use Rattle.std.proofs.Common.{◌≡◌, ◌⊎◌, inl, inr, ℕ, zero, suc, ◌+◌, ◌-◌, ◌*◌, ◌<◌, ◌≤◌, List, [], ◌∷◌, ◌++◌, length, slice_index, below_more, refl, sym, ap, subst, ◌∙◌, arith}
+use Rattle.std.proofs.Common.{◌≡◌, ◌⊎◌, inl, inr, ℕ, ◌+◌, ◌-◌, ◌*◌, ◌<◌, ◌≤◌, List, [], ◌∷◌, ◌++◌, length, slice_index, below_more, refl, sym, ap, subst, ◌∙◌, arith}
 use Rattle.std.proofs.lemmas.Bool.{cases_lt}
 use Rattle.std.proofs.Math.Seq.{get_or-append_seam}
 use Rattle.std.proofs.lemmas.List.{get_or_append_left, length-append}
 use Rattle.mb_check_files.specs.declared.part_lists.Run.{Run}
 use Rattle.mb_check_files.specs.declared.part_lists.Run.TheVariants.{Whole, Ended, Torn}
 use Rattle.mb_check_files.specs.declared.part_lists.PartList.{PartList}
-use Rattle.mb_check_files.specs.PartLists.{Extends, IsTorn, RunsTo, ListsParts, Notes, run_passed}
+use Rattle.mb_check_files.specs.PartLists.{Extends, RunsTo, ListsParts, Notes, run_passed}
 
 module _ (address : ℕ → ℕ) (from count below n : ℕ) (some : 0 < n) (holes : (k : ℕ) → k < n → address (below + k) ≡ 0) where
   run_holes : (run : Run) → RunsTo address count below run → RunsTo address count (below + n) (run_passed run)
@@ -38,9 +38,6 @@ module _ (old new : PartList) (a : ℕ) (was : old.run ≡ Whole) (is : new.run 
 
   before : (k : ℕ) → k < length old.addresses.items → slice_index new.addresses.items k ≡ slice_index old.addresses.items k
   before k low = ap (λ (xs : List ℕ). slice_index xs k) items ∙ get_or_append_left old.addresses.items (a ∷ []) 0 k low
-
-  pub added_extends : Extends old.addresses.items new.addresses.items
-  added_extends = record { longer = (let e = longer in omega (arith, e)); same = before }
 
   module _ (address : ℕ → ℕ) (from below : ℕ) (same : (k : ℕ) → k < 1 → address (below + k) ≡ a) (lists : ListsParts address from below old) where
     all_so_far : lists.count ≡ below

@@ -1,3 +1,4 @@
+//! The first parts of the scan: the super-block, the free chain, and the inodes with all that they hold.
 //!
 //! Each pass goes through its part of the list of tests that `mb_rules` calls the scan of an image, reads each block once,
 //! and ends at the first broken rule. Which blocks were met is kept as one flag a block: `specs/Passes.antt` says what the

@@ -1,5 +1,5 @@
 -- The parts of a file, by their addresses; a map that has them all is the one that the bytes show.
-use Rattle.std.proofs.Common.{◌≡◌, inl, inr, ℕ, ◌+◌, ◌<◌, ◌≤◌, List, true, false, nat_lt, cond, map, None, sym, ap, ◌∙◌, arith}
+use Rattle.std.proofs.Common.{◌≡◌, inl, inr, ℕ, ◌+◌, ◌<◌, ◌≤◌, List, true, nat_lt, cond, map, None, sym, ap, ◌∙◌, arith}
 use Rattle.std.specs.FinMap as fin
 use Rattle.std.specs.List.{range_with_len}
 use Rattle.std.proofs.lemmas.Bool.{cases_lt}
@@ -22,10 +22,6 @@ module _ (blocks : ℕ → List ℕ) (ino : ℕ) where
   part_low : (p : ℕ) → p < most_parts → part_in blocks ino p ≡ bytes_at blocks (part_address blocks ino p)
   unfolding part_in
   part_low p low = (let t : nat_lt p most_parts ≡ true = grind (arith, nat_tests) in ap (λ b. cond b (bytes_at blocks (part_address blocks ino p)) None) t)
-
-  part_far : (p : ℕ) → most_parts ≤ p → part_in blocks ino p ≡ None
-  unfolding part_in
-  part_far p far = (let t : nat_lt p most_parts ≡ false = grind (arith, nat_tests) in ap (λ b. cond b (bytes_at blocks (part_address blocks ino p)) None) t)
 
   shown_low : (n p : ℕ) → p < n → fin.get (parts_below blocks ino n) p ≡ part_in blocks ino p
   unfolding parts_below

@@ -104,7 +104,7 @@ fn triple<D: Disk>(disk: &mut D, parts: &mut Parts, number: u32, address: u32) -
     Ok(())
 }
 
-/// The parts of the file of an inode, which stands in the block `holder`.
+/// The parts of the file of an inode, read from the disk. A broken rule is never the answer.
 pub fn file_parts<D: Disk>(alloc: Global, disk: &mut D, inode: &Dinode) -> Result<Parts, Stop>
     ensures parts { IfOk result (λ parts.
         IfSome (D.told disk.old) (λ image. (ino holder : ℕ) → ReadsInode image.at ino holder inode.now

@@ -36,7 +36,6 @@ use Rattle.mb_rules.specs.TreeOf.{tree_of}
 use Rattle.mb_check.specs.Whole.{IsSoundAs, nameless_in}
 use Rattle.mb_check.specs.declared.scans.Scan.{Scan}
 use Rattle.mb_cache.specs.Pages.{under}
-use Rattle.mb_cache.specs.Stamps.{raised_by}
 use Rattle.mb_cache.specs.State.{CacheRoom, CacheState, seen}
 use Rattle.mb_cache.proofs.Layers.{under_installed}
 use Rattle.mb_core_spec.specs.Begun.{begun_core}
@@ -125,9 +124,6 @@ module _ {F D : Type 0} (told : D → Option Image) (faults : D → ℕ) (fs : F
   module _ (cache_room : CacheRoom) (room : JournalRoom) where
     abbrev old : CoreState F D
     old = begun_at (fresh_cache scanned cache_room) room
-
-    abbrev swept_cache : CoreState F D → ChangeList → CacheState D
-    swept_cache new changes = record { disk = new.cache.disk; sealed = new.cache.sealed; current = []; stamps = raised_by [] changes; pins = []; room = new.cache.room }
 
     module _ (good : IsConfig config) (inos : List ℕ) (names : IfSome (told given) (λ image. IsVolume image (tree_of image) × (inos ≡ nameless_in (tree_of image)))) where
       names_of : (image : Image) (tree : Tree) → told scanned ≡ Some image → IsVolume image tree → AreNameless tree.nodes inos

@@ -128,10 +128,6 @@ module _ {F D : Type 0} (told : D → Option Image) (faults : D → ℕ) (core :
       carries told faults (unwinding core ticket.caller by.mine ticket new.cache.pins) new by.event
       (right_unwinds told faults core r ticket.caller by.mine w.here by.flight w.flies ticket w.held w.inside t.ordinal t.caller_is new.cache.pins by.back new.journal.room room (struck_now is) by.least)
 
-  -- a struck volume has its marks
-  pub unwind_room : phase_now core ≡ phase.Unwind → 0 < core.journal.room.trail
-  unwind_room is = let marks = marks_at told faults core r stage.Struck (struck_now is) in omega (arith, marks)
-
   -- ---- the pages are dropped, or the volume is given up
 
   drops_now : phase_now core ≡ phase.Drop → AreUnwound core

@@ -1,8 +1,8 @@
 -- Each event of one caller keeps what holds on every disk.
-use Rattle.std.proofs.Common.{List, [], ◌∷◌, ◌++◌, ℕ, ◌+◌, ◌≡◌, ◌≤◌, Bool, true, false, Some, None, length, slice_get, slice_set, refl, ap, sym, ◌∙◌, subst, arith, length-append}
+use Rattle.std.proofs.Common.{if◌then◌else◌, List, [], ◌∷◌, ◌++◌, ℕ, ◌+◌, ◌≡◌, ◌≤◌, Bool, true, false, Some, None, length, slice_get, slice_set, refl, ap, sym, ◌∙◌, subst, arith, length-append}
 use Rattle.std.proofs.lemmas.List.{append-nil, length-set}
 use Rattle.std.proofs.lemmas.Bool.Decides.{nat_tests}
-use Rattle.std.specs.Prelude.{if◌then◌else◌, nat_le}
+use Rattle.std.specs.Prelude.{nat_le}
 use Rattle.mb_kinds.specs.declared.entries.Entry.{Entry}
 use Rattle.mb_kinds.specs.declared.entries.Flight.{Flight}
 use Rattle.mb_kinds.specs.declared.faults.Ticket.{Ticket}
@@ -72,9 +72,6 @@ module _ {F D : Type 0} (core : CoreState F D) (o : IsOrderly core) (at : ℕ) (
     fresh = λ now. each_set (λ caller d. without at core.floor ≡ Some caller → HoldsFloor core.cache.stamps core.tables d.pages) core.callers at mine (taken_back changed_to) has (λ holds. none_fresh core.cache.stamps core.tables)
         (λ caller d apart is holds. o.fresh now caller d is (holder_was at caller core.floor holds).0);
   }
-
-  abbrev was_in : ℕ
-  was_in = one_if mine.inside
 
   -- whoever is gone inside leaves the room for marks
   fewer_in : (new : CallerState) → new.inside ≡ false → insiders (slice_set core.callers at new) + one_if mine.inside ≡ insiders core.callers

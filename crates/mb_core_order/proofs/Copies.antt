@@ -1,6 +1,5 @@
 -- Fresh pages are a part of what is seen, and copies stay true over installs.
-use Rattle.std.proofs.Common.{List, ℕ, ◌≡◌, inl, inr, cond, nat_eq, ◌⊎◌, Bool, true, false, Option, Some, None, IfSome, option_map, slice_get, refl, ap, sym, ◌∙◌, subst, arith}
-use Rattle.std.proofs.lemmas.Bool.Decides.{nat_tests}
+use Rattle.std.proofs.Common.{List, ℕ, ◌≡◌, inl, inr, ◌⊎◌, Bool, true, false, Option, Some, None, IfSome, option_map, slice_get, refl, ap, sym, ◌∙◌, subst, arith}
 use Rattle.mb_kinds.specs.Image.{Image}
 use Rattle.mb_kinds.specs.declared.calls.Call.{Call}
 use Rattle.mb_tree.specs.Machines.{IsValid}
@@ -36,18 +35,6 @@ true_moves view stamps view2 stamps2 copies moves old are block kept has now = l
 
 same_kept : (x y : KeptBlock) → Some x ≡ Some y → x ≡ y
 same_kept x y h = cc
-
--- a block gathered anew
-gathered_one : (test : Bool) (new kept : KeptBlock) (old : Option KeptBlock) → cond test (Some new) old ≡ Some kept → ((test ≡ true) × (new ≡ kept)) ⊎ (old ≡ Some kept)
-gathered_one true new kept old is = inl (refl, same_kept new kept is)
-gathered_one false new kept old is = inr is
-
-pub true_gathers : (view : ℕ → List ℕ) (stamps : Stamps) (copies grown : CopyList) (block : ℕ) (new : KeptBlock) → ((other : ℕ) → kept_at grown other ≡ cond (nat_eq block other) (Some new) (kept_at copies other))
-    → view block ≡ new.bytes → AreTrue view stamps copies → AreTrue view stamps grown
-true_gathers view stamps copies grown block new each reads are other kept has now = elim (gathered_one (nat_eq block other) new kept (kept_at copies other) (sym (each other) ∙ has)) [
-  | inl here ↦ let same : block ≡ other = grind (arith, nat_tests, here.0) in ap view (sym same) ∙ reads ∙ ap (λ (k : KeptBlock). k.bytes) here.1
-  | inr before ↦ are other kept before now
-]
 
 -- ---- the tables
 

@@ -52,7 +52,7 @@ use Rattle.mb_core_spec.specs.Histories.{as_picked, picked_ops, IsLegalSoFar, Re
 use Rattle.mb_core_spec.specs.Performed.{IsPerformed}
 use Rattle.mb_core_spec.specs.Recovery.{dropping, failing, flushing, remounting, reopening, replaying, resuming, sealing, striking, striking_again, unwinding}
 use Rattle.mb_core_spec.specs.Seen.{Holds, IsFront, IsHeldBy, ViewStands}
-use Rattle.mb_core_spec.specs.State.{CallerState, CoreState, JournalRoom}
+use Rattle.mb_core_spec.specs.State.{CallerState, CoreState}
 use Rattle.mb_tree.specs.CarriedOut.{AreCarriedOut, IsCarriedOut, tree_and_opens}
 
 module _ {F D : Type 0} (before : Tree) (first base : Image) (core : CoreState F D) (h : Holds before first base core) where
@@ -90,9 +90,6 @@ module _ {F D : Type 0} (before : Tree) (first base : Image) (core : CoreState F
 
   pub holds_flushed : (disk : D) (sealed : PageList) → Holds before first base (flushing core disk sealed)
   holds_flushed disk sealed = record { legal = h.legal; checkpoint = h.checkpoint; replay = h.replay; view = h.view }
-
-  pub holds_room : (room : JournalRoom) (pages : CacheRoom) → Holds before first base (record core { journal = record core.journal { room = room }; cache = record core.cache { room = pages } })
-  holds_room room pages = record { legal = h.legal; checkpoint = h.checkpoint; replay = h.replay; view = h.view }
 
   -- ---- whatever a fault does to the current pages and to the open files
 

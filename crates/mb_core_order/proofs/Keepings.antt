@@ -1,10 +1,9 @@
 -- Each event keeps copies, tables, undo logs, pins, the floor, the calls in flight and what they have at hand.
-use Rattle.std.proofs.Common.{List, [], ◌∷◌, ◌++◌, ℕ, zero, suc, ◌+◌, ◌≡◌, ◌≢◌, ◌≤◌, inl, inr, Bool, true, false, Option, Some, None, option_map, unwrap_or, slice_get, slice_set, refl, ap, sym, ◌∙◌, subst, arith}
+use Rattle.std.proofs.Common.{if◌then◌else◌, List, [], ◌∷◌, ◌++◌, ℕ, zero, suc, ◌+◌, ◌≡◌, ◌≢◌, ◌≤◌, inl, inr, Bool, true, false, Option, Some, None, option_map, unwrap_or, slice_get, slice_set, refl, ap, sym, ◌∙◌, subst, arith}
 use Rattle.std.proofs.lemmas.Bool.Decides.{nat_tests}
 use Rattle.std.proofs.Math.Nat.{min-le_left, min-le_right}
 use Rattle.std.proofs.lemmas.List.Elements.{Contains-append_left}
-use Rattle.std.specs.Prelude.{if◌then◌else◌, min, nat_eq, nat_le}
-use Rattle.mb_kinds.specs.Image.{Image}
+use Rattle.std.specs.Prelude.{min, nat_eq, nat_le}
 use Rattle.mb_kinds.specs.declared.entries.Entry.{Entry}
 use Rattle.mb_kinds.specs.declared.entries.Flight.{Flight}
 use Rattle.mb_kinds.specs.declared.faults.Ticket.{Ticket}
@@ -16,12 +15,10 @@ use Rattle.mb_tree.specs.declared.seats.Seat.{Seat}
 use Rattle.mb_tree.specs.declared.seats.SessionChange.{SessionChange}
 use Rattle.mb_tree.specs.declared.seats.SessionChange.TheVariants as change
 use Rattle.mb_cache.specs.Stamps.{Stamps, stamp_of}
-use Rattle.mb_cache.specs.CacheLaws.{Moves}
 use Rattle.mb_core_spec.specs.declared.stages.Stage.{Stage}
 use Rattle.mb_core_spec.specs.declared.stages.Stage.TheVariants as stage
 use Rattle.mb_gate.specs.declared.ulogs.Undo.TheVariants as undo
 use Rattle.mb_core_order.proofs.Beginning.{set_here, set_there}
-use Rattle.mb_core_order.proofs.Copies.{old_moves}
 use Rattle.mb_core_order.proofs.Overlays.{same_some, total_set}
 use Rattle.mb_core_spec.specs.Bounds.{HasMarks, StampsAreFew}
 use Rattle.mb_core_spec.specs.Callers.{EachCaller, insiders, one_if, total}
@@ -97,14 +94,6 @@ tables_move caller old new kept own moves keeps = elim moves [
 pub tables_may_move : (caller : ℕ) (old new : LiveTables) (kept : Option TableCopy) → slice_get new.sessions caller ≡ slice_get old.sessions caller → TablesMove old new → TablesAgree caller old kept → TablesAgree caller new kept
 tables_may_move caller old new None own moves keeps = tt
 tables_may_move caller old new (Some kept) own moves keeps = tables_move caller old new kept own moves keeps
-
--- another call is logged
-pub keeps_moves : (caller : ℕ) (view : Image) (stamps : Stamps) (view2 : Image) (stamps2 : Stamps) (old new : LiveTables) (pages : PagesState) → Moves view stamps view2 stamps2
-    → slice_get new.sessions caller ≡ slice_get old.sessions caller → TablesMove old new → KeepsCopies caller stamps old pages → KeepsCopies caller stamps2 new pages
-keeps_moves caller view stamps view2 stamps2 old new pages moves own tables keeps = record {
-  old = old_moves view stamps view2 stamps2 pages.blocks moves keeps.old;
-  tables = tables_may_move caller old new pages.tables own tables keeps.tables;
-}
 
 -- a session change of one caller shows to no other but by its current directory
 pub others_session : (seats : List Seat) (at caller : ℕ) (made : SessionChange) → caller ≢ at → slice_get (with_change seats at made) caller ≡ slice_get seats caller

@@ -35,10 +35,6 @@ new_again ticket place same later unanswered =
     let test : nat_lt place.incarnation ticket.incarnation ≡ true = grind (arith, nat_tests) in
     rw (low, equal, test, unanswered) refl
 
--- a first ticket, of a call that begins or that waited
-pub fresh_begins : (mine : CallerState) (ticket : Ticket) (place : Place) → IsSeatedAt mine place → mine.begun < ticket.ordinal → is_new ticket place ≡ true
-fresh_begins mine ticket place seat later = new_later ticket place (let low = seat.begun in omega (arith, low, later))
-
 fresh_with : (flight : Flight) (old : Option Ticket) (ticket : Ticket) (place : Place) (incarnation caller : ℕ) → PlacesTicket false place flight old → HasTicket caller flight false true incarnation old → flight.answered ≡ false
     → ticket.ordinal ≡ flight.ordinal → ticket.incarnation ≡ incarnation → is_new ticket place ≡ true
 fresh_with flight None ticket place incarnation caller placed has unanswered same now = new_later ticket place (omega (arith, placed, same))
@@ -203,9 +199,6 @@ module _ (journal : JournalState) (callers : List CallerState) (was : Stage) (h 
     seated = h.seated;
     plain = h.plain ∙ sym (keys_more journal.trail one ∙ ap (λ last. logged_keys journal.trail ++ last) key ∙ append-nil (logged_keys journal.trail));
   }
-
-  abbrev same_watch : Watch
-  same_watch = h.watch
 
   -- the mode in the place of the watch's own
   at_mode : (mode : Mode) (one : Step) (to : Option Watch) → h.watch.mode ≡ mode → next_in h.watch mode one ≡ to → next h.watch one ≡ to

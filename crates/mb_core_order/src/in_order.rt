@@ -50,7 +50,7 @@ pub fn ordinals_are_places<F, D: Disk>()
     ensures { OrdinalsArePlaces F D }
 {}
 
-/// The log is short.
+/// The operation log has at most 4,294,967,296 operations.
 pub fn log_is_short<F, D: Disk>()
     ensures { LogIsShort F D }
 {}

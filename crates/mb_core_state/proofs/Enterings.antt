@@ -10,7 +10,7 @@ use Rattle.mb_cache.specs.State.{CacheState}
 use Rattle.mb_journal.specs.Faults.{TellsTwice}
 use Rattle.mb_journal.specs.Room.{HasEntryRoom, KeepsRoom}
 use Rattle.mb_core_spec.specs.Callers.{total}
-use Rattle.mb_core_spec.specs.Events.{GivesBack, Leaves, answered_by, beginning, begins, entering, with_room}
+use Rattle.mb_core_spec.specs.Events.{GivesBack, Leaves, answered_by, begins, entering, with_room}
 use Rattle.mb_core_spec.specs.Flights.{is_pin}
 use Rattle.mb_core_spec.specs.State.{CallerState, CoreState}
 use Rattle.mb_core_state.specs.Entering.{GoesIn, GoesInside, IsGivenUp, begun_if, flight_if, flight_of, reserved_by, waiting, waiting_if, with_call}
@@ -22,9 +22,6 @@ stays_if core caller mine given (Some flight) some = refl
 
 pub waiting_stays : {F D : Type 0} (core : CoreState F D) (caller : ℕ) (mine : CallerState) (given : Call) → IsSome mine.flight → waiting core caller mine given ≡ core
 waiting_stays core caller mine given some = stays_if core caller mine given mine.flight some
-
-pub waiting_begins : {F D : Type 0} (core : CoreState F D) (caller : ℕ) (mine : CallerState) (given : Call) → mine.flight ≡ None → waiting core caller mine given ≡ beginning core caller mine given
-waiting_begins core caller mine given none = ap (waiting_if core caller mine given) none
 
 -- ---- what waiting leaves of a caller
 

@@ -16,8 +16,6 @@ use mb_iface::FileSys;
 use mb_kinds::{Call, Reply, Ticket};
 use std::alloc::Global;
 
-// ---- a call in flight
-
 impl<F: FileSys, D: Disk> Fields<F, D> {
     /// Whether a caller has a call in flight that has its entry.
     fn has_entry(&self, caller: u8) -> bool
@@ -65,8 +63,6 @@ impl<F: FileSys, D: Disk> Fields<F, D> {
         self.config.start + (begun + 1)
     }
 }
-
-// ---- a call that waits
 
 impl<F: FileSys, D: Disk> Fields<F, D> {
     /// A call begins, and waits; needs no memory.
@@ -147,8 +143,6 @@ impl<F: FileSys, D: Disk> Fields<F, D> {
         Ok(())
     }
 }
-
-// ---- a call that goes inside
 
 impl<F: FileSys, D: Disk> Fields<F, D> {
     /// The descriptor that a call reserves.
@@ -272,8 +266,6 @@ impl<F: FileSys, D: Disk> Fields<F, D> {
     }
 }
 
-// ---- a call that met two faults
-
 impl<F: FileSys, D: Disk> Fields<F, D> {
     /// The ordinal of a caller's call in flight, or of the one that it begins next.
     fn ordinal(&self, caller: u8) -> u32
@@ -298,8 +290,6 @@ impl<F: FileSys, D: Disk> Fields<F, D> {
         self.journal.own_faults(caller, ordinal)
     }
 }
-
-// ---- a call that enters
 
 impl<F: FileSys, D: Disk> Fields<F, D> {
     /// A call begins, or goes on, and goes inside where the volume runs. The answers come in the order `Done` of a call that

@@ -18,8 +18,6 @@ use mb_iface::{Changes, FileSys};
 use mb_kinds::Reply;
 use std::alloc::Global;
 
-// ---- the disk fails in a step
-
 impl<F: FileSys, D: Disk> Fields<F, D> {
     /// Whether a caller has a call in flight without an entry.
     fn awaits(&self, caller: u8) -> bool
@@ -51,8 +49,6 @@ impl<F: FileSys, D: Disk> Fields<F, D> {
         }
     }
 }
-
-// ---- the file system is started anew, and the log is folded
 
 impl<F: FileSys, D: Disk> Fields<F, D> {
     /// Nothing is kept of what was read, block 1 is read, and the log is folded. `Device` comes only where the disk's count
@@ -99,8 +95,6 @@ impl<F: FileSys, D: Disk> Fields<F, D> {
         }
     }
 }
-
-// ---- an operation is done again
 
 impl<F: FileSys, D: Disk> Fields<F, D> {
     /// What the file system makes of the operation at a place of the log, over blocks as they are seen. An operation that

@@ -89,15 +89,6 @@ module _ (image : Image) (tree : Tree) (chain : List ℕ) (stored : IsStored ima
       let third : nat_eq (mode_of (image.at (inode_block ino)) (inode_place ino)) 0 ≡ true = grind (arith, nat_tests) in
       and_both _ _ first (and_both _ _ second third)
 
-  -- a number past the i-list is not free
-  pub past_not_free : (ino ≡ 0) ⊎ (isize_of (image.at 1) ≤ inode_block ino) → IsFreeNumber tree ino → ⊥
-  past_not_free off free =
-      let low = free.above in
-      let within = free.within in
-      let last = stored.last in
-      let wide = stored.sizes.some_inodes in
-      elim off [ inl none ↦ omega (arith, none, low) | inr far ↦ omega (arith, far, low, within, last, wide) ]
-
 pub picked_number : (shown : ℕ → Option (List ℕ)) (old new : ChangeList) (ino : ℕ) → Picks shown old new (picked.Ino ino) → PicksNumberOf shown old new (chosen.Number ino)
 picked_number shown old new ino picks = (
   picks.0,

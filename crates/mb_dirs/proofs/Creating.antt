@@ -53,15 +53,7 @@ chosen_step shown old mid (Some number) ino chooses image tree chain part stored
   step = subst (λ now. AdvancesTo image tree looks old now tree) (sym chooses.0) (nothing_changed image tree chain looks old stored);
 }
 
-none_chosen : (shown : ℕ → Option (List ℕ)) (old mid : ChangeList) (demanded : Option ℕ) → Chooses shown old mid demanded chosen.NoneLeft
-    → (image : Image) (tree : Tree) (chain : List ℕ) → IsPart shown image.at → IsStored (with_changes image old) tree chain → IfSome demanded (IsFreeNumber tree) → PicksNumber tree demanded None
-none_chosen shown old mid None chooses image tree chain part stored free = chooses image tree chain part stored
-none_chosen shown old mid (Some number) chooses image tree chain part stored free = absurd (chooses.1 image tree chain part stored free)
-
 module _ (shown : ℕ → Option (List ℕ)) (old mid : ChangeList) (dir links moment : ℕ) (gap : Gap) (name : List ℕ) (made : ℕ → Node) (demanded : Option ℕ) where
-  pub no_number : (now : ChangeList) → Chooses shown old mid demanded chosen.NoneLeft → MakesIn shown old now dir links moment gap name made demanded chosen.NoneLeft
-  no_number now chooses = λ image tree chain part stored looks node slots look stands free. record { picked = None; picks = none_chosen shown old mid demanded chooses image tree chain part stored free; full = tt }
-
   number_asked_by : (asked : Option ℕ) (need : Need) (now : ChangeList) → Chooses shown old mid asked (chosen.Need need) → MakesIn shown old now dir links moment gap name made asked (chosen.Need need)
   number_asked_by None need now chooses = (chooses.0, λ image tree chain part stored looks node slots look stands free. chooses.1 image tree chain part stored looks)
   number_asked_by (Some number) need now chooses = (chooses.1.0, λ image tree chain part stored looks node slots look stands free. chooses.1.1 image tree chain part stored looks)

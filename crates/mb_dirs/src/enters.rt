@@ -29,7 +29,7 @@ pub enum Entered {
     NoMemory,
 }
 
-/// EntersName a name of an inode in a directory (V7 dir(5)): in its first empty slot, or behind its slots,
+/// Enters a name of an inode in a directory (V7 dir(5)): in its first empty slot, or behind its slots,
 /// where it grows by one, with a block of its own where the last one is full. The directory's link
 /// count becomes `links`, and its mtime and ctime `moment`.
 pub fn enter<V: View>(

@@ -1,7 +1,6 @@
 -- What the answers of an erasure say of stored trees.
 use Rattle.std.proofs.Common.{ℕ, ◌≡◌, ◌⊎◌, inl, inr, ◌≤◌, List, [], Option, Some, None, IsSome, refl, sym, subst, arith}
 use Rattle.std.specs.List.{Contains}
-use Rattle.std.specs.Option.{option_or}
 use Rattle.mb_kinds.specs.Image.{Image}
 use Rattle.mb_word.specs.Fields.{inode_block, inode_place}
 use Rattle.mb_layout.specs.Inode.{dinode_at}
@@ -9,24 +8,20 @@ use Rattle.mb_layout.specs.declared.dinodes.Dinode.{Dinode}
 use Rattle.mb_tree.specs.Blocks.{pointers}
 use Rattle.mb_tree.specs.Views.{over, IsPart}
 use Rattle.mb_iface.specs.Acting.{with_changes}
-use Rattle.mb_kinds.specs.Changed.{ChangeList, changed, shown_over, IsWithinView}
+use Rattle.mb_kinds.specs.Changed.{ChangeList, changed, IsWithinView}
 use Rattle.mb_iface.specs.Near.IsNear.{super_block}
 use Rattle.mb_iface.specs.Needs.{IsNeed}
 use Rattle.mb_iface.specs.declared.replies.Need.{Need}
-use Rattle.mb_iface.proofs.ChangedBlocks.{shown_part}
-use Rattle.mb_iface.proofs.WithinViews.{found_within}
 use Rattle.mb_blocks.specs.Owners.{without}
 use Rattle.mb_alloc.specs.Inodes.{FreesInode}
 use Rattle.mb_alloc.specs.declared.frees.Hung.{Hung}
 use Rattle.mb_alloc.specs.declared.frees.Hung.TheVariants as hung
-use Rattle.mb_alloc.proofs.Within.{lacks}
 use Rattle.mb_nodes.specs.Bodies.{LetsGo}
-use Rattle.mb_nodes.specs.Stored.{IsStored, without_node}
+use Rattle.mb_nodes.specs.Stored.{IsStored}
 use Rattle.mb_tree.specs.Volume.{has_addresses}
 use Rattle.mb_tree.specs.declared.trees.Tree.{Tree}
-use Rattle.mb_moves.specs.Advancing.{Advances, IsNearTo}
+use Rattle.mb_moves.specs.Advancing.{IsNearTo}
 use Rattle.mb_moves.proofs.Asking.{inode_near, stored_rules}
-use Rattle.mb_moves.proofs.InARow.{itself}
 use Rattle.std.specs.List.Sorted.{IsPermutation}
 use Rattle.std.proofs.lemmas.List.Sorted.{Contains-permutation, IsPermutation-sym}
 use Rattle.mb_file.proofs.Reordered.{lets_reordered}
@@ -88,7 +83,7 @@ module _ (shown : ℕ → Option (List ℕ)) (old new : ChangeList) (ino : ℕ) 
       )
       erases_by hung.NoMemory puts = tt
 
--- ---- an erasure on changes of its own
+-- ---- no change
 
 some_not : (o : Option (List ℕ)) → o ≡ None → IsSome o → ⊥
 some_not None e some = cc
@@ -96,33 +91,3 @@ some_not (Some x) e some = cc
 
 pub within_none : (shown : ℕ → Option (List ℕ)) → IsWithinView shown []
 within_none shown block some = absurd (some_not (changed [] block) refl some)
-
-within_later : (later old : Option (List ℕ)) → IsSome (option_or later old) → IsSome later ⊎ IsSome old
-within_later None old some = inr some
-within_later (Some x) old some = inl refl
-
-module _ (shown : ℕ → Option (List ℕ)) (old : ChangeList) (ino : ℕ) where
-  pub erases_over : (later new : ChangeList) → ((other : ℕ) → changed new other ≡ option_or (changed later other) (changed old other)) → ((blocks : ℕ → List ℕ) → over blocks (changed new) ≡ over (over blocks (changed old)) (changed later))
-      → Erases (shown_over shown old) [] later ino hung.Done → Erases shown old new ino hung.Done
-  erases_over later new each wrote step = (
-    λ within other some. elim (within_later (changed later other) (changed old other) (subst IsSome (each other) some)) [
-      | inl more ↦ found_within shown old other within (step.0 (within_none (shown_over shown old)) other more)
-      | inr was ↦ within other was
-    ],
-    λ image tree chain part stored looks node erasable.
-        (let base = with_changes image old in
-        let went = step.1 base tree chain (shown_part shown old image.at part) (subst (λ i. IsStored i tree chain) (sym (itself base)) stored) looks node erasable in (
-          went.0,
-          subst (λ (now : ℕ → List ℕ). Advances base tree looks now (without_node tree ino) went.0) (sym (wrote image.at))
-              (subst (λ i. Advances i tree looks (over base.at (changed later)) (without_node tree ino) went.0) (itself base) went.1),
-        )),
-  )
-
-  pub asked_over : (later : ChangeList) (need : Need) → Erases (shown_over shown old) [] later ino (hung.Need need) → Erases shown old old ino (hung.Need need)
-  asked_over later need step = (
-    record { lacking = lacks (changed old need.first) (shown need.first) step.0.lacking; above = step.0.above; below = step.0.below; some = step.0.some; few = step.0.few },
-    λ image tree chain part stored looks node erasable.
-        (let base = with_changes image old in
-        subst (λ i. IsNearTo i tree looks need.first) (itself base)
-        (step.1 base tree chain (shown_part shown old image.at part) (subst (λ i. IsStored i tree chain) (sym (itself base)) stored) looks node erasable)),
-  )

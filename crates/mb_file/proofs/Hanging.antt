@@ -235,11 +235,6 @@ after_full it block full =
     let u : nat_eq it.count 50 ≡ true = grind (arith, nat_tests) in
     ap (λ b. pushed (cond b ended (cond (nat_eq it.count 50) emptied it)) block) t ∙ ap (λ b. pushed (cond b emptied it) block) u
 
--- bytes copied over a list's front
-pub front_put : (b xs : List ℕ) (n : ℕ) → length xs ≡ n → xs ++ drop n b ≡ put_at b 0 xs
-unfolding put_at
-front_put b xs n long = ap (λ i. xs ++ drop i b) (omega (arith, long))
-
 module _ (first bytes held one two : List ℕ) (block : ℕ) (long : length first ≡ 512) (room : length bytes ≡ 512) (copied : held ≡ put_at bytes 0 (take 202 (drop 6 first)))
     (e1 : one ≡ put_at first 6 (word_bytes 1)) (e2 : two ≡ put_at one 8 (long_bytes block)) where
   abbrev part : List ℕ

@@ -1,7 +1,7 @@
 -- The blocks under an address listed one index block after another.
 use mir.Val.{bool_byte}
-use Rattle.std.proofs.Common.{ℕ, zero, suc, ◌≡◌, ◌⊎◌, inl, inr, ◌+◌, ◌-◌, ◌%◌, ◌<◌, ◌≤◌, true, false, cond, ltb, nat_lt, Option, Result, Ok, Err, List, [], ◌∷◌, ◌++◌, length, take, set, length-append, append_assoc, append-nil, refl, sym, ap, subst, ◌∙◌, arith}
-use Rattle.std.specs.Prelude.{if◌then◌else◌, OnOk, is_ok}
+use Rattle.std.proofs.Common.{if◌then◌else◌, ℕ, zero, suc, ◌≡◌, ◌⊎◌, inl, inr, ◌+◌, ◌-◌, ◌%◌, ◌<◌, ◌≤◌, true, false, cond, ltb, nat_lt, Option, Result, Ok, Err, List, [], ◌∷◌, ◌++◌, length, take, set, length-append, append_assoc, append-nil, refl, sym, ap, subst, ◌∙◌, arith}
+use Rattle.std.specs.Prelude.{OnOk, is_ok}
 use Rattle.std.specs.List.{Contains}
 use Rattle.std.specs.declared.alloc.AllocError.{AllocError}
 use Rattle.std.proofs.lemmas.Bool.{cases_eq, cases_lt}
@@ -203,9 +203,6 @@ is_part part some wide told = elim (cases_lt ((part + 4294967295) % 4294967296) 
 ]
 
 module _ (index before : List ℕ) where
-  pub parts_first : (parts : List ℕ) → HasParts index before parts 0 128
-  parts_first parts = record { listed = λ listable. record { done = []; was = refl; rest = refl } }
-
   module _ (parts : List ℕ) (count left next part : ℕ) (step : left ≡ suc next) (reads : part ≡ index_entry index next) (was : HasParts index before parts count left) where
     parts_more : (after : List ℕ) → 0 < part → count < length parts → after ≡ set parts count part → HasParts index before after (count + 1) next
     parts_more after some room wrote = record {
@@ -270,9 +267,6 @@ pub record HasCollected (shown : ℕ → Option (List ℕ)) (changes : ChangeLis
       → HasListed (λ place. under_block (pointers (over blocks (changed changes))) (place - 9)) (address_in d) [] now (under_dinode (pointers (over blocks (changed changes))) d) left
 
 module _ (shown : ℕ → Option (List ℕ)) (changes : ChangeList) (d : Dinode) where
-  pub collected_first : (now : List ℕ) → now ≡ [] → HasCollected shown changes d now 13
-  collected_first now is = record { listed = λ blocks part listable. record { done = []; was = is; rest = refl } }
-
   pub collected_next : (now after : List ℕ) (left next levels address : ℕ) → left ≡ suc next → levels ≡ next - 9 → address ≡ address_in d next
       → PushesUnder shown changes address levels now after walked.Done → HasCollected shown changes d now left → HasCollected shown changes d after next
   collected_next now after left next levels address step down reads pushes was = record {

@@ -1,5 +1,5 @@
 -- Bytes put into a file with its size and times, and the operation on a volume.
-use Rattle.std.proofs.Common.{ℕ, ◌≡◌, inl, inr, ◌+◌, ◌<◌, ◌≤◌, Bool, true, false, max, nat_le, Option, None, Some, Ok, Err, List, [], length, refl, sym, ap, subst, ◌∙◌, arith}
+use Rattle.std.proofs.Common.{ℕ, ◌≡◌, inl, inr, ◌+◌, ◌<◌, ◌≤◌, Bool, true, max, nat_le, Option, None, Some, Ok, Err, List, [], length, refl, sym, ap, subst, ◌∙◌, arith}
 use Rattle.std.specs.FinMap as fin
 use Rattle.std.specs.Ordering.{nat_cmp}
 use Rattle.std.proofs.lemmas.Bool.Decides.{nat_tests}
@@ -76,9 +76,6 @@ module _ (shown : ℕ → Option (List ℕ)) (old new : ChangeList) (ino offset 
   whole_refused mid puts image tree chain part stored looks node file =
       puts image tree chain part stored looks node file (wrote moment offset bytes node) (max file.size (offset + length bytes)) (ap (grown_body offset bytes) file.body)
 
-  pub whole_asked : (mid : ChangeList) (need : Need) → PutsBytes shown old mid ino offset bytes (written.Need need) → PutsWhole shown old new ino offset bytes moment (written.Need need)
-  whole_asked mid need puts = puts
-
   module _ (mid : ChangeList) (end : ℕ) (is_end : end ≡ offset + length bytes) (puts : PutsBytes shown old mid ino offset bytes written.Done) where
     pub whole_by : (result : Written) → SetsSize shown mid new ino end moment result → PutsWhole shown old new ino offset bytes moment result
     whole_by written.Done sets = (
@@ -126,11 +123,6 @@ module _ (shown : ℕ → Option (List ℕ)) (image : Image) (tree : Tree) (part
 
   its_file_at : (fits : FitsPut tree ino bytes) → IsFileAt tree (touches tree op) ino fits.regular.node
   its_file_at fits = record { looked = named_looked tree op ino refl; has = fits.regular.has; size = fits.regular.size; parts = fits.regular.parts; body = fits.regular.body }
-
-  pub put_too_big : 1082201088 < offset + length bytes → Acts shown image tree opens op demanded (acted.Refused EFBIG)
-  put_too_big big fits =
-      let t : nat_le (offset + length bytes) 1082201088 ≡ false = grind (arith, nat_tests) in
-      operation_refused tree (count_of opens) op demanded None EFBIG refl (rw t refl)
 
   module _ (small : offset + length bytes ≤ 1082201088) where
     put_is : (result : Answer Tree) → (fits : FitsPut tree ino bytes) → fitting tree (fin.insert tree.nodes ino (wrote moment offset bytes fits.regular.node)) ≡ result → tree_after tree (count_of opens) op None ≡ result

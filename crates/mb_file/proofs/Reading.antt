@@ -90,12 +90,6 @@ pub record HasCopied (shown : ℕ → Option (List ℕ)) (changes : ChangeList) 
   pub copied : OnInode shown changes ino (λ now. (items ≡ bytes_on now ino offset done) × HasBytesAt now ino offset done)
 
 module _ (shown : ℕ → Option (List ℕ)) (changes : ChangeList) (ino offset : ℕ) where
-  pub copied_first : (items : List ℕ) → items ≡ [] → HasCopied shown changes ino offset 0 items
-  copied_first items is = record {
-    sized = ap length is;
-    copied = λ blocks part has. (is, λ k low high. absurd (omega (arith, low, high)));
-  }
-
   pub copied_next : (done some next : ℕ) (before after : List ℕ) → next ≡ done + some → (offset + done) % 512 + some ≤ 512
       → CopiesPart shown changes ino ((offset + done) / 512) ((offset + done) % 512) some before after walked.Done → HasCopied shown changes ino offset done before → HasCopied shown changes ino offset next after
   copied_next done some next before after sum fits copies was = record {

@@ -37,9 +37,3 @@ Erases shown old new ino hung.Done = (IsWithinView shown old → IsWithinView sh
     × OnErasable shown old ino (λ image tree looks. AdvancesTo image tree looks old new (without_node tree ino))
 Erases shown old new ino (hung.Need need) = IsNeed shown need × OnErasable shown old ino (λ image tree looks. IsNearTo (with_changes image old) tree looks need.first)
 Erases shown old new ino hung.NoMemory = Unit {0}
-
--- and the changes are as before where it is not
-abbrev pub ErasesWhole : (ℕ → Option (List ℕ)) → ChangeList → ChangeList → ℕ → Hung → Type 0
-ErasesWhole shown old new ino hung.Done = Erases shown old new ino hung.Done
-ErasesWhole shown old new ino (hung.Need need) = (new ≡ old) × Erases shown old new ino (hung.Need need)
-ErasesWhole shown old new ino hung.NoMemory = new ≡ old

@@ -1,10 +1,10 @@
-ghost use Rattle.mb_file.specs.Erasing.{Erases, ErasesWhole, held_blocks};
+ghost use Rattle.mb_file.specs.Erasing.{Erases, held_blocks};
 ghost use Rattle.mb_file.specs.Freeing.{ListsToFree};
 
 use crate::frees::{blocks_to_free, put_all_back};
 use crate::walks::Collected;
 use mb_alloc::{Hung, free_inode};
-use mb_iface::{Changes, Over, View};
+use mb_iface::{Changes, View};
 use mb_inodes::{Inode, read_inode};
 use mb_layout::Dinode;
 use mb_tree::{is_directory, is_regular};
@@ -12,26 +12,9 @@ use std::alloc::Global;
 
 /// Erases an inode, one that is in use: puts all blocks that it holds back on the free chain, writes
 /// it as a free one and caches its number (V7 ifree, tloop; filsys(5)). A special file has no blocks.
-/// The changes are as before on any other answer than `Done`.
-pub fn erase<V: View>(alloc: Global, view: &V, changes: &mut Changes, ino: u16) -> Hung
-    ensures { ErasesWhole (V.shown view.now) changes.old changes.new ino result }
-{
-    let mut later = Changes::new(alloc);
-    let over = Over::new(view, &*changes);
-    let erased = erase_in(alloc, &over, &mut later, ino);
-    match erased {
-        Hung::Done => match changes.absorb(later) {
-            Ok(()) => Hung::Done,
-            Err(_) => Hung::NoMemory,
-        },
-        Hung::Need(need) => Hung::Need(need),
-        Hung::NoMemory => Hung::NoMemory,
-    }
-}
-
-/// Erases an inode as `erase` does, without a promise of the changes on any other answer than `Done`:
-/// an operation makes them on changes of its own. It asks for block 1, the inode's block, and blocks
-/// that the inode holds, before anything is changed.
+/// Nothing is promised of the changes on any other answer than `Done`: an operation makes them on
+/// changes of its own. It asks for block 1, the inode's block, and blocks that the inode holds, before
+/// anything is changed.
 pub fn erase_in<V: View>(alloc: Global, view: &V, changes: &mut Changes, ino: u16) -> Hung
     ensures { Erases (V.shown view.now) changes.old changes.new ino result }
 {

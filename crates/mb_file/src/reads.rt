@@ -57,7 +57,7 @@ fn readable(size: u32, offset: u32, count: u16) -> u32
     size.saturating_sub(offset).min(u32::from(count))
 }
 
-/// CopiesBytes so many bytes of a file from an offset on, whatever its size.
+/// Copies so many bytes of a file from an offset on, whatever its size.
 fn copy<V: View>(
     alloc: Global,
     view: &V,

@@ -1,7 +1,7 @@
 -- What each call does to the rings, where the links did their part.
+use Rattle.std.proofs.lemmas.Bool.{true≢false}
 use Rattle.std.proofs.Common.{◌≡◌, ℕ, suc, ◌+◌, ◌<◌, ◌≤◌, true, false, cond, List, [], ◌∷◌, ◌++◌, length, get_or, set, map, refl, sym, ap, ◌∙◌, subst, arith, append-nil, length-append}
 use Rattle.std.proofs.lemmas.List.{length-map, map-append}
-use Rattle.std.proofs.lemmas.Bool.{true≢false}
 use Rattle.std.specs.Prelude.{◌≢◌, IsTrue}
 use denote.RawPtr.{Ptr, null_ptr}
 use Rattle.mb_frames.specs.Counts.{times}
@@ -126,9 +126,6 @@ module _ (c : List Cell) (s : Ptr) (hs : List Ptr) (S : Shaped c (map (row_at c)
 
         pub whole_shaped : Shaped c' (map (row_at c') (s ∷ hs))
         whole_shaped = step_shaped c (s ∷ hs) S i j differ wi wj h t eh et [] F.u F.us [] cut c' N
-
-        pub whole_places : places c' ≡ places c
-        whole_places = step_places c (s ∷ hs) S i j differ wi wj h t eh et [] F.u F.us [] cut c' N
 
         pub whole_lists : map (pages_at c') (s ∷ hs) ≡ set (set (lists c (s ∷ hs) S) i []) j (pages_at c t ++ pages_at c h)
         whole_lists =

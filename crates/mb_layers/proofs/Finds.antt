@@ -1,5 +1,5 @@
 -- The page of a block in a ring.
-use Rattle.std.proofs.Common.{◌≡◌, ℕ, Bool, true, false, cond, List, [], ◌∷◌, ◌++◌, Option, Some, None, nat_eq, is_some, refl, sym, ap, ◌∙◌, arith}
+use Rattle.std.proofs.Common.{◌≡◌, ℕ, true, false, cond, List, [], ◌∷◌, ◌++◌, Some, None, nat_eq, is_some, refl, sym, ap, ◌∙◌, arith}
 use Rattle.std.proofs.lemmas.Bool.Decides.{nat_tests}
 use Rattle.std.specs.Map.{remove_entry}
 use denote.RawPtr.{Ptr}
@@ -43,14 +43,6 @@ here (g ∷ gs) block p e = (elim (nat_eq block g.block) as (λ y. nat_eq block 
       }
 ]) refl e
 
--- what stands behind a list where the block has no page
-pub place_past : (before rest : List Page) (block : ℕ) → place_at before block ≡ None → place_at (before ++ rest) block ≡ place_at rest block
-place_past [] rest block e = refl
-place_past (x ∷ xs) rest block e = (elim (nat_eq block x.block) as (λ y. cond y (Some x.place) (place_at xs block) ≡ None → cond y (Some x.place) (place_at (xs ++ rest) block) ≡ place_at rest block) [
-  | true ↦ λ z. absurd cc
-  | false ↦ λ z. place_past xs rest block z
-]) e
-
 pub page_past : (before rest : List Page) (block : ℕ) → place_at before block ≡ None → page_at (contents (before ++ rest)) block ≡ page_at (contents rest) block
 page_past [] rest block e = refl
 page_past (x ∷ xs) rest block e =
@@ -78,11 +70,6 @@ is_over (x ∷ xs) block = (elim (nat_eq block x.block) as (λ y. is_some (cond 
   | true ↦ refl
   | false ↦ is_over xs block
 ])
-
--- a page is taken out
-taken_none : (b : Bool) (x : Option Ptr) → x ≡ None → x ≡ cond b None x
-taken_none true x e = e
-taken_none false x e = refl
 
 pub place_cut : (before : List Page) (g : Page) (behind : List Page) (block other : ℕ) → g.block ≡ block → place_at before block ≡ None → place_at behind block ≡ None
     → place_at (before ++ behind) other ≡ cond (nat_eq block other) None (place_at (before ++ g ∷ behind) other)

@@ -66,11 +66,3 @@ module _ (numbers : List ℕ) (present : ℕ) (rising : AreRising numbers presen
 
   pub rises_on : AreRising (numbers ++ present ∷ []) (present + 1)
   rises_on = record { ordered = ordered; below = λ i less. (let most = at_most i less in omega (arith, most)) }
-
--- nothing was dropped
-pub none_rising : (bound : ℕ) → AreRising [] bound
-none_rising bound = record { ordered = λ i j upto less. absurd (omega (arith, less)); below = λ i less. absurd (omega (arith, less)) }
-
--- a checkpoint begins the next one
-pub rising_on : (numbers : List ℕ) (present : ℕ) → AreRising numbers present → AreRising numbers (present + 1)
-rising_on numbers present rising = record { ordered = rising.ordered; below = λ i less. (let low = rising.below i less in omega (arith, low)) }

@@ -19,28 +19,14 @@ split_byte x path e = (let t : (x == slash) ≡ false = grind (arith, nat_tests)
 abbrev pub named : List (List ℕ) → List (List ℕ)
 named pieces = map padded (filter (λ piece. not (length piece == 0)) pieces)
 
--- a slash at the front is passed over
-components_slash : (x : ℕ) (path : List ℕ) → x ≡ slash → components (x ∷ path) ≡ components path
-components_slash x path e = ap named (split_slash x path e)
-
 front : (path : List ℕ) (i : ℕ) → i < length path → drop i path ≡ slice_index path i ∷ drop (i + 1) path
 front path i low = drop-cons path i 0 low ∙ ap (λ n. slice_index path i ∷ drop n path) (sym (add-one i))
-
-pub pass_slash : (path : List ℕ) (i : ℕ) → i < length path → slice_index path i ≡ slash → components (drop i path) ≡ components path → components (drop (i + 1) path) ≡ components path
-pass_slash path i low is was = sym (ap components (front path i low) ∙ components_slash (slice_index path i) (drop (i + 1) path) is) ∙ was
 
 pub piece_starts : (path behind : List ℕ) (i : ℕ) → behind ≡ drop i path → i < length path → length behind ≤ length path → slice_index path i ≢ slash → components (drop i path) ≡ components path → StartsPiece path behind
 piece_starts path behind i is low shorter apart was = record {
   same = ap components is ∙ was;
   shorter = shorter;
   started = λ some e. apart (ap (λ xs. slice_index xs 0) (sym (is ∙ front path i low)) ∙ e);
-}
-
-pub piece_none : (path behind : List ℕ) (i : ℕ) → behind ≡ [] → length path ≤ i → components (drop i path) ≡ components path → drop i path ≡ [] → StartsPiece path behind
-piece_none path behind i none past was all = record {
-  same = ap components (none ∙ sym all) ∙ was;
-  shorter = (let e : length behind ≡ 0 = ap length none in omega (arith, e));
-  started = λ some e. absurd (let z : length behind ≡ 0 = ap length none in omega (arith, some, z));
 }
 
 -- ---- a piece and what is behind it

@@ -83,15 +83,6 @@ module _ (shown : ℕ → Option (List ℕ)) (changes : ChangeList) (dir count :
     few = omega arith;
   }
 
-  pub count_next : (part then used more next : ℕ) → then ≡ part + 1 → next ≡ used + more → more ≤ 32 → HasCounted shown changes dir part count used
-      → ((size : ℕ) → OnDirectory shown changes dir size (λ blocks slots. used_below (slot_in blocks dir) (slots_before (part + 1) count) ≡ used_below (slot_in blocks dir) (slots_before part count) + more)) → HasCounted shown changes dir then count next
-  count_next part then used more next is_then is_next few was step = record {
-    counted = λ size blocks slots is_part is.
-        (let f = used_below (slot_in (over blocks (changed changes)) dir) in
-        ap (λ n. f (slots_before n count)) is_then ∙ step size blocks slots is_part is ∙ ap (λ n. n + more) (was.counted size blocks slots is_part is) ∙ sym is_next);
-    few = (let f = was.few in omega (arith, f, few, is_then, is_next));
-  }
-
   module _ (size parts : ℕ) (is_count : count ≡ size / 16) (is_parts : parts ≡ min ((count + 31) / 32) 2113674) where
     -- all slots are gone through
     all_slots : (blocks : ℕ → List ℕ) (slots : List PlainSlot) → IsDirectoryOn blocks dir size slots → (slots_before parts count ≡ count) × (slots ≡ map (slot_in blocks dir) (range_with_len 0 count))

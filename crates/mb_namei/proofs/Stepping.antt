@@ -137,13 +137,6 @@ module _ (tree : Tree) (sound : IsSound tree) (cred : Cred) (cwd : ℕ) (path : 
     pub find_ends : find_path tree.nodes cred cwd path ≡ stat_in tree.nodes ino
     find_ends = ap (λ a. a >>= (λ n. stat_in tree.nodes n)) walk_ends
 
-    pub on_way_last : IsOnWay tree.nodes cred (start_of cwd path) (components path) ino
-    on_way_last = (
-      length was.passed,
-      (let n = ap length was.names ∙ length-append was.passed [] in omega (arith, n)),
-      ap (walk tree.nodes cred (start_of cwd path)) (ap (take (length was.passed)) was.names ∙ take_front was.passed []) ∙ was.here,
-    )
-
   pub find_refused : (e : Errno) → walk tree.nodes cred (start_of cwd path) (components path) ≡ Err e → find_path tree.nodes cred cwd path ≡ Err e
   find_refused e h = ap (λ a. a >>= (λ n. stat_in tree.nodes n)) h
 

@@ -3,7 +3,6 @@ pub mod Chains
 pub mod Files
 pub mod FilesAccepted
 pub mod FreeChains
-pub mod Fresh
 pub mod ReachedTrees
 pub mod Reaching
 pub mod Walks
