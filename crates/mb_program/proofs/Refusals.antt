@@ -3,15 +3,14 @@ use Rattle.std.proofs.Common.{ℕ, Option, refl}
 use Rattle.mb_check.specs.declared.scans.OpenFault.{OpenFault}
 use Rattle.mb_check.specs.declared.scans.OpenFault.TheVariants as faults
 use Rattle.mb_core_events.specs.Beginning.{IsRefused}
-use Rattle.mb_edge.specs.Causes.{Rose}
 use Rattle.mb_jobs.specs.declared.jobs.Job.{Job}
 use Rattle.mb_kinds.specs.Image.{Image}
 use Rattle.mb_program.proofs.CheckLemmas.{unsound_by}
-use Rattle.mb_program.specs.Outcomes.{ComesOfJob, IsDiskFailure, IsRefusedAs}
+use Rattle.mb_program.specs.Outcomes.{ComesOfJob, IsRefusedAs}
 use Rattle.mb_program.specs.declared.finish.Held.TheVariants as held
 use Rattle.mb_program.specs.declared.manners.Manner.{Manner}
 use Rattle.mb_program.specs.declared.outcomes.Outcome.{Outcome}
-use Rattle.mb_program.specs.declared.outcomes.Outcome.TheVariants.{DiskFault, OutOfMemory, Unsettled, Unsound}
+use Rattle.mb_program.specs.declared.outcomes.Outcome.TheVariants.{DiskFault, OutOfMemory, Unsound}
 
 -- the disk that a refusal gives back
 pub comes_of_refusal : {D : Type 0} (told : D → Option Image) (count : D → ℕ) (manner : Manner) (job : Job) (disk back : D) (fault : OpenFault) (outcome : Outcome)
@@ -24,13 +23,3 @@ comes_of_refusal told count manner job disk back faults.Device OutOfMemory is sa
 comes_of_refusal told count manner job disk back faults.Device _ is says = absurd says
 comes_of_refusal told count manner job disk back faults.NoMemory OutOfMemory is says = tt
 comes_of_refusal told count manner job disk back faults.NoMemory _ is says = absurd says
-
-pub device_of_refusal : {D : Type 0} (told : D → Option Image) (count : D → ℕ) (disk back : D) (fault : OpenFault) (outcome : Outcome)
-    → IsRefused told count disk fault back → IsRefusedAs fault outcome → IsDiskFailure outcome → Rose (count disk) (count back)
-device_of_refusal told count disk back (faults.Unsound block rule) DiskFault is says failed = absurd says
-device_of_refusal told count disk back (faults.Unsound block rule) (Unsettled text) is says failed = absurd says
-device_of_refusal told count disk back (faults.Unsound block rule) _ is says failed = absurd failed
-device_of_refusal told count disk back faults.Device outcome is says failed = is.device refl
-device_of_refusal told count disk back faults.NoMemory DiskFault is says failed = absurd says
-device_of_refusal told count disk back faults.NoMemory (Unsettled text) is says failed = absurd says
-device_of_refusal told count disk back faults.NoMemory _ is says failed = absurd failed

@@ -7,9 +7,8 @@ use Rattle.mb_commands.specs.declared.commands.Command.{Command}
 use Rattle.mb_commands.specs.declared.commands.Command.TheVariants.{Check, Mkfs, Run, Soak}
 use Rattle.mb_kinds.specs.Image.{Image}
 use Rattle.mb_program.proofs.Runs.{nobody}
-use Rattle.mb_program.specs.Outcomes.{ComesOfCommand, ComesOfRunWords, IsJobRefused, IsJobRun, OfBytes}
+use Rattle.mb_program.specs.Outcomes.{ComesOfCommand, ComesOfRunWords, IsJobRun, OfBytes}
 use Rattle.mb_program.specs.declared.finish.Held.{Held}
-use Rattle.mb_program.specs.declared.finish.Held.TheVariants as held
 use Rattle.mb_program.specs.declared.manners.Manner.{Manner}
 use Rattle.mb_program.specs.declared.manners.Manner.TheVariants as manners
 use Rattle.mb_program.specs.declared.outcomes.Outcome.{Outcome}
@@ -28,13 +27,6 @@ of_job told faults manner left disk given (Unsound line) is = is
 of_job told faults manner left disk given (Unsettled text) is = is
 of_job told faults manner left disk given (GivenUp text) is = is
 of_job told faults manner left disk given (Ran text) is = is
-
-pub of_refusal : {D : Type 0} (told : D → Option Image) (faults : D → ℕ) (manner : Manner) (left : Option (List ℕ)) (disk : D) (outcome : Outcome)
-    → IsJobRefused left outcome → ComesOfRunWords told faults manner left disk (held.Disk disk) outcome
-of_refusal told faults manner left disk InputFault is = refl
-of_refusal told faults manner left disk OutOfMemory is = tt
-of_refusal told faults manner left disk (JobRefused line) is = (refl, is)
-of_refusal told faults manner left disk _ is = absurd is
 
 no_threads : false ≡ true → ⊥
 no_threads asked = cc

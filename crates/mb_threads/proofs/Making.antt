@@ -1,7 +1,7 @@
 -- A caller's thread makes its calls one after another.
-use Rattle.std.proofs.Common.{◌≡◌, ◌≢◌, List, [], ◌∷◌, ◌++◌, ℕ, ◌+◌, ◌<◌, ◌≤◌, Bool, true, false, cond, nat_eq, length, map, take, refl, ap, sym, subst, ◌∙◌, arith, Option, None, Some, slice_get, IfSome, length-append}
+use Rattle.std.proofs.Common.{◌≡◌, ◌≢◌, List, [], ◌∷◌, ◌++◌, ℕ, ◌+◌, ◌<◌, ◌≤◌, Bool, true, cond, nat_eq, length, map, take, ap, sym, subst, ◌∙◌, arith, Option, None, Some, slice_get, IfSome, length-append}
 use Rattle.std.proofs.lemmas.Bool.{eq-eqb}
-use Rattle.std.proofs.lemmas.List.{append-nil, map-append, map_push}
+use Rattle.std.proofs.lemmas.List.{map-append, map_push}
 use Rattle.std.proofs.lemmas.List.Elements.{filter-append}
 use Rattle.std.specs.List.{AllByRecursion, filter}
 use Rattle.mb_edge.specs.declared.crossings.Crossing.{Crossing}
@@ -11,7 +11,7 @@ use Rattle.mb_kinds.specs.declared.entries.Entry.{Entry}
 use Rattle.mb_kinds.specs.declared.faults.FaultRecord.{FaultRecord}
 use Rattle.mb_kinds.specs.declared.replies.Reply.{Reply}
 use Rattle.mb_run.proofs.Completing.{take_few}
-use Rattle.mb_run.proofs.Lists.{all_both, all_map, neq, take_next}
+use Rattle.mb_run.proofs.Lists.{all_both, all_map, take_next}
 use Rattle.mb_run.specs.Recovering.{crossing_of}
 use Rattle.mb_run.specs.Served.{AreApart, AreSound, IsApart, calls_of}
 use Rattle.mb_run.specs.Sights.{Seat}
@@ -61,10 +61,6 @@ calls_more calls index caller made here =
 pub calls_mine : (calls : List JobCall) (index caller : ℕ) (made : JobCall) → slice_get calls index ≡ Some made → made.caller ≡ caller → calls_of (take (index + 1) calls) caller ≡ calls_of (take index calls) caller ++ made.call ∷ []
 calls_mine calls index caller made here mine =
     calls_more calls index caller made here ∙ ap (λ b. calls_of (take index calls) caller ++ map (λ (m : JobCall). m.call) (cond b (made ∷ []) [])) (eq-eqb made.caller caller mine)
-
-pub calls_theirs : (calls : List JobCall) (index caller : ℕ) (made : JobCall) → slice_get calls index ≡ Some made → made.caller ≢ caller → calls_of (take (index + 1) calls) caller ≡ calls_of (take index calls) caller
-calls_theirs calls index caller made here apart =
-    calls_more calls index caller made here ∙ ap (λ b. calls_of (take index calls) caller ++ map (λ (m : JobCall). m.call) (cond b (made ∷ []) [])) (neq made.caller caller apart) ∙ append-nil (calls_of (take index calls) caller)
 
 -- the caller may begin its next call
 pub may_more : (calls : List JobCall) (index caller : ℕ) (made : JobCall) → slice_get calls index ≡ Some made → made.caller ≡ caller → (begun most bound : ℕ) → begun ≡ length (calls_of (take index calls) caller) → length (calls_of calls caller) ≤ bound → most ≡ bound → begun < most

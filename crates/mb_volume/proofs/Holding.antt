@@ -42,9 +42,6 @@ config_same {F} {D} one other same = ap (λ (o : Origin D). limits_of o.config) 
 pub goes_on : (caller : ℕ) (first then last : List Entry) → IsPrefix first then → Continues caller then last → IsPrefix first last
 goes_on caller first then last saw more = prefix_trans first then last saw (more.new, sym more.whole)
 
-pub continues_as : (mine caller : ℕ) (then last : List Entry) → mine ≡ caller → Continues mine then last → Continues caller then last
-continues_as mine caller then last same more = subst (λ n. Continues n then last) same more
-
 -- the part that was seen is the part of the core that was taken
 pub part_now : (saw now : Sight) (caller mine : ℕ) → mine ≡ caller → caller < saw.config.callers → now.config ≡ saw.config → own now.history caller ≡ own saw.history caller → stand_in now caller ≡ stand_in saw caller
     → part_of now mine ≡ part_of saw caller
@@ -69,16 +66,6 @@ leads_then call test first then last before between after answer same one other 
 
 pub leads_counted : (call : Call) (test : Option (Crossing → Bool)) (now : Part) (before after : Attempt) (kind : Kind) → after ≡ record before { crossings = counted before.crossings kind } → LeadsCallOn call test now now before after came.On
 leads_counted call test now before after kind same = λ from u. subst (λ (a : Attempt). IsCallUnderway call test from now a) (sym same) (underway_counted call test from now before u kind)
-
--- the call goes on in the same pass, or in a later one
-pub making_on : {F D : Type 0} (call : Call) (test : Option (Crossing → Bool)) (old new : Known (Shared F D)) (before after : Attempt) → new.caller ≡ old.caller → after.crossings.caller ≡ before.crossings.caller
-    → (making : IsMaking call test old before false) → LeadsCallOn call test (part_in old) (part_in new) before after came.On → IsMaking call test new after false
-making_on call test old new before after caller same making leads = record {
-  caller = same ∙ making.caller ∙ sym caller;
-  from = making.from;
-  underway = leads making.from making.underway;
-  waits = λ wrong. absurd (let both : false ≡ true = wrong in cc);
-}
 
 inside_leads : (call : Call) (test : Option (Crossing → Bool)) (first then : Part) (before after : Attempt) (answer : Came) (ticket : Ticket) → answer ≡ came.Inside ticket → LeadsCallOn call test first then before after answer
     → LeadsCallOn call test first then before after (came.Inside ticket)
@@ -172,6 +159,3 @@ later_held {F} {D} table old now new idle one other saw mine more fewer low = re
   seen = goes_on mine (seen_by old).history (sight_of now.core.core).history (sight_of new.core.core).history saw more;
   seals = omega (arith, fewer, low);
 }
-
-pub continues_same : (caller : ℕ) (list : List Entry) → Continues caller list list
-continues_same caller list = record { new = []; whole = sym (append-nil list); all_own = tt }

@@ -9,7 +9,7 @@ use mb_iface::FileSys;
 use mb_kinds::{Call, Ticket};
 use std::alloc::Global;
 
-/// PerformsOver the call of a ticket over its pages, which have the tables of all callers, with the file system's code; it goes
+/// Performs the call of a ticket over its pages, which have the tables of all callers, with the file system's code; it goes
 /// on where `way` has it stopped over fewer of them.
 pub(crate) fn perform<F: FileSys>(
     alloc: Global,
