@@ -24,7 +24,7 @@ use Rattle.mb_headline.specs.Headline.{IsConfigOf}
 use Rattle.mb_headline.specs.Laws.{IsBegunFor, MayBeginAll}
 use Rattle.mb_headline.proofs.Reading.{no_some}
 
-idle_seat : (n caller : ℕ) → seat_of (slice_get (replicate n idle) caller) ≡ record { begun = 0; flight = None }
+pub idle_seat : (n caller : ℕ) → seat_of (slice_get (replicate n idle) caller) ≡ record { begun = 0; flight = None }
 idle_seat zero caller = refl
 idle_seat (suc n) zero = refl
 idle_seat (suc n) (suc caller) = idle_seat n caller

@@ -1,5 +1,5 @@
 -- The order of a history that one thread made.
-use Rattle.std.proofs.Common.{◌≡◌, List, [], ◌∷◌, ℕ, ◌+◌, Option, None, Some, Bool, true, false, length, refl, ap, sym, subst, ◌∙◌, arith}
+use Rattle.std.proofs.Common.{◌≡◌, List, [], ◌∷◌, ℕ, ◌+◌, Option, None, Some, Bool, true, false, length, slice_get, refl, ap, sym, subst, ◌∙◌, arith}
 use Rattle.std.proofs.lemmas.Option.{slice_get_past}
 use Rattle.std.specs.List.{AllByRecursion}
 use Rattle.mb_core_spec.specs.Faults.{MayNumber, Says, is_device}
@@ -10,9 +10,16 @@ use Rattle.mb_kinds.specs.Image.{Image}
 use Rattle.mb_kinds.specs.declared.replies.Reply.{Reply}
 use Rattle.mb_kinds.specs.declared.replies.Reply.TheVariants as reply
 use Rattle.mb_run.specs.Calm.{AreAllPlain, HoldsNowhere}
-use Rattle.mb_run.specs.CoreSight.{sight_of}
+use Rattle.mb_run.specs.CoreSight.{seat_of, sight_of}
 use Rattle.mb_run.specs.Recovering.{crossing_of}
-use Rattle.mb_run.specs.Seals.{is_plain}
+use Rattle.mb_run.specs.Seals.{is_plain, omitted}
+use Rattle.mb_run.specs.Stales.{stales_beyond}
+use Rattle.mb_run.specs.Timely.{CountsStales}
+use Rattle.mb_run.proofs.Omitted.{none_omitted}
+use Rattle.mb_run.proofs.Stales.{none_beyond}
+use Rattle.mb_core_spec.specs.declared.steps.Step.{Step}
+use Rattle.mb_kinds.specs.declared.entries.Flight.{Flight}
+use Rattle.mb_headline.proofs.Begun.{idle_seat}
 use Rattle.mb_headline.specs.Laws.{IsBegunFor}
 use Rattle.mb_edge.specs.declared.crossings.Crossing.{Crossing}
 use Rattle.mb_jobs.specs.declared.jobs.Caller.{Caller}
@@ -22,7 +29,7 @@ use Rattle.mb_run.specs.Drives.{EntersByOrder, IsDriven, IsDrivenApart, RisesByO
 use Rattle.mb_run.specs.Letters.{AreLetters, letters_of}
 use Rattle.mb_run.specs.Orders.{asked_by}
 use Rattle.mb_run.specs.Served.{AreSound, AreSoundBy}
-use Rattle.mb_run.specs.Sights.{Sight}
+use Rattle.mb_run.specs.Sights.{Seat, Sight}
 use Rattle.mb_kinds.specs.declared.faults.FaultRecord.{FaultRecord}
 use Rattle.mb_plan.specs.Fires.{fires}
 use Rattle.mb_plan.specs.declared.rules.Rule.{Rule}
@@ -84,12 +91,22 @@ enters_as_ordered (Some order) job sight letters plain enters = λ none device. 
 
 -- ---- what one thread leaves
 
+no_flight : (flight : Flight) → None ≡ Some flight → ⊥
+no_flight flight same = cc
+
 module _ {F D : Type 0} (told : D → Option Image) (faults : D → ℕ) (fs : F) (job : Job) (disk : D) (begun driven : CoreState F D) (over : IsBegunFor told faults fs job disk begun) where
   runs : (sight_of begun).stage ≡ stage.Running
   runs = ap (λ (core : CoreState F D). core.stage) over.over.begun
 
   bare : (sight_of begun).trail ≡ []
   bare = ap (λ (core : CoreState F D). core.journal.trail) over.over.begun
+
+  nobody : (caller : ℕ) → ((sight_of begun).seats caller).flight ≡ None
+  nobody caller = ap (λ (core : CoreState F D). (seat_of (slice_get core.callers caller)).flight) over.over.begun ∙ ap (λ (s : Seat). s.flight) (idle_seat (length over.config.callers) caller)
+
+  -- no call is in flight yet
+  counts : CountsStales (sight_of begun)
+  counts caller flight ticket here mine lacks = absurd (no_flight flight (sym (nobody caller) ∙ here))
 
   pub order_kept : PlannedAreTaken → AllStrike job.plan → AreLetters (letters_of job.callers) → Right told faults driven → IsDriven job (Some (fires job.plan)) (sight_of begun) (sight_of driven)
       → KeepsOrder job driven.journal.history driven.journal.records driven.journal.trail
@@ -101,6 +118,8 @@ module _ {F D : Type 0} (told : D → Option Image) (faults : D → ℕ) (fs : F
         right.orderly.numbered.few right.orderly.numbered.says device)
         (drives.enters runs bare);
     taken = planned_taken job.order job.plan (sight_of driven) law strikes (drives.taken runs);
+    prompt = (let low = drives.seals.prompt in let none = ap (λ (t : List Step). omitted begun.journal.history t) bare ∙ none_omitted begun.journal.history in omega (arith, low, none));
+    patient = λ caller. (let low = (drives.seals.told counts).few caller in let none = ap (stales_beyond caller) bare ∙ none_beyond caller in omega (arith, low, none));
   }
 
 -- one fault injector is each caller's
@@ -115,5 +134,5 @@ driven_apart job test old new drives = record {
   begun = drives.begun;
   moments = drives.moments;
   sound = sound_by_all test new.records drives.sound;
-  seals = drives.seals;
+  seals = drives.seals.undue;
 }

@@ -19,7 +19,8 @@ use Rattle.mb_run.specs.Drives.{HasEachMoment, IsLinedUp}
 use Rattle.mb_run.specs.Letters.{letters_of}
 use Rattle.mb_plan.specs.declared.rules.Rule.{Rule}
 use Rattle.mb_run.specs.Runs.{EntersFirst, FirstsRise, AnswersFailed, HasRecords, HasTakenFaults}
-use Rattle.mb_run.specs.Seals.{AreAskedFor, AreInTime}
+use Rattle.mb_run.specs.Seals.{AreAskedFor, AreInTime, omitted}
+use Rattle.mb_run.specs.Stales.{stales_beyond}
 use Rattle.mb_run.specs.Served.{calls_in, calls_of}
 use Rattle.mb_tree.specs.History.{Legal, after_first}
 use Rattle.mb_tree.specs.Opening.{opening}
@@ -103,12 +104,15 @@ TakesPlanned (Some order) plan history records = Unit {0}
 
 -- where one thread ran the job: without an order its calls stand in the job's order, entry by entry and moment by moment, and
 -- the faults of its plan were taken; by an order the first calls begin as the callers' letters first stand in it, and without
--- faults the trace begins with these calls
+-- faults the trace begins with these calls. Right behind each sync(2) that was logged a checkpoint was taken, and no call was told
+-- more than four times, since it last entered, that a copy of its is stale
 pub record KeepsOrder (job : Job) (history : List Entry) (records : List FaultRecord) (trail : List Step) : Type 0 where
   pub lined : IsLinedUp job.order job.calls job.start history
   pub firsts : RiseAsOrdered job.order job.callers history
   pub enters : EntersAsOrdered job.order job history trail
   pub taken : TakesPlanned job.order job.plan history records
+  pub prompt : omitted history trail ≡ 0
+  pub patient : (caller : ℕ) → stales_beyond caller trail ≡ 0
 
 -- ---- the end of a run
 

@@ -20,10 +20,10 @@ use Rattle.mb_kinds.specs.declared.faults.FaultRecord.{FaultRecord}
 use Rattle.mb_run.proofs.Calm.{enters_on}
 use Rattle.mb_run.specs.CoreSight.{sight_of}
 use Rattle.mb_run.specs.Letters.{letters_of}
-use Rattle.mb_run.specs.Seals.{TrailGoesOn}
+use Rattle.mb_run.specs.Seals.{TrailGoesOn, omitted}
 use Rattle.mb_run.specs.Drives.{IsDriven, IsDrivenApart}
 use Rattle.mb_run.specs.Orders.{asked_by}
-use Rattle.mb_run.specs.Settling.{IsSettled, KeepsHistory, SealsAtEnd}
+use Rattle.mb_run.specs.Settling.{IsCutShort, IsSettled, KeepsHistory, SealsAtEnd}
 use Rattle.mb_run.specs.Sights.{IsOrderlyInSight}
 use Rattle.mb_volume_core.proofs.Origins.{origin_of}
 use Rattle.mb_volume_core.specs.declared.volume_core.Origin.{Origin}
@@ -70,11 +70,11 @@ settled told faults manner job disk core outcome run order ends failed runs =
 
 -- a run in whose end the disk failed
 pub unsettled : {D : Type 0} (told : D → Option Image) (faults : D → ℕ) (manner : Manner) (job : Job) (disk : D) (core : CoreState V7 D) (outcome : Outcome)
-    → IsRun told faults (asked_for manner job) job disk core → KeepsOrderIfAlone manner job core → FewerDevices (faults disk) (faults core.cache.disk) core.journal.history → Rose (faults disk) (faults core.cache.disk)
+    → IsRun told faults (asked_for manner job) job disk core → KeepsOrderIfAlone manner job core → FewerDevices (faults disk) (faults core.cache.disk) core.journal.history → Rose (faults disk) (faults core.cache.disk) → IsCutShort (sight_of core)
     → SaysText Unsettled (unsettled_text manner job core) outcome → ComesOfCore told faults manner job disk core outcome
-unsettled told faults manner job disk core outcome run order fewer rose said =
+unsettled told faults manner job disk core outcome run order fewer rose cut said =
     elim said [
-      | inl is ↦ subst (ComesOfCore told faults manner job disk core) (sym is) (record { run = run; order = order; fewer = fewer; rose = rose; printed = refl })
+      | inl is ↦ subst (ComesOfCore told faults manner job disk core) (sym is) (record { run = run; order = order; fewer = fewer; rose = rose; cut = cut; printed = refl })
       | inr none ↦ subst (ComesOfCore told faults manner job disk core) (sym none) tt
     ]
 
@@ -122,6 +122,8 @@ kept_stays job driven ended keeps order =
       firsts = order.firsts;
       enters = entered_stays job.order job driven.journal.history driven.journal.trail ended.journal.trail keeps.trail order.enters;
       taken = order.taken;
+      prompt = (let low = keeps.prompt in let none = order.prompt in let same = ap (λ (h : List Entry). omitted h ended.journal.trail) keeps.history in omega (arith, low, none, same));
+      patient = λ caller. (let low = keeps.told caller in let none = order.patient caller in omega (arith, low, none));
     }))
 
 order_stays : {D : Type 0} (manner : Manner) (job : Job) (driven ended : CoreState V7 D) → KeepsHistory (sight_of driven) (sight_of ended) → KeepsOrderIfAlone manner job driven → KeepsOrderIfAlone manner job ended
@@ -166,10 +168,10 @@ module _ {D : Type 0} (told : D → Option Image) (faults : D → ℕ) (manner :
   rises low rose = omega (arith, low, rose)
 
   pub comes_unsettled : (outcome : Outcome) → PathsAreRuns V7 D told faults → PathsFail V7 D told faults → IsFitJob job → Right told faults driven
-      → Rose (faults driven.cache.disk) (faults ended.cache.disk) → SaysText Unsettled (unsettled_text manner job ended) outcome → ComesOfCore told faults manner job disk ended outcome
-  comes_unsettled outcome runs fails fit right_driven rose said =
+      → Rose (faults driven.cache.disk) (faults ended.cache.disk) → IsCutShort (sight_of ended) → SaysText Unsettled (unsettled_text manner job ended) outcome → ComesOfCore told faults manner job disk ended outcome
+  comes_unsettled outcome runs fails fit right_driven rose cut said =
       unsettled told faults manner job disk ended outcome (runs fs (asked_for manner job) job disk drives.begun driven ended fit path) order
-      (fails fs (asked_for manner job) job disk drives.begun driven ended path right_driven drives.first rose) (rises (before right_driven) rose) said
+      (fails fs (asked_for manner job) job disk drives.begun driven ended path right_driven drives.first rose) (rises (before right_driven) rose) cut said
 
 -- the core that is held, with its outcome
 pub holds : {D : Type 0} (told : D → Option Image) (faults : D → ℕ) (manner : Manner) (job : Job) (disk : D) (core : CoreState V7 D) (given : Held D) (outcome made : Outcome)

@@ -29,6 +29,7 @@ use Rattle.mb_print.specs.Transcript.{end_text, failed_text, soak_text, transcri
 use Rattle.mb_run.specs.CoreSight.{sight_of}
 use Rattle.mb_run.specs.Drives.{IsDrivenApart}
 use Rattle.mb_run.specs.Orders.{asked_by}
+use Rattle.mb_run.specs.Settling.{IsCutShort}
 use Rattle.mb_program.specs.Held.{HoldsCore, HoldsDisk, IsGivenBack, held_disk}
 use Rattle.mb_program.specs.declared.finish.Held.{Held}
 use Rattle.mb_program.specs.declared.manners.Manner.{Manner}
@@ -111,12 +112,14 @@ pub record IsRunToFailure {D : Type 0} (told : D → Option Image) (faults : D �
   pub left : LeavesImage told job disk core
   pub printed : text ≡ told_text manner failed_text job core
 
--- a job that was run, where the disk failed in the end of the run: fewer calls than its faults were ended by the disk
+-- a job that was run, where the disk failed in the end of the run: fewer calls than its faults were ended by the disk, and a recovery
+-- is in progress or pages wait to be written back
 pub record IsRunShort {D : Type 0} (told : D → Option Image) (faults : D → ℕ) (manner : Manner) (job : Job) (disk : D) (text : List ℕ) (core : CoreState V7 D) : Type 0 where
   pub run : IsRun told faults (asked_for manner job) job disk core
   pub order : KeepsOrderIfAlone manner job core
   pub fewer : FewerDevices (faults disk) (faults core.cache.disk) core.journal.history
   pub rose : Rose (faults disk) (faults core.cache.disk)
+  pub cut : IsCutShort (sight_of core)
   pub printed : text ≡ unsettled_text manner job core
 
 -- what comes of a core that was begun over a disk for a job, by the core at the end

@@ -10,7 +10,8 @@ use Rattle.mb_run.specs.Sights.{Sight, undue_in}
 use Rattle.mb_run.specs.declared.runner.Runner.{Runner}
 use Rattle.mb_run.specs.declared.settles.SettleEnd.{SettleEnd}
 use Rattle.mb_run.proofs.Moving.{whole_then}
-use Rattle.mb_run.proofs.Undue.{same_undue, seal_undue}
+use Rattle.mb_run.specs.Timely.{IsTimely}
+use Rattle.mb_run.proofs.Timely.{timely_more, timely_same, timely_seal}
 
 -- ---- by an order
 
@@ -34,18 +35,17 @@ whole_asks calls test asked a b r s whole = record {
   config = whole.config;
   firsts = whole.firsts;
   later = whole.later;
-  seals = (let low = whole.seals in omega (arith, low));
+  seals = timely_more a b 0 asked (omega arith) whole.seals;
 }
 
 -- `=` asks for one
 one_asked : (character : ℕ) → character ≡ 61 → asked_in (character ∷ []) ≡ 1
 one_asked character is = ap (λ n. asked_in (n ∷ [])) is
 
-pub asked_seals : (character : ℕ) (old new : Sight) → character ≡ 61 → IsSealedNow old new → undue_in new ≤ undue_in old + asked_in (character ∷ [])
+pub asked_seals : (character : ℕ) (old new : Sight) → character ≡ 61 → IsSealedNow old new → IsTimely (asked_in (character ∷ [])) old new
 asked_seals character old new is seals =
-    let one = one_asked character is in
-    let low : undue_in new ≤ undue_in old + 1 = elim seals [ inl taken ↦ seal_undue old new taken.1 | inr none ↦ (let same = same_undue old new none.1 in omega (arith, same)) ] in
-    omega (arith, one, low)
+    subst (λ n. IsTimely n old new) (sym (one_asked character is))
+    (elim seals [ inl taken ↦ timely_seal old new taken.1 | inr none ↦ timely_more old new 0 1 (omega arith) (timely_same old new none.1) ])
 
 -- ---- at the end of a run
 

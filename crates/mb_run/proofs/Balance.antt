@@ -1,11 +1,14 @@
 -- Calls that were begun, entries, and calls in flight without one, event by event; and whether a call has its entry.
-use Rattle.std.proofs.Common.{◌≡◌, ◌∷◌, ◌++◌, [], ℕ, ◌+◌, Bool, false, length, ap, sym, subst, ◌∙◌, arith, Option, None, Some, length-append}
+use Rattle.std.proofs.Common.{◌≡◌, ◌∷◌, ◌++◌, [], ℕ, ◌+◌, Bool, true, false, length, refl, ap, sym, subst, ◌∙◌, arith, Option, None, Some, length-append}
 use Rattle.mb_kinds.specs.declared.calls.Call.{Call}
 use Rattle.mb_kinds.specs.declared.entries.Entry.{Entry}
 use Rattle.mb_kinds.specs.declared.entries.Flight.{Flight}
 use Rattle.mb_kinds.specs.declared.faults.Ticket.{Ticket}
 use Rattle.mb_kinds.specs.declared.replies.Reply.{Reply}
-use Rattle.mb_run.specs.Events.{Answers, BeginsFlight, SameCalls, Logs, entry_of}
+use Rattle.mb_core_spec.specs.declared.steps.Step.TheVariants as step
+use Rattle.mb_run.specs.Events.{Answers, BeginsFlight, LeavesOthersAlone, Logs, SameCalls, SealsIf, entry_of, sealed}
+use Rattle.mb_run.specs.Seals.{TrailGoesOn}
+use Rattle.mb_run.proofs.Trails.{trail_put, trail_then}
 use Rattle.mb_run.specs.Served.{IsBalanced, IsMarked}
 use Rattle.mb_run.specs.Sights.{Sight, flight_of}
 
@@ -25,8 +28,56 @@ balanced_answers caller flight answer old new answers even =
     let more = more_by old new (entry_of caller flight None answer) answers.history in
     omega (arith, answers.begun, answers.open_calls, even, more)
 
-pub balanced_logs : (caller : ℕ) (old new : Sight) (ticket : Ticket) → Logs caller old new ticket → IsBalanced old → IsBalanced new
-balanced_logs caller old new ticket logs even =
+-- a call gets its entry, and the trace goes on: with the step that logs it, and with the checkpoint that is then due
+pub record LogsCall (caller : ℕ) (old new : Sight) : Type 0 where
+  pub stays : LeavesOthersAlone caller old new
+  pub flight : Flight
+  pub was : (old.seats caller).flight ≡ Some flight
+  pub mine : new.seats caller ≡ record { begun = flight.ordinal; flight = Some (record flight { answered = true }) }
+  pub pick : Option ℕ
+  pub answer : Reply
+  pub history : new.history ≡ old.history ++ entry_of caller flight pick answer ∷ []
+  pub begun : new.begun ≡ old.begun
+  pub open_calls : new.open_calls + 1 ≡ old.open_calls
+  pub floor : new.floor ≡ None
+  pub trail : TrailGoesOn old.trail new.trail
+
+logs_call : (caller : ℕ) (old new : Sight) (ticket : Ticket) → Logs caller old new ticket → LogsCall caller old new
+logs_call caller old new ticket logs = record {
+  stays = logs.stays;
+  flight = logs.flight;
+  was = logs.was;
+  mine = logs.mine;
+  pick = logs.pick;
+  answer = logs.answer;
+  history = logs.history;
+  begun = logs.begun;
+  open_calls = logs.open_calls;
+  floor = logs.floor;
+  trail = trail_put old.trail (step.Logged ticket ∷ []) new.trail logs.trail;
+}
+
+logs_sealed : (caller : ℕ) (old mid new : Sight) (ticket : Ticket) → Logs caller old mid ticket → LogsCall caller old (sealed mid new)
+logs_sealed caller old mid new ticket logs = record {
+  stays = record { config = logs.stays.config; records = logs.stays.records; stage = logs.stays.stage; incarnation = logs.stays.incarnation; seats = logs.stays.seats; copies = logs.stays.copies; stales = logs.stays.stales };
+  flight = logs.flight;
+  was = logs.was;
+  mine = logs.mine;
+  pick = logs.pick;
+  answer = logs.answer;
+  history = logs.history;
+  begun = logs.begun;
+  open_calls = logs.open_calls;
+  floor = logs.floor;
+  trail = trail_then old.trail mid.trail (sealed mid new).trail (trail_put old.trail (step.Logged ticket ∷ []) mid.trail logs.trail) (trail_put mid.trail (step.Sealed (length mid.history) ∷ []) (sealed mid new).trail refl);
+}
+
+pub logs_if : (caller : ℕ) (old mid new : Sight) (ticket : Ticket) (due : Bool) → Logs caller old mid ticket → SealsIf due mid new → LogsCall caller old new
+logs_if caller old mid new ticket true logs seals = subst (LogsCall caller old) (sym seals) (logs_sealed caller old mid new ticket logs)
+logs_if caller old mid new ticket false logs seals = subst (LogsCall caller old) (sym seals) (logs_call caller old mid ticket logs)
+
+pub balanced_logs : (caller : ℕ) (old new : Sight) → LogsCall caller old new → IsBalanced old → IsBalanced new
+balanced_logs caller old new logs even =
     let more = more_by old new (entry_of caller logs.flight logs.pick logs.answer) logs.history in
     omega (arith, logs.begun, logs.open_calls, even, more)
 

@@ -12,9 +12,10 @@ use Rattle.mb_run.specs.Drives.{EntersByOrder, EntersCalmly, TakesByOrder, AreNe
 use Rattle.mb_run.specs.Firsts.{HasFirst}
 use Rattle.mb_run.specs.Letters.{AreLetters, HasBegunBy, letters_of}
 use Rattle.mb_run.specs.Runs.{FirstsRise, HasTakenTested}
-use Rattle.mb_run.specs.Served.{AreSixCounts, IsAfter, IsBalanced, IsRunInOrder, IsServedSoFar, AllUnderWay, calls_of, moments_in}
+use Rattle.mb_run.specs.Served.{AreSixCounts, IsAfter, IsRunInOrder, IsServedSoFar, AllUnderWay, calls_of, moments_in}
 use Rattle.mb_run.specs.Orders.{asked_by, asked_in}
-use Rattle.mb_run.specs.Sights.{IsOrderlyInSight, Limits, Seat, Sight, undue_in}
+use Rattle.mb_run.specs.Timely.{IsTimely}
+use Rattle.mb_run.specs.Sights.{IsOrderlyInSight, Limits, Seat, Sight}
 use Rattle.mb_run.specs.declared.runner.Runner.{Runner}
 use Rattle.mb_run.proofs.Completing.{calls_few, each_moment}
 use Rattle.mb_run.proofs.Entered.{no_counts}
@@ -40,9 +41,6 @@ begins_underway job test sight runners runnable begun new = record {
   small = λ caller. (let few = calls_few job.calls caller in omega (arith, few, runnable.small));
   right = begun.right;
 }
-
-pub begins_balanced : (job : Job) (sight : Sight) → IsBegun job sight → IsBalanced sight
-begins_balanced job sight begun = let none = ap length begun.history in omega (arith, begun.begun, begun.open_calls, none)
 
 pub begins_after : (job : Job) (test : Option (Crossing → Bool)) (sight : Sight) (runners : List Runner) → IsRunnable job → IsBegun job sight → AreNew runners (length job.callers) → IsAfter job.calls test sight runners 0
 begins_after job test sight runners runnable begun new = record {
@@ -85,7 +83,7 @@ declared : (job : Job) (old new : Sight) → IsBegun job old → new.config ≡ 
 declared job old new begun config = ap (λ (l : Limits). l.callers) config ∙ begun.callers
 
 pub listed : (job : Job) (test : Option (Crossing → Bool)) (old new : Sight) (callers : ℕ) → IsBegun job old → job.order ≡ None → callers ≡ length job.callers → IsRunInOrder job.calls callers test new → new.config ≡ old.config → IsOrderlyInSight new
-    → (old.stage ≡ stage.Running → HasTakenTested test new.history new.records) → undue_in new ≤ undue_in old → IsDriven job test old new
+    → (old.stage ≡ stage.Running → HasTakenTested test new.history new.records) → IsTimely 0 old new → IsDriven job test old new
 listed job test old new callers begun none same ran config right taken seals =
     let start : new.config.start ≡ job.start = ap (λ (l : Limits). l.start) config ∙ begun.start in
     record {
@@ -99,12 +97,12 @@ listed job test old new callers begun none same ran config right taken seals =
       enters = λ runs trail. subst (λ order. EntersByOrder order job.callers job.calls test new) (sym none) tt;
       sound = ran.sound;
       taken = λ runs. subst (λ order. TakesByOrder order test new) (sym none) (taken runs);
-      seals = subst (λ order. undue_in new ≤ undue_in old + asked_by order) (sym none) (omega (arith, seals));
+      seals = subst (λ order. IsTimely (asked_by order) old new) (sym none) seals;
     }
 
 pub ordered : (job : Job) (test : Option (Crossing → Bool)) (old new : Sight) (callers : ℕ) (order : List ℕ) → IsBegun job old → job.order ≡ Some order → callers ≡ length job.callers → IsComplete job.calls callers test new → new.config ≡ old.config → IsOrderlyInSight new
     → (AreLetters (letters_of job.callers) → FirstsRise order (letters_of job.callers) new.history)
-    → (old.stage ≡ stage.Running → old.trail ≡ [] → EntersCalmly order job.callers job.calls test new) → undue_in new ≤ undue_in old + asked_in order → IsDriven job test old new
+    → (old.stage ≡ stage.Running → old.trail ≡ [] → EntersCalmly order job.callers job.calls test new) → IsTimely (asked_in order) old new → IsDriven job test old new
 ordered job test old new callers order begun some same done config right rises enters seals =
     let start : new.config.start ≡ job.start = ap (λ (l : Limits). l.start) config ∙ begun.start in
     record {
@@ -118,7 +116,7 @@ ordered job test old new callers order begun some same done config right rises e
       enters = λ runs trail. subst (λ given. EntersByOrder given job.callers job.calls test new) (sym some) (enters runs trail);
       sound = done.sound;
       taken = λ runs. subst (λ given. TakesByOrder given test new) (sym some) tt;
-      seals = subst (λ given. undue_in new ≤ undue_in old + asked_by given) (sym some) seals;
+      seals = subst (λ given. IsTimely (asked_by given) old new) (sym some) seals;
     }
 
 -- ---- the callers of a job

@@ -410,9 +410,6 @@ pub record IsToldBy (letters : List ℕ) (calls : List JobCall) (seen : List ℕ
   pub calm : is_calm letters [] seen ≡ true → AreCalm letters calls seen sight runners
   pub enters : EntersFirst calls letters seen sight.trail
 
-pub told_first : (letters : List ℕ) (calls : List JobCall) (sight : Sight) (runners : List Runner) → AreCalm letters calls [] sight runners → IsToldBy letters calls [] sight runners
-told_first letters calls sight runners calm = record { calm = λ so. calm; enters = tt }
-
 module _ (letters : List ℕ) (calls : List JobCall) (seen : List ℕ) (character : ℕ) (old new : Sight) (before now : List Runner) (told : IsToldBy letters calls seen old before) (goes : TrailGoesOn old.trail new.trail)
     (keeps : KeepsCalm letters calls character old new before now) (plain : AreAllPlain new.history) where
   calm_on : is_calm letters [] seen ≡ true → is_calm_next letters seen character ≡ true → AreCalm letters calls (seen ++ character ∷ []) new now
@@ -504,7 +501,7 @@ sealed_still old new is = elim is [
 pub flushed_still : (old new : Sight) (answer : Flushed) → FlushesWith old new answer → IsStill old new
 flushed_still old new flushed.One flushes = subst (IsStill old) (sym flushes.1) (record { stage = refl; incarnation = refl; seats = λ caller. refl; trail = refl })
 flushed_still old new flushed.Clean flushes = subst (IsStill old) (sym flushes.1) (still_same old)
-flushed_still old new flushed.Device flushes = subst (IsStill old) (sym flushes) (still_same old)
+flushed_still old new flushed.Device flushes = subst (IsStill old) (sym flushes.1) (still_same old)
 
 -- ---- one caller of all
 

@@ -137,21 +137,11 @@ module _ (calls : List JobCall) (test : Option (Crossing → Bool)) (old mid new
 
 -- ---- a step
 
--- what holds of steps of a capital letter holds of a small one's, of a call inside
-pub small_inside : (test : Option (Crossing → Bool)) (old new : Sight) (before now : Runner) (ticket : Ticket) → before.at ≡ at.Inside ticket → StepsCalmly true test old new before now → StepsCalmly false test old new before now
-small_inside test old new before now ticket inside steps = λ nowhere plain. subst (CalmlyFrom false old new before now) (sym inside)
-    (λ present bare. subst (CalmlyFrom true old new before now) inside (steps nowhere plain) present (λ wrong. absurd (no_both wrong)))
-
 -- and the other way about of one that enters
 pub capital_outside : (test : Option (Crossing → Bool)) (old new : Sight) (before now : Runner) → before.at ≡ at.Outside → StepsCalmly false test old new before now → StepsCalmly true test old new before now
 capital_outside test old new before now outside steps = λ nowhere plain. subst (CalmlyFrom true old new before now) (sym outside)
     (λ runs free. (let goes = subst (CalmlyFrom false old new before now) outside (steps nowhere plain) runs free in
     record { ticket = goes.ticket; stands = goes.stands; own = goes.own; ordinal = goes.ordinal; present = goes.present; incarnation = goes.incarnation; stage = goes.stage; trail = goes.trail; bare = λ wrong. absurd (no_both wrong) }))
-
--- the tables are gathered
-pub full_calm : (test : Option (Crossing → Bool)) (old new : Sight) (before now : Runner) (ticket : Ticket) → before.at ≡ at.Inside ticket → has before.pages 0 ≡ true → StepsCalmly false test old new before now
-full_calm test old new before now ticket inside there = λ nowhere plain. subst (CalmlyFrom false old new before now) (sym inside)
-    (λ present bare. absurd (no_both (sym there ∙ bare refl)))
 
 pub logged_calm : (capital : Bool) (test : Option (Crossing → Bool)) (old new : Sight) (before now : Runner) (ticket : Ticket) → before.at ≡ at.Logged ticket → StepsCalmly capital test old new before now
 logged_calm capital test old new before now ticket logged = λ nowhere plain. subst (CalmlyFrom capital old new before now) (sym logged) tt

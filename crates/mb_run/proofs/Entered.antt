@@ -17,7 +17,7 @@ use Rattle.mb_run.specs.Pages.{has}
 use Rattle.mb_run.specs.Events.{Answers, BeginsFlight, EntersInSight, EntersInside, EndsFlight, entry_of}
 use Rattle.mb_run.specs.Firsts.{KeepsFirsts}
 use Rattle.mb_run.specs.Served.{ActsAlone, AreSixCounts, Did, AsksAtEntry, IsAtBy, IsCounted, InLine, IsBalanced, IsStanding, LineBy, MayStep, Nears, advanced, busy, calls_in, calls_of, missing, rank, work}
-use Rattle.mb_run.specs.Sights.{IsOld, IsOrderlyInSight, Limits, Seat, Sight, flight_of, one_if, recovers, undue_in}
+use Rattle.mb_run.specs.Sights.{IsOld, IsOrderlyInSight, Limits, Seat, Sight, flight_of, one_if, recovers}
 use Rattle.mb_run.specs.declared.runner.At.{At}
 use Rattle.mb_run.specs.declared.runner.At.TheVariants as at
 use Rattle.mb_run.specs.declared.answers.Enter.TheVariants as enter
@@ -34,7 +34,8 @@ use Rattle.mb_run.proofs.Lists.{all_map, calls_push}
 use Rattle.mb_run.proofs.Missing.{missing_most}
 use Rattle.mb_run.proofs.Places.{at_begins, at_ends, at_leaves}
 use Rattle.mb_run.proofs.Trails.{trail_marks}
-use Rattle.mb_run.proofs.Undue.{entry_undue, still_undue}
+use Rattle.mb_run.specs.Timely.{IsTimely}
+use Rattle.mb_run.proofs.Timely.{timely_answers, timely_inside, timely_leaves, timely_refl, timely_then, timely_waits_outside}
 
 old_begins : (sight : Sight) (caller : ℕ) (call : Call) (incarnation : ℕ) (before : Option Flight) → IsOld incarnation before → IsOld incarnation (Some (flight_of sight caller call before))
 old_begins sight caller call incarnation None old = tt
@@ -62,7 +63,7 @@ rank_outside incarnation stales pages a outside = ap (rank incarnation stales pa
 
 module _ (calls : List JobCall) (test : Option (Crossing → Bool)) (old : Sight) (runner : Runner) (call : Call) (may : MayStep calls test old runner call) where
   -- the call has its entry and its flight ends
-  pub did_end : (new : Sight) → ActsAlone runner.crossings.caller old new → (InLine runner.crossings.caller old → InLine runner.crossings.caller new) → (IsBalanced old → IsBalanced new) → undue_in new ≤ undue_in old → new.records ≡ old.records
+  pub did_end : (new : Sight) → ActsAlone runner.crossings.caller old new → (InLine runner.crossings.caller old → InLine runner.crossings.caller new) → (IsBalanced old → IsBalanced new) → IsTimely 0 old new → new.records ≡ old.records
       → IsAtBy (calls_of calls runner.crossings.caller) (calls_in new.history runner.crossings.caller) (runner.done + 1) (new.seats runner.crossings.caller).begun (new.seats runner.crossings.caller).flight
       → (new.seats runner.crossings.caller).flight ≡ None → Did calls test old new runner (advanced runner) went.Ended
   did_end new acts lined balanced seals records here gone = record {
@@ -89,7 +90,7 @@ module _ (calls : List JobCall) (test : Option (Crossing → Bool)) (old : Sight
   pub did_leave : (new : Sight) (flight : Flight) → EndsFlight runner.crossings.caller flight old new → Did calls test old new runner (advanced runner) went.Ended
   did_leave new flight leaves =
       let was = subst (IsAtBy (calls_of calls runner.crossings.caller) (calls_in old.history runner.crossings.caller) runner.done (old.seats runner.crossings.caller).begun) leaves.was may.served.calls in
-      did_end new (acts_stays runner.crossings.caller old new leaves.stays leaves.counts.history (elim leaves.floor [ inl none ↦ inl none | inr same ↦ inr (inr same) ]) (firsts_leaves old new runner.crossings.caller flight may.within (counted_from flight.ordinal runner.done was.1) (was.0 ∙ sym was.1) leaves) (trail_marks old.trail new.trail leaves.log.trail)) (line_leaves runner.crossings.caller flight old new leaves) (balanced_same old new leaves.counts) (still_undue old new leaves.stays.config leaves.log leaves.counts.history) leaves.stays.records
+      did_end new (acts_stays runner.crossings.caller old new leaves.stays leaves.counts.history (elim leaves.floor [ inl none ↦ inl none | inr same ↦ inr (inr same) ]) (firsts_leaves old new runner.crossings.caller flight may.within (counted_from flight.ordinal runner.done was.1) (was.0 ∙ sym was.1) leaves) (trail_marks old.trail new.trail leaves.log.trail)) (line_leaves runner.crossings.caller flight old new leaves) (balanced_same old new leaves.counts) (timely_leaves runner.crossings.caller flight old new leaves) leaves.stays.records
       (rw (leaves.mine, leaves.counts.history) (at_leaves (calls_of calls runner.crossings.caller) (calls_in old.history runner.crossings.caller) runner.done (old.seats runner.crossings.caller).begun flight leaves.answered was))
       (ap (λ (s : Seat). s.flight) leaves.mine)
 
@@ -100,7 +101,7 @@ module _ (calls : List JobCall) (test : Option (Crossing → Bool)) (old : Sight
       → (Answers runner.crossings.caller flight answer old new → CameFrom old new runner.crossings.caller flight) → Did calls test old new runner (advanced runner) went.Ended
   did_answer new flight answer answers lacks here line came =
       let entry = entry_of runner.crossings.caller flight None answer in
-      did_end new (acts_entry runner.crossings.caller old new entry answers.stays refl answers.history (elim answers.floor [ inl none ↦ inl none | inr same ↦ inr (inr same) ]) (firsts_answers old new runner.crossings.caller flight answer may.within (counted_from flight.ordinal runner.done here.1) (came answers) answers) (trail_marks old.trail new.trail answers.log.trail)) (λ lined. line_answers runner.crossings.caller flight answer old new answers lacks (line answers lined)) (balanced_answers runner.crossings.caller flight answer old new answers) (entry_undue old new answers.stays.config entry answers.log answers.history) answers.stays.records
+      did_end new (acts_entry runner.crossings.caller old new entry answers.stays refl answers.history (elim answers.floor [ inl none ↦ inl none | inr same ↦ inr (inr same) ]) (firsts_answers old new runner.crossings.caller flight answer may.within (counted_from flight.ordinal runner.done here.1) (came answers) answers) (trail_marks old.trail new.trail answers.log.trail)) (λ lined. line_answers runner.crossings.caller flight answer old new answers lacks (line answers lined)) (balanced_answers runner.crossings.caller flight answer old new answers) (timely_answers runner.crossings.caller flight answer old new answers) answers.stays.records
       (rw (answers.mine, answers.history, calls_push old.history entry runner.crossings.caller refl)
       (at_ends (calls_of calls runner.crossings.caller) (calls_in old.history runner.crossings.caller) runner.done flight.ordinal flight lacks here))
       (ap (λ (s : Seat). s.flight) answers.mine)
@@ -158,7 +159,8 @@ module _ (calls : List JobCall) (test : Option (Crossing → Bool)) (old : Sight
               counted = rw begins.stays.records may.served.counted;
             };
             sound = rw begins.stays.records may.sound;
-            seals = still_undue old new begins.stays.config begins.log begins.history;
+            seals = timely_waits_outside runner.crossings.caller (flight_of old runner.crossings.caller call (old.seats runner.crossings.caller).flight) old new begins
+                (old_begins old runner.crossings.caller call old.incarnation (old.seats runner.crossings.caller).flight was_old);
           };
           goes = (
             refl,
@@ -223,7 +225,7 @@ module _ (calls : List JobCall) (test : Option (Crossing → Bool)) (old : Sight
           balanced = λ even. goes.nears.balanced (balanced_begins runner.crossings.caller (record (flight_of old runner.crossings.caller call (old.seats runner.crossings.caller).flight) { ticket = Some ticket }) old mid begins even);
           served = goes.nears.served;
           sound = goes.nears.sound;
-          seals = (let first = still_undue old mid begins.stays.config begins.log begins.history in let then = goes.nears.seals in omega (arith, first, then));
+          seals = timely_then old mid new 0 0 (timely_inside runner.crossings.caller call old mid ticket enters was_old) goes.nears.seals;
         } in
         elim goes.goes [
           | inl on ↦ subst (λ c. Did calls test old new runner now c) (sym on) (record { nears = nears; goes = (goes.done, less) })
@@ -233,7 +235,7 @@ module _ (calls : List JobCall) (test : Option (Crossing → Bool)) (old : Sight
   -- nothing changed, for want of memory
   pub did_nothing : (new : Sight) → new ≡ old → runner.answered ≡ false → Did calls test old new runner runner went.NoMemory
   did_nothing new same lacks = subst (λ (s : Sight). Did calls test old s runner runner went.NoMemory) (sym same) (record {
-    nears = record { same = refl; counts = may.counts; acts = acts_same runner.crossings.caller old; lined = λ line. line; balanced = λ even. even; served = may.served; sound = may.sound; seals = omega arith };
+    nears = record { same = refl; counts = may.counts; acts = acts_same runner.crossings.caller old; lined = λ line. line; balanced = λ even. even; served = may.served; sound = may.sound; seals = timely_refl old };
     goes = (refl, lacks);
   })
 

@@ -144,9 +144,6 @@ put_there runners caller other now found apart here =
 pub got : (runners : List Runner) (caller : ℕ) (d : Runner) → caller < length runners → slice_get runners caller ≡ Some (get_or runners caller d)
 got runners caller d low = slice_get-get_or runners caller d low
 
-pub same_got : (runners : List Runner) (caller : ℕ) (x d : Runner) → caller < length runners → x ≡ get_or runners caller x → x ≡ get_or runners caller d
-same_got runners caller x d low is = is ∙ some_same (get_or runners caller x) (get_or runners caller d) (sym (got runners caller x low) ∙ got runners caller d low)
-
 module _ (calls : List JobCall) (test : Option (Crossing → Bool)) (old new : Sight) (runners : List Runner) (caller : ℕ) (d now : Runner) (underway : AllUnderWay calls test old runners) (low : caller < length runners) where
   own_caller : (get_or runners caller d).crossings.caller ≡ caller
   own_caller = (underway.served caller (get_or runners caller d) (got runners caller d low)).caller_is

@@ -1,7 +1,6 @@
--- What a call that finishes was performed over, a checkpoint after it was logged, and a call that is given up.
-use Rattle.std.proofs.Common.{◌≡◌, List, [], ◌∷◌, length, ℕ, ◌<◌, ◌≤◌, Bool, true, false, if◌then◌else◌, is_some, refl, ap, sym, subst, ◌∙◌, arith, Option, None, Some, option_map}
+-- What a call that finishes was performed over, and a call that is given up.
+use Rattle.std.proofs.Common.{◌≡◌, List, ℕ, ◌<◌, Bool, true, false, if◌then◌else◌, is_some, refl, ap, sym, subst, ◌∙◌, arith, Option, None, Some, option_map}
 use Rattle.std.proofs.lemmas.Option.{same_Some}
-use Rattle.mb_core_spec.specs.declared.steps.Step.TheVariants as step
 use Rattle.mb_edge.specs.declared.crossings.Crossing.{Crossing}
 use Rattle.mb_calls.specs.declared.performing.Performed.TheVariants as performed
 use Rattle.mb_calls.specs.declared.performing.Ready.{Ready}
@@ -14,16 +13,13 @@ use Rattle.mb_kinds.specs.declared.calls.Call.{Call}
 use Rattle.mb_kinds.specs.declared.entries.Flight.{Flight}
 use Rattle.mb_kinds.specs.declared.faults.Kind.{Kind}
 use Rattle.mb_kinds.specs.declared.faults.Ticket.{Ticket}
-use Rattle.mb_run.specs.Events.{IsCallOf, IsReadyAt, SealsIf, sealed}
+use Rattle.mb_run.specs.Events.{IsCallOf, IsReadyAt}
 use Rattle.mb_run.specs.Pages.{HasTablesFor, PerformsOver, has}
-use Rattle.mb_run.specs.Served.{ActsAlone, Asks, Did, IsAtBy, IsHeld, IsServedSoFar, IsStanding, MayStep, calls_in, calls_of}
-use Rattle.mb_run.specs.Sights.{SeatHasTicket, Sight, undue_in}
-use Rattle.mb_run.specs.declared.progress.Went.TheVariants as went
-use Rattle.mb_run.specs.declared.runner.At.{At}
+use Rattle.mb_run.specs.Served.{Asks, IsAtBy, IsHeld, IsStanding, MayStep, calls_in, calls_of}
+use Rattle.mb_run.specs.Sights.{SeatHasTicket, Sight}
 use Rattle.mb_run.specs.declared.runner.At.TheVariants as at
 use Rattle.mb_run.specs.declared.runner.Runner.{Runner}
 use Rattle.mb_run.proofs.Lists.{neq}
-use Rattle.mb_run.proofs.Trails.{trail_put, trail_then}
 
 -- ---- pages
 
@@ -75,62 +71,3 @@ asked_ready test old mid before m ticket kind call ready asks performs =
 
 pub asked_there : (test : Option (Crossing → Bool)) (old mid : Sight) (before m : Runner) (ticket : Ticket) (kind : Kind) → Asks test old mid before m ticket kind false → has before.pages 0 ≡ true → has m.pages 0 ≡ true
 asked_there test old mid before m ticket kind asks there = subst (λ (r : Runner). has r.pages 0 ≡ true) (sym asks.1) there
-
--- ---- a checkpoint
-
-acts_sealed : (caller : ℕ) (old mid new : Sight) → ActsAlone caller old mid → ActsAlone caller old (sealed mid new)
-acts_sealed caller old mid new acts = record {
-  trail = trail_then old.trail mid.trail (sealed mid new).trail acts.trail (trail_put mid.trail (step.Sealed (length mid.history) ∷ []) (sealed mid new).trail refl);
-  config = acts.config;
-  seats = acts.seats;
-  own = acts.own;
-  entries = acts.entries;
-  grown = acts.grown;
-  theirs = acts.theirs;
-  more = acts.more;
-  records = acts.records;
-  mine = acts.mine;
-  later = acts.later;
-  runs = acts.runs;
-  copies = acts.copies;
-  stales = acts.stales;
-  calm = acts.calm;
-  floor = acts.floor;
-  firsts = record { begun = acts.firsts.begun; none = acts.firsts.none; firsts = acts.firsts.firsts };
-}
-
-stands_sealed : (mid new : Sight) (caller : ℕ) (pages : PagesState) (a : At) → IsStanding mid caller pages a → IsStanding (sealed mid new) caller pages a
-stands_sealed mid new caller pages at.Outside was = was
-stands_sealed mid new caller pages (at.Inside ticket) was = (was.0, record { mine = was.1.mine; past = was.1.past; runs = was.1.runs; same = was.1.same; tables = was.1.tables })
-stands_sealed mid new caller pages (at.Logged ticket) was = was
-
-served_sealed : (list : List Call) (mid new : Sight) (caller : ℕ) (runner : Runner) → IsServedSoFar list mid caller runner → IsServedSoFar list (sealed mid new) caller runner
-served_sealed list mid new caller runner served = record {
-  caller_is = served.caller_is;
-  ordinal = served.ordinal;
-  calls = served.calls;
-  stands = stands_sealed mid new caller runner.pages runner.at served.stands;
-  marked = served.marked;
-  counted = served.counted;
-}
-
-did_sealed : (calls : List JobCall) (test : Option (Crossing → Bool)) (old mid new : Sight) (before now : Runner) → Did calls test old mid before now went.On → undue_in (sealed mid new) ≤ undue_in old → Did calls test old (sealed mid new) before now went.On
-did_sealed calls test old mid new before now did seals = record {
-  nears = record {
-    same = did.nears.same;
-    counts = did.nears.counts;
-    acts = acts_sealed before.crossings.caller old mid new did.nears.acts;
-    lined = did.nears.lined;
-    balanced = did.nears.balanced;
-    served = served_sealed (calls_of calls before.crossings.caller) mid new before.crossings.caller now did.nears.served;
-    sound = did.nears.sound;
-    seals = seals;
-  };
-  goes = did.goes;
-}
-
--- a checkpoint, where one is due, changes nothing of what a step said
-pub did_seals : (calls : List JobCall) (test : Option (Crossing → Bool)) (old mid new : Sight) (before now : Runner) (due : Bool) → Did calls test old mid before now went.On → SealsIf due mid new → undue_in new ≤ undue_in old → Did calls test old new before now went.On
-did_seals calls test old mid new before now true did seals low =
-    subst (λ (s : Sight). Did calls test old s before now went.On) (sym seals) (did_sealed calls test old mid new before now did (let same = ap undue_in seals in omega (arith, same, low)))
-did_seals calls test old mid new before now false did seals low = subst (λ (s : Sight). Did calls test old s before now went.On) (sym seals) did

@@ -5,10 +5,10 @@ use Rattle.mb_kinds.specs.declared.calls.Call.{Call}
 use Rattle.mb_kinds.specs.declared.entries.Entry.{Entry}
 use Rattle.mb_kinds.specs.declared.entries.Flight.{Flight}
 use Rattle.mb_kinds.specs.declared.replies.Reply.{Reply}
-use Rattle.mb_run.specs.Events.{Answers, BeginsFlight, EndsFlight, Logs, entry_of}
-use Rattle.mb_kinds.specs.declared.faults.Ticket.{Ticket}
+use Rattle.mb_run.specs.Events.{Answers, BeginsFlight, EndsFlight, entry_of}
 use Rattle.mb_run.specs.Firsts.{BeginsFirst, HasFirst, IsFirstEntry, IsFirstFlight, KeepsFirsts}
 use Rattle.mb_run.specs.Sights.{Limits, Seat, Sight, flight_of, is_new, one_if}
+use Rattle.mb_run.proofs.Balance.{LogsCall}
 use Rattle.mb_run.proofs.Counting.{same_or_not}
 
 -- ---- lists of entries
@@ -156,8 +156,8 @@ firsts_answers old new caller flight answer within counted came answers =
     (λ held here. absurd (never_flight held (ap (λ (s : Seat). s.flight) (sym answers.mine) ∙ here)))
 
 -- it gets its entry and stays
-pub firsts_logs : (old new : Sight) (caller : ℕ) (ticket : Ticket) → caller < old.config.callers → (logs : Logs caller old new ticket) → logs.flight.ordinal ≢ 0 → KeepsFirsts old new
-firsts_logs old new caller ticket within logs counted =
+pub firsts_logs : (old new : Sight) (caller : ℕ) → caller < old.config.callers → (logs : LogsCall caller old new) → logs.flight.ordinal ≢ 0 → KeepsFirsts old new
+firsts_logs old new caller within logs counted =
     firsts_by old new caller logs.flight within counted (ap (λ (s : Seat). s.begun) logs.mine) (inl (record { was = logs.flight; here = logs.was; ordinal = refl; moment = refl })) (omega (arith, logs.begun)) logs.stays.seats
     (λ place entry here. elim (pushed_at old.history (entry_of caller logs.flight logs.pick logs.answer) place entry (subst (λ h. slice_get h place ≡ Some entry) logs.history here)) [
       | inl before ↦ inl before

@@ -1,5 +1,5 @@
 -- Steps of a caller, one after another.
-use Rattle.std.proofs.Common.{◌≡◌, ◌≢◌, List, ℕ, ◌+◌, ◌<◌, ◌≤◌, Bool, true, inl, inr, refl, ap, sym, subst, ◌∙◌, arith, Option, None, Some}
+use Rattle.std.proofs.Common.{◌≡◌, List, ℕ, ◌+◌, ◌<◌, ◌≤◌, Bool, true, inl, inr, refl, ap, sym, subst, ◌∙◌, arith, Option, None}
 use Rattle.mb_edge.specs.declared.crossings.Crossing.{Crossing}
 use Rattle.mb_kinds.specs.declared.calls.Call.{Call}
 use Rattle.mb_run.specs.Served.{ActsAlone, Did, IsFloorOf, IsServedSoFar, MayStep, Nears, HasRun, InLine, RunsRecovery, Rolled, calls_of, work}
@@ -9,9 +9,10 @@ use Rattle.mb_jobs.specs.declared.jobs.JobCall.{JobCall}
 use Rattle.mb_run.specs.declared.progress.Went.TheVariants as went
 use Rattle.mb_run.specs.declared.runner.Runner.{Runner}
 use Rattle.mb_run.proofs.Acting.{acts_same, acts_then}
+use Rattle.mb_run.proofs.Timely.{timely_refl, timely_then}
 
 pub nears_same : (calls : List JobCall) (test : Option (Crossing → Bool)) (old : Sight) (runner : Runner) (call : Call) → MayStep calls test old runner call → Nears calls test old old runner runner
-nears_same calls test old runner call may = record { same = refl; counts = may.counts; acts = acts_same runner.crossings.caller old; lined = λ line. line; balanced = λ even. even; served = may.served; sound = may.sound; seals = omega arith }
+nears_same calls test old runner call may = record { same = refl; counts = may.counts; acts = acts_same runner.crossings.caller old; lined = λ line. line; balanced = λ even. even; served = may.served; sound = may.sound; seals = timely_refl old }
 
 pub nears_then : (calls : List JobCall) (test : Option (Crossing → Bool)) (a b d : Sight) (r s t : Runner) → Nears calls test a b r s → Nears calls test b d s t → Nears calls test a d r t
 nears_then calls test a b d r s t one two = record {
@@ -22,7 +23,7 @@ nears_then calls test a b d r s t one two = record {
   balanced = λ even. two.balanced (one.balanced even);
   served = subst (λ n. IsServedSoFar (calls_of calls n) d n t) one.same two.served;
   sound = two.sound;
-  seals = omega (arith, one.seals, two.seals);
+  seals = timely_then a b d 0 0 one.seals two.seals;
 }
 
 pub nears_may : (calls : List JobCall) (test : Option (Crossing → Bool)) (old new : Sight) (before now : Runner) (call : Call) → MayStep calls test old before call → Nears calls test old new before now → now.done ≡ before.done → IsOrderlyInSight new
@@ -112,18 +113,9 @@ pub turning_less : (calls : List JobCall) (test : Option (Crossing → Bool)) (m
     → work new now.crossings.caller now < work mid m.crossings.caller m
 turning_less calls test mid new m now nears less = let here : work new now.crossings.caller now ≡ work new m.crossings.caller now = ap (λ n. work new n now) nears.same in omega (arith, here, less)
 
-some_one : (m n : ℕ) → Some m ≡ Some n → m ≡ n
-some_one m n same = cc
-
 -- the floor stays nobody's or one's own
 pub still_mine : (caller : ℕ) (old new : Sight) → ActsAlone caller old new → IsFloorOf caller old.floor → IsFloorOf caller new.floor
 still_mine caller old new acts mine = elim acts.floor [ inl none ↦ inl none | inr rest ↦ elim rest [ inl own ↦ inr own | inr same ↦ elim mine [ inl none ↦ inl (same ∙ none) | inr own ↦ inr (same ∙ own) ] ] ]
-
-pub never_busy : (caller holder : ℕ) (floor : Option ℕ) → IsFloorOf caller floor → floor ≡ Some holder → holder ≢ caller → ⊥
-never_busy caller holder floor mine is apart = elim mine [
-  | inl none ↦ (let both : None ≡ Some holder = sym none ∙ is in cc)
-  | inr own ↦ apart (sym (some_one caller holder (sym own ∙ is)))
-]
 
 pub turning_ends : (calls : List JobCall) (test : Option (Crossing → Bool)) (old mid new : Sight) (before m now : Runner) (call : Call) → IsTurning calls test old mid before m call → Nears calls test mid new m now → now.done ≡ m.done + 1
     → (new.seats m.crossings.caller).flight ≡ None → HasRun calls test old new before now

@@ -1,5 +1,5 @@
 -- Checkpoints are in time after each event, where they were before it.
-use Rattle.std.proofs.Common.{◌≡◌, inl, inr, List, [], ◌∷◌, ◌++◌, ℕ, zero, suc, ◌<◌, Bool, true, false, ◌&&◌, ◌||◌, Option, None, Some, IfSome, drop, length, refl, ap, sym, subst, ◌∙◌, arith}
+use Rattle.std.proofs.Common.{◌≡◌, inl, inr, List, [], ◌∷◌, ◌++◌, ℕ, zero, suc, ◌<◌, ◌≤◌, Bool, true, false, ◌&&◌, ◌||◌, Option, None, Some, IfSome, drop, length, refl, ap, sym, subst, ◌∙◌, arith}
 use Rattle.std.proofs.lemmas.Bool.Decides.{nat_tests}
 use Rattle.std.specs.List.{AllByRecursion}
 use Rattle.std.specs.Prelude.{nat_le}
@@ -24,7 +24,7 @@ use Rattle.mb_kinds.specs.declared.faults.Kind.{Kind}
 use Rattle.mb_kinds.specs.declared.faults.Ticket.{Ticket}
 use Rattle.mb_kinds.specs.declared.replies.Reply.{Reply}
 use Rattle.mb_kinds.specs.declared.replies.Reply.TheVariants as reply
-use Rattle.mb_run.specs.Events.{Answers, EntersInSight, FaultsWith, FinishesInSight, FlushesWith, GathersInSight, IsCallOf, IsUnplain, KeepsLog, LeavesWith, LogsInTime, Quits, SealsIf, entry_of, sealed}
+use Rattle.mb_run.specs.Events.{Answers, EntersInSight, FaultsWith, FinishesInSight, FlushesWith, GathersInSight, IsCallOf, IsUnplain, LeavesWith, LogsInTime, Quits, SealsIf, entry_of, sealed}
 use Rattle.mb_run.specs.Recovering.{StepEndsByDevice, RunsForFlight, Steps, StrikesBy, Waits}
 use Rattle.mb_run.specs.Seals.{AreInTime, is_due, is_plain, is_sync, is_synced}
 use Rattle.mb_run.specs.Sights.{SeatHasTicket, Limits, Sight, flight_of}
@@ -59,15 +59,15 @@ module _ (old new : Sight) (config : new.config ≡ old.config) (was : InTime ol
   threshold : new.config.threshold ≡ old.config.threshold
   threshold = ap (λ (limits : Limits). limits.threshold) config
 
-  module _ (log : KeepsLog old new) where
+  module _ (ops : new.ops ≤ old.ops) (sealed_at : new.sealed_at ≡ old.sealed_at) where
     few : new.ops < new.config.threshold
-    few = let same = threshold in let fewer = log.ops in let low = was.few in omega (arith, same, fewer, low)
+    few = let same = threshold in let fewer = ops in let low = was.few in omega (arith, same, fewer, low)
 
     synced_at : (history : List Entry) → new.history ≡ history → AllByRecursion (λ (entry : Entry). is_synced entry ≡ false) (drop old.sealed_at history)
         → AllByRecursion (λ (entry : Entry). is_synced entry ≡ false) (drop new.sealed_at new.history)
     synced_at history is all =
         subst (λ (h : List Entry). AllByRecursion (λ (entry : Entry). is_synced entry ≡ false) (drop new.sealed_at h)) (sym is)
-        (subst (λ n. AllByRecursion (λ (entry : Entry). is_synced entry ≡ false) (drop n history)) (sym log.sealed_at) all)
+        (subst (λ n. AllByRecursion (λ (entry : Entry). is_synced entry ≡ false) (drop n history)) (sym sealed_at) all)
 
     -- no entry more
     pub kept_time : new.history ≡ old.history → InTime new
@@ -103,23 +103,23 @@ unplain (reply.Refused error) is = absurd is
 
 answered_time : (caller : ℕ) (flight : Flight) (answer : Reply) (old new : Sight) → IsUnplain answer → Answers caller flight answer old new → InTime old → InTime new
 answered_time caller flight answer old new is answers was =
-    entry_time old new answers.stays.config was answers.log (entry_of caller flight None answer) answers.history
+    entry_time old new answers.stays.config was answers.log.ops answers.log.sealed_at (entry_of caller flight None answer) answers.history
     (ap (λ b. is_sync flight.call && b) (unplain answer is) ∙ and_false (is_sync flight.call))
 
 -- ---- the events
 
 pub enters_time : (old new : Sight) (caller : ℕ) (call : Call) (answer : Enter) → EntersInSight old new caller call answer → InTime old → InTime new
-enters_time old new caller call (enter.Done answer) (inl left) was = kept_time old new left.1.stays.config was left.1.log left.1.counts.history
+enters_time old new caller call (enter.Done answer) (inl left) was = kept_time old new left.1.stays.config was left.1.log.ops left.1.log.sealed_at left.1.counts.history
 enters_time old new caller call (enter.Done answer) (inr ended) was = answered_time caller (flight_of old caller call (old.seats caller).flight) answer old new ended.1 ended.2 was
-enters_time old new caller call enter.Shut shut was = kept_time old new shut.2.stays.config was shut.2.log shut.2.history
-enters_time old new caller call (enter.Inside ticket) inside was = kept_time old new inside.begins.stays.config was inside.begins.log inside.begins.history
+enters_time old new caller call enter.Shut shut was = kept_time old new shut.2.stays.config was shut.2.log.ops shut.2.log.sealed_at shut.2.history
+enters_time old new caller call (enter.Inside ticket) inside was = kept_time old new inside.begins.stays.config was inside.begins.log.ops inside.begins.log.sealed_at inside.begins.history
 enters_time old new caller call enter.NoMemory none was = same_time old new none.0 was
 
 pub gathers_time : (old new : Sight) (ticket : Ticket) (need : Need) (before now : PagesState) (answer : Gathered) → SeatHasTicket false (old.seats ticket.caller) ticket → GathersInSight old new ticket need before now answer → InTime old → InTime new
 gathers_time old new ticket need before now (gathered.Skip mine present) has gathers was = same_time old new gathers.1 was
 gathers_time old new ticket need before now gathered.Device has gathers was = answered_time ticket.caller has.flight reply.Device old new tt (gathers.1 has.flight has.here) was
 gathers_time old new ticket need before now gathered.NoMemory has gathers was = same_time old new gathers.0 was
-gathers_time old new ticket need before now gathered.Done has gathers was = kept_time old new gathers.1.stays.config was gathers.1.log gathers.1.counts.history
+gathers_time old new ticket need before now gathered.Done has gathers was = kept_time old new gathers.1.stays.config was gathers.1.log.ops gathers.1.log.sealed_at gathers.1.counts.history
 
 or_false : (a b : Bool) → (a || b) ≡ false → (a ≡ false) × (b ≡ false)
 or_false true b is = absurd (let wrong : true ≡ false = is in cc)
@@ -154,30 +154,30 @@ logged_time old new ticket call of in_time was = sealed_if (is_due in_time.logge
 pub finishes_time : (old new : Sight) (ticket : Ticket) (pages : PagesState) (call : Call) (answer : Finished) → IsCallOf (old.seats ticket.caller) call → FinishesInSight old new ticket pages call answer → InTime old → InTime new
 finishes_time old new ticket pages call (finished.Skip mine present) of finishes was = same_time old new finishes.1 was
 finishes_time old new ticket pages call (finished.Busy holder) of finishes was = same_time old new finishes.3 was
-finishes_time old new ticket pages call (finished.Stale block) of finishes was = kept_time old new finishes.1.stays.config was finishes.1.log finishes.1.counts.history
+finishes_time old new ticket pages call (finished.Stale block) of finishes was = kept_time old new finishes.1.stays.config was finishes.1.ops finishes.1.sealed_at finishes.1.counts.history
 finishes_time old new ticket pages call finished.NoMemory of finishes was = same_time old new finishes.1 was
 finishes_time old new ticket pages call finished.Logged of finishes was = logged_time old new ticket call of finishes.2 was
 
 pub leaves_time : (old new : Sight) (ticket : Ticket) (answer : Left) → LeavesWith old new ticket answer → InTime old → InTime new
 leaves_time old new ticket (left.Skip mine present) leaves was = same_time old new leaves.1 was
-leaves_time old new ticket (left.Left answer) leaves was = kept_time old new leaves.1.1.stays.config was leaves.1.1.log leaves.1.1.counts.history
+leaves_time old new ticket (left.Left answer) leaves was = kept_time old new leaves.1.1.stays.config was leaves.1.1.log.ops leaves.1.1.log.sealed_at leaves.1.1.counts.history
 
 pub faults_time : (old new : Sight) (ticket : Ticket) (kind : Kind) (nth : ℕ) (answer : Fault) → FaultsWith old new ticket kind nth answer → InTime old → InTime new
 faults_time old new ticket kind nth (fault.Skip mine present) faults was = same_time old new faults.1 was
-faults_time old new ticket kind nth (fault.Struck number) faults was = kept_time old new faults.1.config was faults.1.log faults.1.counts.history
+faults_time old new ticket kind nth (fault.Struck number) faults was = kept_time old new faults.1.config was faults.1.log.ops faults.1.log.sealed_at faults.1.counts.history
 
 pub quits_time : (caller : ℕ) (old new : Sight) → Quits caller old new → InTime old → InTime new
-quits_time caller old new quits was = kept_time old new quits.stays.config was quits.log quits.history
+quits_time caller old new quits was = kept_time old new quits.stays.config was quits.log.ops quits.log.sealed_at quits.history
 
 pub flushes_time : (old new : Sight) (answer : Flushed) → FlushesWith old new answer → InTime old → InTime new
 flushes_time old new flushed.One flushes was = subst InTime (sym flushes.1) (record { few = was.few; synced = was.synced })
 flushes_time old new flushed.Clean flushes was = same_time old new flushes.1 was
-flushes_time old new flushed.Device flushes was = same_time old new flushes was
+flushes_time old new flushed.Device flushes was = same_time old new flushes.1 was
 
 -- ---- a step of a recovery
 
 waits_time : (old new : Sight) → Waits old new → InTime old → InTime new
-waits_time old new waits was = kept_time old new waits.config was waits.log waits.counts.history
+waits_time old new waits was = kept_time old new waits.config was waits.log.ops waits.log.sealed_at waits.counts.history
 
 strikes_time : (test : Option (Crossing → Bool)) (before now : Option Crossings) (old new : Sight) → StrikesBy test before now old new → InTime old → InTime new
 strikes_time test (Some before) (Some now) old new strikes was = waits_time old new strikes.waits was

@@ -1,10 +1,10 @@
 -- Where each caller's calls stand in a job's list.
-use Rattle.std.proofs.Common.{◌≡◌, List, [], ◌∷◌, ◌++◌, ℕ, zero, suc, ◌+◌, ◌<◌, ◌≤◌, Bool, true, false, cond, length, take, map, filter, nat_eq, inl, inr, refl, ap, sym, subst, ◌∙◌, arith, Option, None, Some, option_map, slice_get, slice_set, get_or, get_or-set_same, get_or-set_other}
+use Rattle.std.proofs.Common.{◌≡◌, List, [], ◌∷◌, ◌++◌, ℕ, ◌+◌, ◌<◌, ◌≤◌, Bool, true, false, cond, length, take, map, filter, nat_eq, inl, inr, refl, ap, sym, subst, ◌∙◌, arith, Option, None, Some, option_map, slice_get, slice_set, get_or, get_or-set_same, get_or-set_other}
 use Rattle.std.proofs.Math.ListN.{length-set}
 use Rattle.std.proofs.lemmas.Bool.{eq-eqb}
 use Rattle.std.proofs.lemmas.List.{append-nil, map-append, take_all}
 use Rattle.std.proofs.lemmas.List.Elements.{filter-append}
-use Rattle.std.proofs.lemmas.Option.{slice_get-map, slice_get-get_or, slice_get_past, slice_get_within, get_or_from_slice_get}
+use Rattle.std.proofs.lemmas.Option.{slice_get-map, slice_get-get_or, slice_get_within, get_or_from_slice_get}
 use Rattle.std.specs.List.{AllByRecursion}
 use Rattle.mb_kinds.specs.declared.calls.Call.{Call}
 use Rattle.mb_jobs.specs.declared.jobs.JobCall.{JobCall}
@@ -39,9 +39,6 @@ module _ (calls : List JobCall) (places : List (List ℕ)) (caller : ℕ) (place
 
     pub found_some : (at : ℕ) → Some at ≡ slice_get mine place → (o : Option JobCall) → o ≡ slice_get calls at → option_map (λ (m : JobCall). m.call) o ≡ slice_get (calls_of calls caller) place
     found_some at some o it = sym (found ∙ ap (λ o. flat (option_map (call_at calls) o)) (sym some) ∙ ap (λ x. option_map (λ (m : JobCall). m.call) x) (sym it))
-
-  pub found_past : length places ≤ caller → None ≡ slice_get (calls_of calls caller) place
-  found_past past = sym (ap (λ (made : List Call). slice_get made place) (index.past caller (omega (arith, past, index.leads.eight))) ∙ slice_get_past [] place (omega arith))
 
 -- ---- one call more
 
@@ -87,19 +84,6 @@ leads_more calls index place made here same named places mine is now pushed lead
     let low : made.caller < length places = omega (arith, leads.eight, all_callers calls 8 index made named here) in
     subst (λ (ps : List ℕ). PlacesLeadTo calls (index + 1) (slice_set places made.caller ps)) (ap (λ n. mine ++ n ∷ []) (sym same) ∙ ap (λ (m : List ℕ). m ++ place ∷ []) is ∙ sym pushed)
     (leads_next calls index made here places mine (some_here places made.caller mine low is) leads)
-
-pub leads_none : (calls : List JobCall) → PlacesLeadTo calls 0 ([] ∷ [] ∷ [] ∷ [] ∷ [] ∷ [] ∷ [] ∷ [] ∷ [])
-leads_none calls = record { eight = refl; each = λ caller mine is. ap (map (call_at calls)) (none caller mine is) } where
-  none : (caller : ℕ) (mine : List ℕ) → slice_get ([] ∷ [] ∷ [] ∷ [] ∷ [] ∷ [] ∷ [] ∷ [] ∷ []) caller ≡ Some mine → mine ≡ []
-  none zero mine same = cc
-  none (suc zero) mine same = cc
-  none (suc (suc zero)) mine same = cc
-  none (suc (suc (suc zero))) mine same = cc
-  none (suc (suc (suc (suc zero)))) mine same = cc
-  none (suc (suc (suc (suc (suc zero))))) mine same = cc
-  none (suc (suc (suc (suc (suc (suc zero)))))) mine same = cc
-  none (suc (suc (suc (suc (suc (suc (suc zero))))))) mine same = cc
-  none (suc (suc (suc (suc (suc (suc (suc (suc caller)))))))) mine same = cc
 
 -- no other caller has a call
 none_past : (calls : List JobCall) (caller : ℕ) → 8 ≤ caller → AllByRecursion (λ (m : JobCall). m.caller < 8) calls → calls_of calls caller ≡ []

@@ -12,7 +12,7 @@ use Rattle.mb_kinds.specs.declared.replies.Reply.{Reply}
 use Rattle.mb_kinds.specs.declared.replies.Reply.TheVariants as reply
 use Rattle.mb_core_spec.specs.Copies.{PagesState, no_pages}
 use Rattle.mb_run.specs.Pages.{has}
-use Rattle.mb_run.specs.Events.{Answers, FinishesInSight, Gains, GathersInSight, IsStale, LeavesWith, EndsFlight, Logs, entry_of}
+use Rattle.mb_run.specs.Events.{Answers, FinishesInSight, Gains, GathersInSight, IsStale, LeavesWith, EndsFlight, entry_of}
 use Rattle.mb_run.specs.Served.{Asks, Did, StepComesTo, AsksAtEntry, IsAtBy, IsHeld, IsStanding, MayStep, advanced, backed, busy, calls_in, calls_of, counted, missing, rank}
 use Rattle.mb_run.specs.Sights.{SeatHasTicket, IsOrderlyInSight, Limits, Sight, one_if, recovers}
 use Rattle.mb_run.specs.declared.runner.At.{At}
@@ -27,7 +27,7 @@ use Rattle.mb_run.specs.declared.progress.Went.{Went}
 use Rattle.mb_run.specs.declared.progress.Went.TheVariants as went
 use Rattle.mb_run.specs.declared.runner.Runner.{Runner}
 use Rattle.mb_run.proofs.Acting.{acts_same, acts_stays, acts_entry}
-use Rattle.mb_run.proofs.Balance.{balanced_logs, balanced_same, marked_here}
+use Rattle.mb_run.proofs.Balance.{LogsCall, balanced_logs, balanced_same, marked_here}
 use Rattle.mb_run.proofs.Firsts.{counted_from, firsts_logs, firsts_stays}
 use Rattle.mb_run.proofs.Lines.{line_logs, line_same}
 use Rattle.mb_run.proofs.Lists.{calls_push}
@@ -37,7 +37,8 @@ use Rattle.mb_run.proofs.Entered.{did_answer, did_leave}
 use Rattle.mb_run.proofs.Openings.{line_open}
 use Rattle.mb_run.proofs.Struck.{IsIn, Stands, did_asked, did_back, may_counted}
 use Rattle.mb_run.proofs.Trails.{trail_marks, trail_put}
-use Rattle.mb_run.proofs.Undue.{logs_undue, still_undue}
+use Rattle.mb_run.proofs.Timely.{timely_gains, timely_refl, timely_stale}
+use Rattle.mb_run.specs.Timely.{IsTimely}
 
 -- ---- the hook let the call go on
 
@@ -103,7 +104,7 @@ module _ (calls : List JobCall) (test : Option (Crossing → Bool)) (old : Sight
     -- nothing changed, for want of memory
     pub did_nothing : Did calls test old old runner runner went.NoMemory
     did_nothing = record {
-      nears = record { same = refl; counts = may.counts; acts = acts_same runner.crossings.caller old; lined = λ line. line; balanced = λ even. even; served = may.served; sound = may.sound; seals = omega arith };
+      nears = record { same = refl; counts = may.counts; acts = acts_same runner.crossings.caller old; lined = λ line. line; balanced = λ even. even; served = may.served; sound = may.sound; seals = timely_refl old };
       goes = (refl, marked_here runner.answered (old.seats runner.crossings.caller).flight stood.0.flight stood.0.here stood.0.answered may.served.marked);
     }
 
@@ -143,7 +144,7 @@ module _ (calls : List JobCall) (test : Option (Crossing → Bool)) (old : Sight
               counted = rw gains.stays.records may.served.counted;
             };
             sound = rw gains.stays.records may.sound;
-            seals = still_undue old new gains.stays.config gains.log gains.counts.history;
+            seals = timely_gains runner.crossings.caller old new need runner.pages now gains;
           };
           goes = (refl, omega (arith, same.0, same.1, same.2, floor, is, rank_was present, fewer));
         }
@@ -166,7 +167,7 @@ module _ (calls : List JobCall) (test : Option (Crossing → Bool)) (old : Sight
         balanced = λ even. even;
         served = record { caller_is = refl; ordinal = may.served.ordinal; calls = may.served.calls; marked = may.served.marked; stands = may.served.stands; counted = may.served.counted };
         sound = may.sound;
-        seals = omega arith;
+        seals = timely_refl old;
       };
       goes = (refl, omega arith, refl, finishes.1, (λ same. finishes.2 (same ∙ sym own_ticket)), stood.1.runs finishes.0);
     })
@@ -186,7 +187,7 @@ module _ (calls : List JobCall) (test : Option (Crossing → Bool)) (old : Sight
           nears = record {
             same = refl;
             counts = may.counts;
-            acts = acts_stays runner.crossings.caller old new stale.stays stale.counts.history (elim stale.floor [ inl none ↦ inl none | inr mine ↦ inr (inl mine) ]) (firsts_stays old new runner.crossings.caller stale.stays.seats stale.mine stale.counts.history stale.counts.begun) (trail_marks old.trail new.trail stale.log.trail);
+            acts = acts_stays runner.crossings.caller old new stale.stays stale.counts.history (elim stale.floor [ inl none ↦ inl none | inr mine ↦ inr (inl mine) ]) (firsts_stays old new runner.crossings.caller stale.stays.seats stale.mine stale.counts.history stale.counts.begun) (trail_put old.trail (step.Stale stale.ticket stale.block ∷ []) new.trail stale.trail);
             lined = line_same runner.crossings.caller old new stale.stays.config stale.counts stale.mine;
             balanced = balanced_same old new stale.counts;
             served = record {
@@ -207,14 +208,14 @@ module _ (calls : List JobCall) (test : Option (Crossing → Bool)) (old : Sight
               counted = rw stale.stays.records may.served.counted;
             };
             sound = rw stale.stays.records may.sound;
-            seals = still_undue old new stale.stays.config stale.log stale.counts.history;
+            seals = timely_stale runner.crossings.caller old new runner.pages ticket stale stood.0 present few;
           };
           goes = (refl, omega (arith, same.0, same.1, same.2, free, is, rank_was present, few, missing_most (has no_pages) 262144));
         }
 
-    pub did_log : (new : Sight) → ticket.incarnation ≡ old.incarnation → Logs ticket.caller old new ticket → Did calls test old new runner (record runner { at = at.Logged ticket; answered = true }) went.On
-    did_log new present of =
-        let logs = subst (λ n. Logs n old new ticket) own_ticket of in
+    pub did_log : (new : Sight) → ticket.incarnation ≡ old.incarnation → LogsCall ticket.caller old new → IsTimely 0 old new → Did calls test old new runner (record runner { at = at.Logged ticket; answered = true }) went.On
+    did_log new present of timely =
+        let logs = subst (λ n. LogsCall n old new) own_ticket of in
         let same = same_work new logs.stays.config logs.stays.records logs.stays.stage in
         let free : busy runner.crossings.caller new.floor ≡ 0 = ap (busy runner.crossings.caller) logs.floor in
         let after : ticket.incarnation ≡ new.incarnation = present ∙ sym logs.stays.incarnation in
@@ -227,8 +228,8 @@ module _ (calls : List JobCall) (test : Option (Crossing → Bool)) (old : Sight
           nears = record {
             same = refl;
             counts = may.counts;
-            acts = acts_entry runner.crossings.caller old new entry logs.stays refl logs.history (inl logs.floor) (firsts_logs old new runner.crossings.caller ticket may.within logs (counted_from logs.flight.ordinal runner.done here.1)) (trail_put old.trail (step.Logged ticket ∷ []) new.trail logs.trail);
-            balanced = balanced_logs runner.crossings.caller old new ticket logs;
+            acts = acts_entry runner.crossings.caller old new entry logs.stays refl logs.history (inl logs.floor) (firsts_logs old new runner.crossings.caller may.within logs (counted_from logs.flight.ordinal runner.done here.1)) logs.trail;
+            balanced = balanced_logs runner.crossings.caller old new logs;
             lined = λ line. rw logs.mine (line_logs runner.crossings.caller logs.flight old new entry logs.was lacks logs.stays.config logs.begun refl logs.history line);
             served = record {
               caller_is = refl;
@@ -251,7 +252,7 @@ module _ (calls : List JobCall) (test : Option (Crossing → Bool)) (old : Sight
               counted = rw logs.stays.records may.served.counted;
             };
             sound = rw logs.stays.records may.sound;
-            seals = logs_undue runner.crossings.caller old new ticket logs;
+            seals = timely;
           };
           goes = (refl, omega (arith, same.0, same.1, same.2, free, is, rank_was present));
         }
@@ -293,7 +294,7 @@ pub in_on : (calls : List JobCall) (test : Option (Crossing → Bool)) (old mid 
 in_on calls test old mid before m call ticket kind may asks =
     let counted_may = may_counted calls test old before call may kind in
     subst (λ (s : Sight). AsksAtEntry calls test old s before m went.On) (sym asks.0) (subst (λ (r : Runner). AsksAtEntry calls test old old before r went.On) (sym asks.1) (record {
-      nears = record { same = refl; counts = counted_may.counts; acts = acts_same before.crossings.caller old; lined = λ line. line; balanced = λ even. even; served = counted_may.served; sound = may.sound; seals = omega arith };
+      nears = record { same = refl; counts = counted_may.counts; acts = acts_same before.crossings.caller old; lined = λ line. line; balanced = λ even. even; served = counted_may.served; sound = may.sound; seals = timely_refl old };
       done = refl;
       goes = inl refl;
       less = omega arith;

@@ -9,7 +9,10 @@ pub mod Trails
 pub mod Acting
 pub mod InTime
 pub mod Sealings
+pub mod Stales
+pub mod Omitted
 pub mod Undue
+pub mod Timely
 pub mod Places
 pub mod Missing
 pub mod Balance

@@ -18,10 +18,6 @@ at_begins list made done sight caller call None flight at next ordinal called an
 at_begins list made done sight caller call (Some f) flight at next ordinal called answered =
     (ordinal ∙ at.1, ordinal ∙ at.1, at.2 ∙ ap Some (sym called), rw answered at.3)
 
--- what is the call of a flight
-pub at_call : (list made : List Call) (done begun : ℕ) (flight : Flight) → IsAtBy list made done begun (Some flight) → slice_get list done ≡ Some flight.call
-at_call list made done begun flight at = at.2
-
 -- a flight without an entry gets one
 pub at_logs : (list made : List Call) (done begun : ℕ) (flight : Flight) → flight.answered ≡ false → IsAtBy list made done begun (Some flight)
     → IsAtBy list (made ++ flight.call ∷ []) done flight.ordinal (Some (record flight { answered = true }))

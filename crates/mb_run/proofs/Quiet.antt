@@ -1,5 +1,5 @@
 -- What leaves all calls as they are.
-use Rattle.std.proofs.Common.{◌≡◌, List, [], ◌∷◌, ℕ, ◌+◌, ◌<◌, ◌≤◌, Bool, true, inl, inr, refl, ap, sym, subst, ◌∙◌, arith, Option, None, Some, length}
+use Rattle.std.proofs.Common.{◌≡◌, List, [], ◌∷◌, ℕ, ◌<◌, Bool, true, inl, inr, refl, ap, sym, subst, ◌∙◌, arith, Option, None, Some, length}
 use Rattle.std.proofs.lemmas.List.{append-nil}
 use Rattle.std.proofs.lemmas.Option.{slice_get_within}
 use Rattle.mb_cache.specs.declared.answers.Flushed.{Flushed}
@@ -13,7 +13,8 @@ use Rattle.mb_run.specs.Events.{FlushesWith, sealed}
 use Rattle.mb_run.specs.Orders.{IsQuiet, IsWhole}
 use Rattle.mb_run.specs.Recovering.{GoOn, Steps, Waits}
 use Rattle.mb_run.specs.Served.{ActsAlone, AllUnderWay, calls_of}
-use Rattle.mb_run.specs.Sights.{IsOrderlyInSight, Limits, Sight, recovers, undue_in}
+use Rattle.mb_run.specs.Sights.{IsOrderlyInSight, Limits, Sight, recovers}
+use Rattle.mb_run.specs.Timely.{IsTimely}
 use Rattle.mb_run.specs.declared.answers.Stepped.{Stepped}
 use Rattle.mb_run.specs.declared.answers.Stepped.TheVariants as stepped
 use Rattle.mb_run.specs.declared.runner.Runner.{Runner}
@@ -44,7 +45,7 @@ quiet_acts caller old new quiet = record {
   trail = quiet.trail;
 }
 
-pub quiet_whole : (calls : List JobCall) (test : Option (Crossing → Bool)) (asked : ℕ) (old new : Sight) (runners : List Runner) → AllUnderWay calls test old runners → IsQuiet old new → undue_in new ≤ undue_in old + asked → IsOrderlyInSight new → IsWhole calls test asked old new runners runners
+pub quiet_whole : (calls : List JobCall) (test : Option (Crossing → Bool)) (asked : ℕ) (old new : Sight) (runners : List Runner) → AllUnderWay calls test old runners → IsQuiet old new → IsTimely asked old new → IsOrderlyInSight new → IsWhole calls test asked old new runners runners
 quiet_whole calls test asked old new runners underway quiet seals right = record {
   underway = record {
     served = λ caller runner here. other_served (calls_of calls caller) (length runners) caller old new runner
@@ -107,7 +108,7 @@ quiet_flush old new flushed.One flushes = subst (IsQuiet old) (sym flushes.1) (r
   stales = λ running caller. refl;
 })
 quiet_flush old new flushed.Clean flushes = quiet_same old new flushes.1
-quiet_flush old new flushed.Device flushes = quiet_same old new flushes
+quiet_flush old new flushed.Device flushes = quiet_same old new flushes.1
 
 quiet_waits : (old new : Sight) → Waits old new → new.records ≡ old.records → recovers old.stage ≡ true → IsQuiet old new
 quiet_waits old new waits records recovered = record {

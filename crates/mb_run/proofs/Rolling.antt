@@ -33,7 +33,7 @@ use Rattle.mb_run.proofs.Firsts.{firsts_still}
 use Rattle.mb_run.proofs.Lists.{all_map, all_both}
 use Rattle.mb_run.proofs.Struck.{one_most, rank_old}
 use Rattle.mb_run.proofs.Trails.{trail_marks}
-use Rattle.mb_run.proofs.Undue.{waits_undue}
+use Rattle.mb_run.proofs.Timely.{timely_refl, timely_waits}
 
 pub not_running : (s : Sight) → recovers s.stage ≡ true → s.stage ≡ stage.Running → ⊥
 not_running s recovered runs = let stopped : recovers s.stage ≡ false = ap recovers runs in let both : true ≡ false = sym recovered ∙ stopped in cc
@@ -109,7 +109,7 @@ module _ (calls : List JobCall) (test : Option (Crossing → Bool)) (old : Sight
     balanced = balanced_same old new rolls.waits.counts;
     served = waited new crossings on rolls.waits (rw rolls.records (counted_on runner.crossings crossings old.records on may.served.counted));
     sound = rw rolls.records may.sound;
-    seals = waits_undue old new rolls.waits;
+    seals = timely_waits old new rolls.waits rolls.recovered;
   }
 
   -- the hook's fault in a recovery
@@ -123,7 +123,7 @@ module _ (calls : List JobCall) (test : Option (Crossing → Bool)) (old : Sight
     served = waited new crossings on strikes.waits (subst (AllByRecursion (IsCounted crossings)) (sym strikes.records)
         (counted_push test runner.crossings crossings old.records strikes.fault on strikes.taken may.served.counted));
     sound = subst (AreSound test) (sym strikes.records) (sound_push test runner.crossings crossings old.records strikes.fault strikes.taken may.served.counted may.sound);
-    seals = waits_undue old new strikes.waits;
+    seals = timely_waits old new strikes.waits strikes.recovered;
   }
 
   ranks : (new : Sight) → Waits old new → rank new.incarnation (new.stales runner.crossings.caller) runner.pages runner.at ≡ rank old.incarnation (old.stales runner.crossings.caller) runner.pages runner.at
@@ -194,7 +194,7 @@ module _ (calls : List JobCall) (test : Option (Crossing → Bool)) (old : Sight
           balanced = balanced_same old new waits.counts;
           served = waited new crossings on waits (rw records (counted_on runner.crossings crossings old.records on may.served.counted));
           sound = rw records may.sound;
-          seals = waits_undue old new waits;
+          seals = timely_waits old new waits recovered;
         };
         goes = (refl, refl, (omega (arith, same, limits new waits, now, was, busy_less new waits, ranks new waits)));
       }
@@ -297,9 +297,6 @@ module _ (calls : List JobCall) (test : Option (Crossing → Bool)) (old : Sight
 
   pub rolled_nothing : (new : Sight) → new ≡ old → Rolled calls test old new runner runner went.NoMemory
   rolled_nothing new same = subst (λ (s : Sight). Rolled calls test old s runner runner went.NoMemory) (sym same) (record {
-    nears = record { same = refl; counts = may.counts; acts = acts_same runner.crossings.caller old; lined = λ line. line; balanced = λ even. even; served = may.served; sound = may.sound; seals = omega arith };
+    nears = record { same = refl; counts = may.counts; acts = acts_same runner.crossings.caller old; lined = λ line. line; balanced = λ even. even; served = may.served; sound = may.sound; seals = timely_refl old };
     goes = (refl, marked_here runner.answered (old.seats runner.crossings.caller).flight waiting.0 waiting.1 waiting.2 may.served.marked);
   })
-
-pub never_idle : (s : Sight) → recovers s.stage ≡ true → recovers s.stage ≡ false → ⊥
-never_idle s one other = let both : true ≡ false = sym one ∙ other in cc

@@ -25,6 +25,7 @@ no_other same = cc
 other_next : (threshold : ℕ) (history : List Entry) (was : Sealing) (one : Step) → is_other one ≡ true → sealing_next threshold history was one ≡ record was { due = false }
 other_next threshold history was (step.Logged ticket) other = absurd (no_other other)
 other_next threshold history was (step.Sealed count) other = absurd (no_other other)
+other_next threshold history was (step.Stale ticket block) other = absurd (no_other other)
 other_next threshold history was _ other = refl
 
 others_after : (threshold : ℕ) (history : List Entry) (was : Sealing) (steps : List Step) → AllByRecursion (λ (one : Step). is_other one ≡ true) steps
@@ -92,6 +93,14 @@ module _ (threshold : ℕ) (history more : List Entry) (trail : List Step) where
       let rest = (others_after threshold (history ++ more) (sealing_after threshold (history ++ more) unsealed trail) marks.steps marks.others).1 in
       let all = ap (λ (s : Sealing). s.undue) (marked now marks) in
       omega (arith, low, rest, all)
+
+  -- a call is told that a copy is stale
+  pub stale_undue : (ticket : Ticket) (block : ℕ) → undue threshold (history ++ more) (trail ++ step.Stale ticket block ∷ []) ≤ undue threshold history trail
+  unfolding undue
+  stale_undue ticket block =
+      let low = grown.undue in
+      let all = ap (λ (s : Sealing). s.undue) (after_both threshold (history ++ more) unsealed trail (step.Stale ticket block ∷ [])) in
+      omega (arith, low, all)
 
   -- a call is logged
   module _ (ticket : Ticket) where

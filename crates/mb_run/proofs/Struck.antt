@@ -23,7 +23,7 @@ use Rattle.mb_run.proofs.Balance.{balanced_same}
 use Rattle.mb_run.proofs.Lines.{line_same}
 use Rattle.mb_run.proofs.Lists.{neq}
 use Rattle.mb_run.proofs.Missing.{missing_most}
-use Rattle.mb_run.proofs.Undue.{still_undue}
+use Rattle.mb_run.proofs.Timely.{timely_refl, timely_strikes}
 
 -- ---- numbers
 
@@ -107,7 +107,7 @@ module _ (calls : List JobCall) (test : Option (Crossing → Bool)) (old : Sight
       counted = (may_counted kind).served.counted;
     };
     sound = may.sound;
-    seals = omega arith;
+    seals = timely_refl old;
   }
 
   pub back_same : (ticket : Ticket) → Stands old runner.crossings.caller runner ticket → ticket.incarnation ≢ old.incarnation → Nears calls test old old runner (backed runner)
@@ -126,7 +126,7 @@ module _ (calls : List JobCall) (test : Option (Crossing → Bool)) (old : Sight
       counted = may.served.counted;
     };
     sound = may.sound;
-    seals = omega arith;
+    seals = timely_refl old;
   }
 
   pub back_less : (ticket : Ticket) → Stands old runner.crossings.caller runner ticket → ticket.incarnation ≢ old.incarnation → work old runner.crossings.caller (backed runner) < work old runner.crossings.caller runner
@@ -161,7 +161,7 @@ module _ (calls : List JobCall) (test : Option (Crossing → Bool)) (old : Sight
               (counted_push test runner.crossings (counted runner.crossings kind) old.records fault (counted_goes runner.crossings kind may.counts) taken may.served.counted);
         };
         sound = subst (AreSound test) (sym more) (sound_push test runner.crossings (counted runner.crossings kind) old.records fault taken may.served.counted may.sound);
-        seals = still_undue old new strikes.config strikes.log strikes.counts.history;
+        seals = timely_strikes old new ticket kind (next_nth runner.crossings.counts kind) strikes;
       }
 
   pub struck_less : (new : Sight) (ticket : Ticket) (kind : Kind) (nth : ℕ) (now : Runner) → IsOrderlyInSight new → StrikesCall old new ticket kind nth → work new runner.crossings.caller now < work old runner.crossings.caller runner

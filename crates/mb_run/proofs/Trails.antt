@@ -9,9 +9,6 @@ use Rattle.mb_run.specs.Sights.{Sight}
 pub trail_same : (trail : List Step) → TrailGoesOn trail trail
 trail_same trail = record { steps = []; whole = sym (append-nil trail) }
 
-pub trail_is : (before now : List Step) → now ≡ before → TrailGoesOn before now
-trail_is before now same = record { steps = []; whole = same ∙ sym (append-nil before) }
-
 pub trail_then : (a b d : List Step) → TrailGoesOn a b → TrailGoesOn b d → TrailGoesOn a d
 trail_then a b d one two = record { steps = one.steps ++ two.steps; whole = two.whole ∙ ap (λ steps. steps ++ two.steps) one.whole ∙ append_assoc a one.steps two.steps }
 

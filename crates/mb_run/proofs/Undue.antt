@@ -26,7 +26,7 @@ use Rattle.mb_kinds.specs.declared.faults.Kind.{Kind}
 use Rattle.mb_kinds.specs.declared.faults.Ticket.{Ticket}
 use Rattle.mb_kinds.specs.declared.replies.Reply.{Reply}
 use Rattle.mb_kinds.specs.declared.replies.Reply.TheVariants as reply
-use Rattle.mb_run.specs.Events.{Answers, EntersInSight, FaultsWith, FinishesInSight, FlushesWith, GathersInSight, IsCallOf, KeepsLog, LeavesWith, Logs, LogsInTime, Quits, SealsIf, entry_of, sealed}
+use Rattle.mb_run.specs.Events.{Answers, EntersInSight, FaultsWith, FinishesInSight, FlushesWith, GathersInSight, IsCallOf, IsStale, KeepsLog, LeavesWith, Logs, LogsInTime, Quits, SealsIf, entry_of, sealed}
 use Rattle.mb_run.specs.Recovering.{StepEndsByDevice, RunsForFlight, Steps, StrikesBy, Waits}
 use Rattle.mb_run.specs.Seals.{is_due, is_sync, is_sync_of, logged_since, undue}
 use Rattle.mb_run.specs.Sights.{SeatHasTicket, Limits, Sight, flight_of, since_in, undue_in}
@@ -34,7 +34,7 @@ use Rattle.mb_run.specs.declared.answers.Enter.{Enter}
 use Rattle.mb_run.specs.declared.answers.Enter.TheVariants as enter
 use Rattle.mb_run.specs.declared.answers.Stepped.{Stepped}
 use Rattle.mb_run.specs.declared.answers.Stepped.TheVariants as stepped
-use Rattle.mb_run.proofs.Sealings.{due_by, due_undue, logged_undue, marks_undue, sealed_undue, sync_last}
+use Rattle.mb_run.proofs.Sealings.{due_by, due_undue, logged_undue, marks_undue, sealed_undue, stale_undue, sync_last}
 
 -- ---- what an event does to the trace
 
@@ -61,6 +61,13 @@ module _ (old new : Sight) (config : new.config ≡ old.config) where
 
 pub same_undue : (old new : Sight) → new ≡ old → undue_in new ≤ undue_in old
 same_undue old new same = let is = ap undue_in same in omega (arith, is)
+
+-- a call is told that a copy is stale
+pub stale_undue_in : (caller : ℕ) (old new : Sight) (pages : PagesState) → IsStale caller old new pages → undue_in new ≤ undue_in old
+stale_undue_in caller old new pages stale =
+    let is = undue_is old new stale.stays.config (old.history ++ []) (old.trail ++ step.Stale stale.ticket stale.block ∷ []) (stale.counts.history ∙ sym (append-nil old.history)) stale.trail in
+    let low = stale_undue old.config.threshold old.history [] old.trail stale.ticket stale.block in
+    omega (arith, is, low)
 
 -- a call is logged
 pub logs_undue : (caller : ℕ) (old new : Sight) (ticket : Ticket) → Logs caller old new ticket → undue_in new ≤ undue_in old
@@ -117,7 +124,7 @@ module _ (old new : Sight) (ticket : Ticket) (call : Call) (has : SeatHasTicket 
 
 -- ---- the events
 
-answers_undue : (caller : ℕ) (flight : Flight) (answer : Reply) (old new : Sight) → Answers caller flight answer old new → undue_in new ≤ undue_in old
+pub answers_undue : (caller : ℕ) (flight : Flight) (answer : Reply) (old new : Sight) → Answers caller flight answer old new → undue_in new ≤ undue_in old
 answers_undue caller flight answer old new answers = entry_undue old new answers.stays.config (entry_of caller flight None answer) answers.log answers.history
 
 pub enters_undue : (old new : Sight) (caller : ℕ) (call : Call) (answer : Enter) → EntersInSight old new caller call answer → undue_in new ≤ undue_in old
@@ -137,7 +144,7 @@ pub finishes_undue : (old new : Sight) (ticket : Ticket) (pages : PagesState) (c
     → FinishesInSight old new ticket pages call answer → undue_in new ≤ undue_in old
 finishes_undue old new ticket pages call (finished.Skip mine present) has of covers finishes = same_undue old new finishes.1
 finishes_undue old new ticket pages call (finished.Busy holder) has of covers finishes = same_undue old new finishes.3
-finishes_undue old new ticket pages call (finished.Stale block) has of covers finishes = still_undue old new finishes.1.stays.config finishes.1.log finishes.1.counts.history
+finishes_undue old new ticket pages call (finished.Stale block) has of covers finishes = stale_undue_in ticket.caller old new pages finishes.1
 finishes_undue old new ticket pages call finished.NoMemory has of covers finishes = same_undue old new finishes.1
 finishes_undue old new ticket pages call finished.Logged has of covers finishes = in_time_undue old new ticket call has of covers finishes.2
 
@@ -155,7 +162,7 @@ quits_undue caller old new quits = still_undue old new quits.stays.config quits.
 pub flushes_undue : (old new : Sight) (answer : Flushed) → FlushesWith old new answer → undue_in new ≤ undue_in old
 flushes_undue old new flushed.One flushes = let is = ap undue_in flushes.1 in omega (arith, is)
 flushes_undue old new flushed.Clean flushes = same_undue old new flushes.1
-flushes_undue old new flushed.Device flushes = same_undue old new flushes
+flushes_undue old new flushed.Device flushes = same_undue old new flushes.1
 
 -- ---- a step of a recovery
 

@@ -13,6 +13,7 @@ use Rattle.mb_run.specs.Letters.{AreLetters, letters_of}
 use Rattle.mb_run.specs.Orders.{asked_by}
 use Rattle.mb_run.specs.Runs.{EntersFirst, FirstsRise, HasTakenTested}
 use Rattle.mb_run.specs.Served.{AreSound, AreSoundBy, EntriesAreCalls, calls_in, calls_of, moments_in}
+use Rattle.mb_run.specs.Timely.{IsTimely}
 use Rattle.mb_run.specs.Sights.{AreApart, IsOrderlyInSight, Sight, undue_in}
 use Rattle.mb_core_spec.specs.Copies.{no_pages}
 use Rattle.mb_run.specs.declared.runner.At.TheVariants as at
@@ -89,8 +90,9 @@ pub record IsDriven (job : Job) (test : Option (Crossing → Bool)) (old new : S
   pub enters : old.stage ≡ stage.Running → old.trail ≡ [] → EntersByOrder job.order job.callers job.calls test new
   pub sound : AreSound test new.records
   pub taken : old.stage ≡ stage.Running → TakesByOrder job.order test new
-  -- of the checkpoints no more were taken where none was due than the order asks for
-  pub seals : undue_in new ≤ undue_in old + asked_by job.order
+  -- of the checkpoints no more were taken where none was due than the order asks for; each sync(2) has one right behind; and no
+  -- call is told more than four times that a copy of its is stale
+  pub seals : IsTimely (asked_by job.order) old new
 
 -- the end tells whether the volume failed
 abbrev pub EndsDrive : Stage → DriveEnd → Type 0

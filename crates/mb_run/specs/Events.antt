@@ -153,7 +153,12 @@ pub record IsStale (caller : ℕ) (old new : Sight) (pages : PagesState) : Type 
   pub stays : LeavesOthersAlone caller old new
   pub mine : new.seats caller ≡ old.seats caller
   pub counts : SameCalls old new
-  pub log : KeepsLog old new
+  pub sealed_at : new.sealed_at ≡ old.sealed_at
+  pub ops : new.ops ≤ old.ops
+  pub ticket : Ticket
+  pub block : ℕ
+  pub own : ticket.caller ≡ caller
+  pub trail : new.trail ≡ old.trail ++ step.Stale ticket block ∷ []
   pub was : (old.floor ≡ None) ⊎ (old.floor ≡ Some caller)
   pub floor : (new.floor ≡ None) ⊎ (new.floor ≡ Some caller)
   pub empty : new.copies caller ≡ no_pages
@@ -250,7 +255,7 @@ FaultsWith old new ticket kind nth (fault.Struck number) = (ticket.incarnation �
 abbrev pub FlushesWith : Sight → Sight → Flushed → Type 0
 FlushesWith old new flushed.One = (old.sealed ≡ new.sealed + 1) × (new ≡ record old { sealed = new.sealed })
 FlushesWith old new flushed.Clean = (old.sealed ≡ 0) × (new ≡ old)
-FlushesWith old new flushed.Device = new ≡ old
+FlushesWith old new flushed.Device = (old.sealed ≢ 0) × (new ≡ old)
 
 -- a call in flight without an entry ends and gets none
 pub record Quits (caller : ℕ) (old new : Sight) : Type 0 where

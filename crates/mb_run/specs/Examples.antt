@@ -1,5 +1,5 @@
 -- Worked examples: the definitions of a run, evaluated.
-use Rattle.std.specs.Prelude.{List, [], ◌∷◌, ℕ, ◌+◌, ◌≡◌, true, false, None}
+use Rattle.std.specs.Prelude.{List, [], ◌∷◌, ◌++◌, ℕ, ◌+◌, ◌≡◌, true, false, None}
 use Rattle.mb_core_spec.specs.declared.steps.Step.{Step}
 use Rattle.mb_core_spec.specs.declared.steps.Step.TheVariants as step
 use Rattle.mb_jobs.specs.declared.jobs.JobCall.{JobCall}
@@ -10,7 +10,8 @@ use Rattle.mb_kinds.specs.declared.faults.Kind.TheVariants.{Finish, Gather}
 use Rattle.mb_kinds.specs.declared.faults.Ticket.{Ticket}
 use Rattle.mb_kinds.specs.declared.replies.Reply.TheVariants as reply
 use Rattle.mb_run.specs.Runs.{AreNear, EntersFirst, begun_from, calm_prefix, is_near, is_struck_first, pair_rises}
-use Rattle.mb_run.specs.Seals.{AreInTime, is_due, is_synced, undue}
+use Rattle.mb_run.specs.Seals.{AreInTime, is_due, is_synced, omitted, undue}
+use Rattle.mb_run.specs.Stales.{stales_beyond, stales_since}
 
 -- callers a and b
 abbrev pub letters : List ℕ
@@ -105,3 +106,23 @@ WorkedUndue =
     × (undue 2 two (first ∷ second ∷ step.Struck 1 ∷ step.Sealed 2 ∷ []) ≡ 1)
     × (undue 2 two (first ∷ second ∷ step.Sealed 2 ∷ step.Sealed 2 ∷ []) ≡ 1)
     × (undue 2 (entry 0 1 1 ∷ []) (first ∷ step.Sealed 1 ∷ []) ≡ 0)
+
+-- a sync(2) wants its checkpoint right behind it, and not behind another step; other calls want none
+abbrev pub WorkedOmitted : Type 0
+WorkedOmitted =
+    (omitted (entry 0 1 1 ∷ []) (first ∷ step.Sealed 1 ∷ []) ≡ 0)
+    × (omitted (entry 0 1 1 ∷ []) (first ∷ []) ≡ 1)
+    × (omitted (entry 0 1 1 ∷ []) (first ∷ step.Left (ticket 0 1) ∷ step.Sealed 1 ∷ []) ≡ 1)
+    × (omitted two (first ∷ second ∷ []) ≡ 0)
+
+-- caller 0 enters, and is told four times that a copy is stale
+abbrev pub four : List Step
+four = step.Entered (ticket 0 1) ∷ step.Stale (ticket 0 1) 5 ∷ step.Stale (ticket 0 1) 0 ∷ step.Stale (ticket 0 1) 5 ∷ step.Stale (ticket 0 1) 7 ∷ []
+
+-- a fifth time is one too many for it, and for no other caller; once it entered again it may be told so again
+abbrev pub WorkedStales : Type 0
+WorkedStales =
+    (stales_since 0 four ≡ 4) × (stales_beyond 0 four ≡ 0)
+    × (stales_beyond 0 (four ++ step.Stale (ticket 0 1) 5 ∷ []) ≡ 1)
+    × (stales_beyond 0 (four ++ step.Stale (ticket 1 2) 5 ∷ []) ≡ 0)
+    × (stales_beyond 0 (four ++ step.Entered (record (ticket 0 1) { incarnation = 1 }) ∷ step.Stale (ticket 0 1) 5 ∷ []) ≡ 0)

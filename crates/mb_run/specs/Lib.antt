@@ -1,9 +1,11 @@
 pub mod Pages
 pub mod Seals
+pub mod Stales
 pub mod Sights
 pub mod CoreSight
 pub mod Events
 pub mod Recovering
+pub mod Timely
 pub mod Rising
 pub mod Lengths
 pub mod Firsts

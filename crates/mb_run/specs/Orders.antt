@@ -8,9 +8,10 @@ use Rattle.mb_kinds.specs.declared.entries.Entry.{Entry}
 use Rattle.mb_run.specs.Events.{SameCalls, sealed}
 use Rattle.mb_run.specs.Firsts.{KeepsFirsts}
 use Rattle.mb_run.specs.Pages.{HasTablesFor, has}
+use Rattle.mb_run.specs.Timely.{IsTimely}
 use Rattle.mb_run.specs.Seals.{TrailGoesOn}
 use Rattle.mb_run.specs.Served.{IsBalanced, Nears, AllUnderWay, calls_of}
-use Rattle.mb_run.specs.Sights.{Sight, undue_in}
+use Rattle.mb_run.specs.Sights.{Sight}
 use Rattle.mb_run.specs.declared.progress.Early.{Early}
 use Rattle.mb_run.specs.declared.progress.Early.TheVariants as early
 use Rattle.mb_run.specs.declared.progress.Next.{Next}
@@ -90,8 +91,8 @@ pub record IsWhole (calls : List JobCall) (test : Option (Crossing → Bool)) (a
   pub config : new.config ≡ old.config
   pub firsts : KeepsFirsts old new
   pub later : Lengthens old new
-  -- no more were taken where none was due
-  pub seals : undue_in new ≤ undue_in old + asked
+  -- no more were taken where none was due, and none was left out behind a sync(2)
+  pub seals : IsTimely asked old new
 
 -- nobody's call did anything: calls, entries and records stay, and while the volume runs, so does what calls gathered
 pub record IsQuiet (old new : Sight) : Type 0 where

@@ -1,6 +1,6 @@
 -- What a run of a job over a core was: the clauses of the headline, over the readers of a core and the job alone.
-use Rattle.std.specs.Prelude.{ℕ, ◌+◌, ◌<◌, ◌≤◌, ◌≡◌, ◌≢◌, List, [], ◌∷◌, ◌++◌, length, map, filter, nat_eq, nat_lt, nat_le, ◌&&◌, ◌||◌, not, slice_get, Bool, true, false, cond, Option, Some, None, IfSome, count_by}
-use Rattle.std.specs.List.{AllByRecursion, list_any, range_with_len}
+use Rattle.std.specs.Prelude.{ℕ, ◌+◌, ◌<◌, ◌≤◌, ◌≡◌, ◌≢◌, List, [], ◌∷◌, ◌++◌, length, filter, nat_eq, nat_lt, nat_le, ◌&&◌, ◌||◌, not, slice_get, Bool, true, false, cond, Option, Some, None, IfSome, count_by}
+use Rattle.std.specs.List.{AllByRecursion, list_any}
 use Rattle.mb_core_spec.specs.Faults.{IsTwice}
 use Rattle.mb_edge.specs.declared.crossings.Crossing.{Crossing}
 use Rattle.mb_kinds.specs.declared.entries.Entry.{Entry}
@@ -13,30 +13,9 @@ use Rattle.mb_plan.specs.Fires.{fires, same_kind}
 use Rattle.mb_plan.specs.declared.rules.Rule.{Rule}
 use Rattle.mb_run.specs.Recovering.{crossing_of}
 pub use Rattle.mb_run.specs.Seals.{is_plain}
-use Rattle.mb_run.specs.Served.{calls_in, calls_of}
 use Rattle.mb_jobs.specs.declared.jobs.JobCall.{JobCall}
 use Rattle.mb_core_spec.specs.declared.steps.Step.{Step}
 use Rattle.mb_core_spec.specs.declared.steps.Step.TheVariants as step
-
--- ---- each caller's calls
-
-abbrev pub OwnCallsAre : List JobCall → List Entry → Type 0
-OwnCallsAre calls history = (caller : ℕ) → calls_in history caller ≡ calls_of calls caller
-
--- ---- moments
-
-abbrev pub moments : List Entry → List ℕ
-moments history = map (λ (entry : Entry). entry.moment) history
-
--- each number after the start stands once, up to as many as there are entries
-abbrev pub HasMoments : ℕ → List Entry → Type 0
-HasMoments start history = (moment : ℕ) → start < moment → moment ≤ start + length history → count_by (nat_eq moment) (moments history) ≡ 1
-
--- in list order the calls stand in the order of their indices, and each at the next moment
-pub record IsInListOrder (start : ℕ) (calls : List JobCall) (history : List Entry) : Type 0 where
-  pub calls_are : map (λ (entry : Entry). entry.call) history ≡ map (λ (made : JobCall). made.call) calls
-  pub callers_are : map (λ (entry : Entry). entry.caller) history ≡ map (λ (made : JobCall). made.caller) calls
-  pub moments_are : moments history ≡ range_with_len (start + 1) (length history)
 
 -- a character is a caller's letter, small or capital
 abbrev pub is_letter_of : ℕ → ℕ → Bool
@@ -162,12 +141,6 @@ PlannedAreTaken = (plan : List Rule) (history : List Entry) (records : List Faul
 abbrev pub AnswersFailed : ℕ → List FaultRecord → Reply → Type 0
 AnswersFailed limit records (reply.Failed faults) = (faults ≡ limit + 1) × (length records ≡ limit + 1)
 AnswersFailed limit records _ = Unit {0}
-
-abbrev pub devices : List Entry → ℕ
-devices history = count_by (λ (entry : Entry). cond (is_plain entry.reply) false (is_device entry.reply)) history where
-  is_device : Reply → Bool
-  is_device reply.Device = true
-  is_device _ = false
 
 -- ---- an order without faults: whose calls enter first
 

@@ -1,6 +1,6 @@
 -- When checkpoints are taken.
-use Rattle.std.specs.Prelude.{ℕ, ◌+◌, ◌<◌, ◌≤◌, ◌≡◌, ◌⊎◌, List, [], ◌∷◌, ◌++◌, length, drop, nat_eq, nat_le, ◌&&◌, ◌||◌, Bool, true, false, if◌then◌else◌}
-use Rattle.std.specs.List.{AllByRecursion, list_any}
+use Rattle.std.specs.Prelude.{ℕ, ◌+◌, ◌<◌, ◌≤◌, ◌≡◌, ◌⊎◌, List, [], ◌∷◌, ◌++◌, length, drop, nat_eq, nat_le, ◌&&◌, ◌||◌, not, Bool, true, false, if◌then◌else◌}
+use Rattle.std.specs.List.{AllByRecursion, list_all, list_any}
 use Rattle.mb_core_spec.specs.declared.steps.Step.{Step}
 use Rattle.mb_core_spec.specs.declared.steps.Step.TheVariants as step
 use Rattle.mb_kinds.specs.declared.calls.Call.{Call}
@@ -36,10 +36,11 @@ pub record AreInTime (threshold ops sealed_at : ℕ) (history : List Entry) : Ty
 
 -- ---- where a trace has them
 
--- a step with which no call is logged and no checkpoint is taken
+-- a step with which no call is logged, no checkpoint is taken, and no call is told that a copy is stale
 abbrev pub is_other : Step → Bool
 is_other (step.Logged ticket) = false
 is_other (step.Sealed count) = false
+is_other (step.Stale ticket block) = false
 is_other _ = true
 
 -- the trace goes on by such steps alone
@@ -92,3 +93,24 @@ pub record AreAskedFor (threshold asked : ℕ) (history : List Entry) (trail : L
   pub run : List Step
   pub few : undue threshold history run ≤ asked
   pub ends : (trail ≡ run) ⊎ (trail ≡ run ++ step.Sealed (length history) ∷ [])
+
+-- ---- a checkpoint right behind each sync(2)
+
+-- every entry of the ticket's call is a sync(2)
+abbrev pub are_syncs_of : List Entry → Ticket → Bool
+are_syncs_of history ticket =
+    list_all (λ (entry : Entry). not (nat_eq entry.caller ticket.caller && nat_eq entry.ordinal ticket.ordinal) || is_sync entry.call) history
+
+-- the next step takes a checkpoint
+abbrev pub is_sealed_next : List Step → Bool
+is_sealed_next (step.Sealed count ∷ trail) = true
+is_sealed_next _ = false
+
+abbrev pub omits : Bool → Bool → ℕ
+omits sync sealed = if sync && not sealed then 1 else 0
+
+-- how many sync(2) a trace logged without a checkpoint right behind
+unfoldable pub omitted : List Entry → List Step → ℕ
+omitted history [] = 0
+omitted history (step.Logged ticket ∷ trail) = omits (are_syncs_of history ticket) (is_sealed_next trail) + omitted history trail
+omitted history (one ∷ trail) = omitted history trail

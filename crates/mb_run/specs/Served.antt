@@ -15,10 +15,11 @@ use Rattle.mb_core_spec.specs.Copies.{PagesState, no_pages}
 use Rattle.mb_run.specs.Pages.{HasTablesFor, has}
 pub use Rattle.mb_run.specs.Recovering.{counted}
 use Rattle.mb_run.specs.Recovering.{crossing_of, next_of}
-use Rattle.mb_run.specs.Sights.{Sight, Seat, SeatHasTicket, IsOld, IsOrderlyInSight, IsWaiting, one_if, recovers, undue_in}
+use Rattle.mb_run.specs.Sights.{Sight, Seat, SeatHasTicket, IsOld, IsOrderlyInSight, IsWaiting, one_if, recovers}
 use Rattle.mb_run.specs.Events.{StrikesCall}
 use Rattle.mb_run.specs.Firsts.{KeepsFirsts}
 use Rattle.mb_run.specs.Seals.{TrailGoesOn}
+use Rattle.mb_run.specs.Timely.{IsTimely}
 use Rattle.mb_jobs.specs.declared.jobs.JobCall.{JobCall}
 use Rattle.mb_run.specs.declared.runner.At.{At}
 use Rattle.mb_run.specs.declared.runner.At.TheVariants as at
@@ -207,8 +208,8 @@ pub record Nears (calls : List JobCall) (test : Option (Crossing → Bool)) (old
   pub balanced : IsBalanced old → IsBalanced new
   pub served : IsServedSoFar (calls_of calls before.crossings.caller) new before.crossings.caller now
   pub sound : AreSound test new.records
-  -- no checkpoint was taken but where one was due
-  pub seals : undue_in new ≤ undue_in old
+  -- no checkpoint was taken but where one was due, and none was left out behind a sync(2)
+  pub seals : IsTimely 0 old new
 
 pub record Did (calls : List JobCall) (test : Option (Crossing → Bool)) (old new : Sight) (before now : Runner) (went : Went) : Type 0 where
   pub nears : Nears calls test old new before now

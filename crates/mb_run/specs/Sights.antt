@@ -11,7 +11,7 @@ use Rattle.mb_core_spec.specs.declared.config.Config.{Config}
 use Rattle.mb_core_spec.specs.declared.stages.Stage.{Stage}
 use Rattle.mb_core_spec.specs.declared.stages.Stage.TheVariants as stage
 use Rattle.mb_core_spec.specs.declared.steps.Step.{Step}
-use Rattle.mb_run.specs.Seals.{AreInTime, logged_since, undue}
+use Rattle.mb_run.specs.Seals.{AreInTime, logged_since, omitted, undue}
 
 -- of one caller: how many calls it began, and its call in flight
 pub record Seat : Type 0 where
@@ -62,6 +62,10 @@ since_in sight = logged_since sight.config.threshold sight.history sight.trail
 
 abbrev pub undue_in : Sight → ℕ
 undue_in sight = undue sight.config.threshold sight.history sight.trail
+
+-- how many sync(2) the trace logged without a checkpoint right behind
+abbrev pub omitted_in : Sight → ℕ
+omitted_in sight = omitted sight.history sight.trail
 
 abbrev pub one_if : Bool → ℕ
 one_if true = 1

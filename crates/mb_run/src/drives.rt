@@ -8,7 +8,8 @@ ghost use Rattle.mb_run.specs.Letters.{AreLetters, HasBegunBy, letters_of};
 ghost use Rattle.mb_run.specs.Orders.{AreRunOut, ReachesCount, IsWhole, asked_in};
 ghost use Rattle.mb_run.specs.Runs.{FirstsRise};
 ghost use Rattle.mb_run.specs.Served.{IsBalanced, AllUnderWay};
-ghost use Rattle.mb_run.specs.Sights.{IsOrderlyInSight, undue_in};
+ghost use Rattle.mb_run.specs.Sights.{IsOrderlyInSight};
+ghost use Rattle.mb_run.specs.Timely.{IsTimely};
 ghost use Rattle.mb_run.specs.declared.drives.DriveEnd.TheVariants as end;
 
 use crate::call_index::CallIndex;
@@ -123,7 +124,7 @@ fn run_by_order<C: EventCore, H: Hook>(
     ensures enters { result ≡ true → StartsCalm callers.now calls.now (C.sight core.old) runners.old
         → EntersCalmly order.now callers.now calls.now (H.test hook.old) (C.sight core.new) }
     ensures config { result ≡ true → (C.sight core.new).config ≡ (C.sight core.old).config }
-    ensures seals { result ≡ true → undue_in (C.sight core.new) ≤ undue_in (C.sight core.old) + asked_in order.now }
+    ensures seals { result ≡ true → IsTimely (asked_in order.now) (C.sight core.old) (C.sight core.new) }
     ensures origin { C.origin core.new ≡ C.origin core.old }
     ensures right { IsOrderlyInSight (C.sight core.new) }
 {

@@ -53,7 +53,7 @@ pub trait EventCore {
         requires { caller < (sight self.now).config.callers }
         ensures { result ≡ ((sight self.now).seats caller).begun };
 
-    /// PerformsOver the call of a ticket over its pages, which have the tables, with the file system's code; it goes on where
+    /// Performs the call of a ticket over its pages, which have the tables, with the file system's code; it goes on where
     /// `way` has it stopped over fewer of them, and begins anew where that is `None`. The core stays as it is, and the ticket
     /// may be of an earlier incarnation.
     fn perform(

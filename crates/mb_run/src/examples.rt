@@ -1,4 +1,4 @@
-ghost use Rattle.mb_run.specs.Examples.{WorkedCheckpoints, WorkedEntering, WorkedFaults, WorkedMoments, WorkedOrders, WorkedUndue};
+ghost use Rattle.mb_run.specs.Examples.{WorkedCheckpoints, WorkedEntering, WorkedFaults, WorkedMoments, WorkedOmitted, WorkedOrders, WorkedStales, WorkedUndue};
 
 /// Whose first moment is lower under an order.
 pub fn worked_moments()
@@ -28,4 +28,14 @@ pub fn worked_checkpoints()
 /// Which checkpoints of a trace were taken where none was due.
 pub fn worked_undue()
     ensures { WorkedUndue }
+{}
+
+/// Which sync(2) of a trace have no checkpoint right behind.
+pub fn worked_omitted()
+    ensures { WorkedOmitted }
+{}
+
+/// How often a call was told that a copy is stale, and how often beyond the fourth time.
+pub fn worked_stales()
+    ensures { WorkedStales }
 {}

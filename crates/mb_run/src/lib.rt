@@ -35,7 +35,8 @@ pub use call_index::{CallIndex, find_call};
 pub use drives::{DriveEnd, Driven, drive};
 pub use event_core::EventCore;
 pub use examples::{
-    worked_checkpoints, worked_entering, worked_faults, worked_moments, worked_orders, worked_undue,
+    worked_checkpoints, worked_entering, worked_faults, worked_moments, worked_omitted,
+    worked_orders, worked_stales, worked_undue,
 };
 pub use laws::{planned_faults, recovers_soon, stands_on};
 pub use orders::run_order;

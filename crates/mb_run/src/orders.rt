@@ -5,7 +5,9 @@ ghost use Rattle.mb_run.specs.Indexes.{IsIndexOf};
 ghost use Rattle.mb_run.specs.Letters.{AreLetters, BeginsAlone, BeginsByLetter, HasBegun, HasBegunBy, LacksLetter, letters_of};
 ghost use Rattle.mb_run.specs.Orders.{asked_in, ComesNext, HasLetter, IsEarlyAt, HasCallOpen, IsQuiet, IsSealedNow, IsWhole, MayLook, Moved};
 ghost use Rattle.mb_run.specs.Served.{Did, MayStep, AllUnderWay};
-ghost use Rattle.mb_run.specs.Sights.{IsOrderlyInSight, recovers, undue_in};
+ghost use Rattle.mb_run.specs.Settling.{KeepsHistory};
+ghost use Rattle.mb_run.specs.Sights.{IsOrderlyInSight, recovers};
+ghost use Rattle.mb_run.specs.Timely.{IsTimely};
 ghost use Rattle.mb_run.specs.declared.progress.Went.TheVariants as went;
 
 use crate::answers::Stepped;
@@ -229,7 +231,7 @@ fn first_waiting<C: EventCore>(core: &C, runners: &[Runner]) -> Option<u8>
 fn recover_alone<C: EventCore, H: Hook>(alloc: Global, core: &mut C, hook: &mut H) -> bool
     requires right { IsOrderlyInSight (C.sight core.old) }
     ensures quiet { IsQuiet (C.sight core.old) (C.sight core.new) }
-    ensures seals { undue_in (C.sight core.new) ≤ undue_in (C.sight core.old) }
+    ensures seals { IsTimely 0 (C.sight core.old) (C.sight core.new) }
     ensures test { H.test hook.new ≡ H.test hook.old }
     ensures origin { C.origin core.new ≡ C.origin core.old }
     ensures right { IsOrderlyInSight (C.sight core.new) }
@@ -294,6 +296,7 @@ pub(crate) fn seal_now<C: EventCore>(core: &mut C) -> bool
     requires right { IsOrderlyInSight (C.sight core.old) }
     ensures quiet { IsQuiet (C.sight core.old) (C.sight core.new) }
     ensures sealed { result ≡ true → IsSealedNow (C.sight core.old) (C.sight core.new) }
+    ensures keeps { KeepsHistory (C.sight core.old) (C.sight core.new) }
     ensures later { C.faults core.old ≤ C.faults core.new }
     ensures origin { C.origin core.new ≡ C.origin core.old }
     ensures right { IsOrderlyInSight (C.sight core.new) }
@@ -311,7 +314,7 @@ pub(crate) fn seal_now<C: EventCore>(core: &mut C) -> bool
 fn flush<C: EventCore>(core: &mut C)
     requires right { IsOrderlyInSight (C.sight core.old) }
     ensures quiet { IsQuiet (C.sight core.old) (C.sight core.new) }
-    ensures seals { undue_in (C.sight core.new) ≤ undue_in (C.sight core.old) }
+    ensures seals { IsTimely 0 (C.sight core.old) (C.sight core.new) }
     ensures still { IsStill (C.sight core.old) (C.sight core.new) }
     ensures origin { C.origin core.new ≡ C.origin core.old }
     ensures right { IsOrderlyInSight (C.sight core.new) }

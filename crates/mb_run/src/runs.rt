@@ -7,7 +7,8 @@ ghost use Rattle.mb_run.specs.Orders.{AnswersOneMore, IsWhole};
 ghost use Rattle.mb_run.specs.Recovering.{GoOn};
 ghost use Rattle.mb_run.specs.Runs.{HasTakenTested};
 ghost use Rattle.mb_run.specs.Served.{IsAfter, IsFloorOf, IsResting, IsRunInOrder, CrossingsAreKept, MayGiveUp, MayStep, Ran, RunsRecovery, Rolled, Turns, AllUnderWay, calls_of};
-ghost use Rattle.mb_run.specs.Sights.{IsOrderlyInSight, IsWaiting, recovers, undue_in};
+ghost use Rattle.mb_run.specs.Sights.{IsOrderlyInSight, IsWaiting, recovers};
+ghost use Rattle.mb_run.specs.Timely.{IsTimely};
 ghost use Rattle.mb_run.specs.Tallies.{AreRested, IsBetween, IsTallied, Tallies};
 ghost use Rattle.mb_run.specs.declared.runner.At.TheVariants as at;
 ghost use Rattle.mb_jobs.specs.declared.jobs.JobCall.{JobCall};
@@ -293,7 +294,7 @@ pub fn run_in_order<C: EventCore, H: Hook>(
     ensures taken { result ≡ true → AreRested (H.test hook.old) (C.sight core.old) runners.old
         → HasTakenTested (H.test hook.old) (C.sight core.new).history (C.sight core.new).records }
     ensures config { result ≡ true → (C.sight core.new).config ≡ (C.sight core.old).config }
-    ensures seals { result ≡ true → undue_in (C.sight core.new) ≤ undue_in (C.sight core.old) }
+    ensures seals { result ≡ true → IsTimely 0 (C.sight core.old) (C.sight core.new) }
     ensures test { H.test hook.new ≡ H.test hook.old }
     ensures origin { C.origin core.new ≡ C.origin core.old }
     ensures right { IsOrderlyInSight (C.sight core.new) }

@@ -2,7 +2,7 @@ ghost use Rattle.std.specs.Prelude.{◌≡◌, ◌≢◌, ◌≤◌, ◌⊎◌, 
 ghost use Rattle.mb_core_spec.specs.declared.stages.Stage.TheVariants as stage;
 ghost use Rattle.mb_edge.specs.Causes.{Rose};
 ghost use Rattle.mb_run.specs.Lengths.{CalmsForward, GoesForward};
-ghost use Rattle.mb_run.specs.Settling.{Calms, IsFlushed, IsSettled, KeepsHistory, SealsAtEnd};
+ghost use Rattle.mb_run.specs.Settling.{Calms, IsCutShort, IsFlushed, IsSettled, KeepsHistory, SealsAtEnd};
 ghost use Rattle.mb_run.specs.Sights.{IsOrderlyInSight, recovers, undue_in};
 ghost use Rattle.mb_run.specs.declared.settles.SettleEnd.TheVariants as end;
 ghost use Rattle.std.specs.Prelude.{Some};
@@ -65,6 +65,7 @@ fn recover_calmly<C: EventCore>(alloc: Global, core: &mut C) -> SettleEnd
     requires right { IsOrderlyInSight (C.sight core.old) }
     ensures keeps { KeepsHistory (C.sight core.old) (C.sight core.new) }
     ensures over { result ≡ end.Clean → recovers (C.sight core.new).stage ≡ false }
+    ensures broken { result ≡ end.Device → recovers (C.sight core.new).stage ≡ true }
     ensures forward { ((C.sight core.new).stage ≡ stage.Failed) ⊎ GoesForward (C.sight core.old) (C.sight core.new) }
     ensures seals { undue_in (C.sight core.new) ≤ undue_in (C.sight core.old) }
     ensures device { result ≡ end.Device → Rose (C.faults core.old) (C.faults core.new) }
@@ -100,6 +101,7 @@ fn flush_all<C: EventCore>(core: &mut C) -> SettleEnd
 fn settle_core<C: EventCore>(alloc: Global, core: &mut C) -> SettleEnd
     requires right { IsOrderlyInSight (C.sight core.old) }
     ensures settled { result ≡ end.Clean → IsSettled (C.sight core.old) (C.sight core.new) }
+    ensures cut { result ≡ end.Device → IsCutShort (C.sight core.new) }
     ensures keeps { KeepsHistory (C.sight core.old) (C.sight core.new) }
     ensures seals { result ≢ end.NoMemory → SealsAtEnd (C.sight core.old) (C.sight core.new) }
     ensures device { result ≡ end.Device → Rose (C.faults core.old) (C.faults core.new) }
@@ -118,11 +120,12 @@ fn settle_core<C: EventCore>(alloc: Global, core: &mut C) -> SettleEnd
 }
 
 /// Ends a run: a recovery in progress is made without a fault injector, a running volume gets a checkpoint, and the
-/// checkpointed pages are written back. The first fault of the disk ends this. History and fault records stay, and that
-/// checkpoint is the only one that is taken where none is due.
+/// checkpointed pages are written back. The first fault of the disk ends this: in the recovery, or with pages that wait.
+/// History and fault records stay, and that checkpoint is the only one that is taken where none is due.
 pub fn settle<C: EventCore>(alloc: Global, core: C) -> Settled<C>
     requires right { IsOrderlyInSight (C.sight core) }
     ensures settled { result.end ≡ end.Clean → IsSettled (C.sight core) (C.sight result.core) }
+    ensures cut { result.end ≡ end.Device → IsCutShort (C.sight result.core) }
     ensures keeps { KeepsHistory (C.sight core) (C.sight result.core) }
     ensures seals { result.end ≢ end.NoMemory → SealsAtEnd (C.sight core) (C.sight result.core) }
     ensures device { result.end ≡ end.Device → Rose (C.faults core) (C.faults result.core) }

@@ -39,14 +39,14 @@ leaves_on caller flight old mid new flushed.One leaves written = subst (EndsFlig
   floor = leaves.floor;
 })
 leaves_on caller flight old mid new flushed.Clean leaves written = subst (EndsFlight caller flight old) (sym written.1) leaves
-leaves_on caller flight old mid new flushed.Device leaves written = subst (EndsFlight caller flight old) (sym written) leaves
+leaves_on caller flight old mid new flushed.Device leaves written = subst (EndsFlight caller flight old) (sym written.1) leaves
 
 -- as many pages wait before it as when the call left
 writes_on : (before now : ℕ) (old mid new : Sight) (made : Flushed) → mid.sealed ≡ old.sealed → FlushesWith mid new made → (made ≡ flushed.Device → Rose before now)
     → (old.sealed ≡ new.sealed + 1) ⊎ (((old.sealed ≡ 0) × (new.sealed ≡ 0)) ⊎ ((new.sealed ≡ old.sealed) × Rose before now))
 writes_on before now old mid new flushed.One same written rose = inl (sym same ∙ written.0)
 writes_on before now old mid new flushed.Clean same written rose = inr (inl (sym same ∙ written.0, ap (λ (s : Sight). s.sealed) written.1 ∙ written.0))
-writes_on before now old mid new flushed.Device same written rose = inr (inr (ap (λ (s : Sight). s.sealed) written ∙ same, rose refl))
+writes_on before now old mid new flushed.Device same written rose = inr (inr (ap (λ (s : Sight). s.sealed) written.1 ∙ same, rose refl))
 
 -- ---- of the core: `mid` is the core that the call left
 

@@ -30,7 +30,6 @@ use Rattle.mb_core_spec.specs.Right.{Right}
 use Rattle.mb_core_spec.specs.State.{CallerState, CoreState}
 use Rattle.mb_core_spec.specs.declared.ready.Ready.{Ready}
 use Rattle.mb_core_spec.specs.declared.stages.Stage.TheVariants as stage
-use Rattle.mb_core_spec.specs.declared.steps.Step.TheVariants as step
 use Rattle.mb_core_order.proofs.Keepings.{without_mine}
 use Rattle.mb_core_state.specs.Answers.{IsPresent}
 use Rattle.mb_core_state.specs.Finishing.{Finishes as EndsBy, IsLogged}
@@ -48,7 +47,7 @@ use Rattle.mb_volume_core.proofs.Answering.{open_is}
 use Rattle.mb_volume_core.proofs.Freshness.{holds_fresh}
 use Rattle.mb_volume_core.proofs.Gathering.{holds_ticket, last_begun, skipped}
 use Rattle.mb_volume_core.proofs.Origins.{origin_of}
-use Rattle.mb_volume_core.proofs.Staying.{begun_now, keeps_log, marks_one, open_now, own_now, seat_now, some_at, stays_at}
+use Rattle.mb_volume_core.proofs.Staying.{begun_now, open_now, own_now, seat_now, some_at, stays_at}
 
 -- ---- what was performed, as the core takes it
 
@@ -155,8 +154,12 @@ module _ {F D : Type 0} (told : D → Option Image) (faults : D → ℕ) (core :
           stays = stays_at core new caller anew stored (ap (λ (c : CoreState F D). c.config) event) (ap (λ (c : CoreState F D). c.journal.records) event) (ap (λ (c : CoreState F D). c.stage) event) (ap (λ (c : CoreState F D). c.incarnation) event);
           mine = seat_now core new caller anew stored of.mine of.here ∙ sym (ap seat_of of.here);
           counts = record { history = ap (λ (c : CoreState F D). c.journal.history) event; begun = omega (arith, begun_is); open_calls = omega (arith, opened) };
-          log = keeps_log core new (ap (λ (c : CoreState F D). c.journal.sealed_at) event) (ap (λ (c : CoreState F D). c.journal.oplog) event)
-              (marks_one core.journal.trail new.journal.trail (step.Stale ticket block) refl (ap (λ (c : CoreState F D). c.journal.trail) event));
+          sealed_at = ap (λ (c : CoreState F D). c.journal.sealed_at) event;
+          ops = (let same : length new.journal.oplog ≡ length core.journal.oplog = ap (λ (c : CoreState F D). length c.journal.oplog) event in omega (arith, same));
+          ticket = ticket;
+          block = block;
+          own = refl;
+          trail = ap (λ (c : CoreState F D). c.journal.trail) event;
           was = mine;
           floor = elim (taken_or of.mine.stales core.floor mine) [ inl none ↦ inl (ap (λ (c : CoreState F D). c.floor) event ∙ none) | inr taken ↦ inr (ap (λ (c : CoreState F D). c.floor) event ∙ taken) ];
           empty = ap pages_kept own;

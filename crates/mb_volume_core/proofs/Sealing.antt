@@ -67,7 +67,11 @@ module _ {F D : Type 0} (core new : CoreState F D) where
       let left = length-append pages.before pages.behind in
       (omega (arith, was, now, all, left), ap sight_of rest)
   flushes told faults flushed.Clean by rest = (ap length by.0, ap sight_of rest ∙ ap (λ (c : CacheState D). with_sealed (length c.sealed)) by.1)
-  flushes told faults flushed.Device by rest = ap sight_of rest ∙ ap (λ (c : CacheState D). with_sealed (length c.sealed)) by.1
+  flushes told faults flushed.Device by rest =
+      let pages = by.0 in
+      let was : length core.cache.sealed ≡ length (pages.before ++ (pages.page ∷ pages.behind)) = ap length pages.waits in
+      let all = length-append pages.before (pages.page ∷ pages.behind) in
+      (λ none. omega (arith, was, all, none), ap sight_of rest ∙ ap (λ (c : CacheState D). with_sealed (length c.sealed)) by.1)
 
   pub flush_rose : (told : D → Option Image) (faults : D → ℕ) (answer : Flushed) → Flushes told faults core.cache new.cache answer → answer ≡ flushed.Device → Rose (faults core.cache.disk) (faults new.cache.disk)
   flush_rose told faults flushed.One by is = absurd (let wrong : flushed.One ≡ flushed.Device = is in cc)

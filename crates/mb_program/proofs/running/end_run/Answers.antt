@@ -18,4 +18,4 @@ returns-in-Device-clause-core g c = λ disk fs driven.
     holds g.D.Disk.told g.D.Disk.faults c.args.manner c.args.job.now disk c.settle-core.result.core.core c.held-in-Device.result.held c.unsettled-outcome.result c.held-in-Device.result.outcome c.held-in-Device.ensures.held c.held-in-Device.ensures.outcome
     (comes_unsettled g.D.Disk.told g.D.Disk.faults c.args.manner c.args.job.now disk fs c.args.core.core c.settle-core.result.core.core (driven going) c.settle-core.ensures.origin c.settle-core.ensures.keeps
     (c.settle-core.ensures.seals (λ none. let clash : settled.Device ≡ settled.NoMemory = sym c.in-Device.is ∙ none in cc)) c.in_order-2.ensures c.settle-core.ensures.right
-    c.unsettled-outcome.result c.paths_are_runs.ensures c.paths_fail.ensures c.requires.fit c.in_order.ensures (c.settle-core.ensures.device c.in-Device.is) c.unsettled-outcome.ensures)
+    c.unsettled-outcome.result c.paths_are_runs.ensures c.paths_fail.ensures c.requires.fit c.in_order.ensures (c.settle-core.ensures.device c.in-Device.is) (c.settle-core.ensures.cut c.in-Device.is) c.unsettled-outcome.ensures)

@@ -2,6 +2,7 @@ use Rattle.std.proofs.Common.{◌∙◌, arith, refl, subst, sym}
 use Rattle.mb_run.specs.Drives.{IsComplete}
 use Rattle.mb_run.proofs.Completing.{complete}
 use Rattle.mb_run.proofs.Letters.{order_rises}
+use Rattle.mb_run.proofs.Timely.{timely_more, timely_then}
 use Rattle.mb_run.proofs.drives.run_by_order.Goals as goal
 use Rattle.mb_run.specs.Letters.{letters_of}
 use Rattle.mb_run.proofs.Calm.{enters_on}
@@ -28,7 +29,7 @@ pub returns-clause-seals : goal.returns-clause-seals
 returns-clause-seals g c = λ so.
     let one = (c.if-not-run_order.ensures.whole refl).seals in
     let two = (c.run_out.ensures.whole so).seals in
-    omega (arith, one, two)
+    timely_more _ _ _ _ (omega arith) (timely_then _ _ _ _ 0 one two)
 
 pub returns-clause-enters : goal.returns-clause-enters
 returns-clause-enters g c = λ so calm nowhere letters plain.

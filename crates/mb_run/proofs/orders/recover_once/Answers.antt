@@ -14,7 +14,7 @@ pub returns-in_default-clause-alone : goal.returns-in_default-clause-alone
 returns-in_default-clause-alone g c = λ so. quiet_alone _ _ c.recover_alone.ensures.quiet
 
 pub returns-in_default-clause-whole : goal.returns-in_default-clause-whole
-returns-in_default-clause-whole g c = λ so. quiet_whole _ _ 0 _ _ _ c.requires.underway c.recover_alone.ensures.quiet (let low = c.recover_alone.ensures.seals in omega (arith, low)) c.recover_alone.ensures.right
+returns-in_default-clause-whole g c = λ so. quiet_whole _ _ 0 _ _ _ c.requires.underway c.recover_alone.ensures.quiet c.recover_alone.ensures.seals c.recover_alone.ensures.right
 
 pub bounds-runners-caller : goal.bounds-runners-caller
 bounds-runners-caller g c = open_low _ _ _ _ _ c.requires.underway c.in-Some.ensures

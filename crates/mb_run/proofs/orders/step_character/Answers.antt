@@ -3,6 +3,7 @@ use Rattle.std.proofs.lemmas.Option.{slice_get_within}
 use Rattle.mb_run.proofs.Asked.{asked_seals, whole_asks}
 use Rattle.mb_run.proofs.Moving.{whole_same}
 use Rattle.mb_run.proofs.Quiet.{quiet_whole}
+use Rattle.mb_run.proofs.Timely.{timely_more}
 use Rattle.std.proofs.Common.{refl, sym}
 use Rattle.mb_run.proofs.Starting.{lacked_begins, letter_begins, no_letter_begins, no_letter_is, quiet_alone, same_alone}
 use Rattle.mb_run.proofs.orders.step_character.Goals as goal
@@ -12,7 +13,7 @@ pub returns-then-character-eq61-clause-whole : goal.returns-then-character-eq61-
 returns-then-character-eq61-clause-whole g c = λ so. quiet_whole _ _ _ _ _ _ c.requires.underway c.seal_now.ensures.quiet (asked_seals c.args.character (g.C.EventCore.sight c.args.core.now) (g.C.EventCore.sight c.seal_now.new.core) c.if-character-eq61.true (c.seal_now.ensures.sealed so)) c.seal_now.ensures.right
 
 pub returns-then-character-eq62-clause-whole : goal.returns-then-character-eq62-clause-whole
-returns-then-character-eq62-clause-whole g c = λ so. quiet_whole _ _ _ _ _ _ c.requires.underway c.flush.ensures.quiet (let low = c.flush.ensures.seals in omega (arith, low)) c.flush.ensures.right
+returns-then-character-eq62-clause-whole g c = λ so. quiet_whole _ _ _ _ _ _ c.requires.underway c.flush.ensures.quiet (timely_more _ _ 0 _ (omega arith) c.flush.ensures.seals) c.flush.ensures.right
 
 pub step_letter-requires-clause-within : goal.step_letter-requires-clause-within
 step_letter-requires-clause-within g c =

@@ -4,6 +4,7 @@ use Rattle.std.proofs.lemmas.Option.{slice_get-get_or}
 use Rattle.mb_run.proofs.InOrder.{all_callers, order_after, order_may, order_mine, order_over}
 use Rattle.std.proofs.Common.{subst}
 use Rattle.mb_run.specs.Served.{IsRunInOrder}
+use Rattle.mb_run.proofs.Timely.{timely_then}
 use Rattle.mb_run.proofs.Resting.{rested_after, rested_end}
 use Rattle.mb_run.proofs.runs.run_in_order.Goals as goal
 
@@ -34,7 +35,7 @@ loop-made-preserved g c =
       size = length-set c.loop-made.runners c.made-item.result.caller c.run_holder.new.runner ∙ c.loop-made.invariant.size;
       rested = λ rested. rested_after _ _ _ _ _ c.loop-made.invariant.after c.made-item.result here _ low _ _ (rw c.loop-made.invariant.test at c.if-not-run_holder.ensures.ran).nears (c.loop-made.invariant.rested rested) ((rw c.loop-made.invariant.test at c.if-not-run_holder.ensures.tallied) refl);
       config = c.if-not-run_holder.ensures.ran.nears.acts.config ∙ c.loop-made.invariant.config;
-      seals = (let low = c.loop-made.invariant.seals in let fewer = c.if-not-run_holder.ensures.ran.nears.seals in omega (arith, low, fewer));
+      seals = timely_then _ _ _ 0 0 c.loop-made.invariant.seals c.if-not-run_holder.ensures.ran.nears.seals;
       origin = c.run_holder.ensures.origin ∙ c.loop-made.invariant.origin;
       test = c.run_holder.ensures.test ∙ c.loop-made.invariant.test;
     }

@@ -3,8 +3,9 @@ use Rattle.mb_run.specs.Served.{Did, backed}
 use Rattle.mb_run.specs.Sights.{Sight}
 use Rattle.mb_run.specs.declared.progress.Went.TheVariants as went
 use Rattle.mb_run.proofs.Inside.{inside_back, did_busy, did_nothing, did_stale, did_log, has_ticket}
-use Rattle.mb_run.proofs.Finishing.{call_at, did_seals, held_tables, ready_at}
-use Rattle.mb_run.proofs.Undue.{in_time_undue}
+use Rattle.mb_run.proofs.Balance.{logs_if}
+use Rattle.mb_run.proofs.Finishing.{call_at, held_tables, ready_at}
+use Rattle.mb_run.proofs.Timely.{timely_logs}
 use Rattle.mb_run.proofs.TallySteps.{finishing_logged, finishing_skip, finishing_stale}
 use Rattle.mb_run.proofs.steps.finish_now.Goals as goal
 
@@ -23,8 +24,8 @@ returns-in-NoMemory-clause-did g c = subst (λ (s : Sight). Did c.args.calls.now
 pub returns-in-Logged-clause-did : goal.returns-in-Logged-clause-did
 returns-in-Logged-clause-did g c =
     let of = c.in-Logged.ensures.finishes.2 in
-    did_seals _ _ _ of.logged _ _ _ _ (did_log _ _ _ _ _ c.requires.may c.args.ticket.now c.requires.inside of.logged c.in-Logged.ensures.finishes.0 of.logs) of.seals
-    (in_time_undue _ _ c.args.ticket.now c.args.call.now (has_ticket _ _ _ _ _ c.requires.may c.args.ticket.now c.requires.inside) (call_at _ _ _ _ _ c.requires.may c.args.ticket.now c.requires.inside) c.requires.may.right.covers of)
+    did_log _ _ _ _ _ c.requires.may c.args.ticket.now c.requires.inside _ c.in-Logged.ensures.finishes.0 (logs_if c.args.ticket.now.caller _ of.logged _ c.args.ticket.now _ of.logs of.seals)
+    (timely_logs _ _ c.args.ticket.now c.args.call.now (has_ticket _ _ _ _ _ c.requires.may c.args.ticket.now c.requires.inside) (call_at _ _ _ _ _ c.requires.may c.args.ticket.now c.requires.inside) c.requires.may.right.covers of)
 
 pub finish-finished-requires-clause-call : goal.finish-finished-requires-clause-call
 finish-finished-requires-clause-call g c = call_at _ _ _ _ _ c.requires.may c.args.ticket.now c.requires.inside
