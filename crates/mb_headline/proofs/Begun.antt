@@ -69,6 +69,7 @@ module _ {F D : Type 0} (fs : F) (first : D) (config : Config) (cache : CacheSta
   begun_for job is may = record {
     history = refl;
     records = refl;
+    trail = refl;
     begun = total_idle (length config.callers) _ refl;
     open_calls = total_idle (length config.callers) _ refl;
     seats = idle_seat (length config.callers);

@@ -9,12 +9,11 @@ use Rattle.mb_jobs.specs.Lists.{with_exits}
 use Rattle.mb_jobs.specs.declared.jobs.Caller.{Caller}
 use Rattle.mb_jobs.specs.declared.jobs.Job.{Job}
 use Rattle.mb_run.specs.Letters.{AreLetters, letters_of}
-use Rattle.mb_run.specs.Runs.{AllStrike}
 use Rattle.mb_headline.specs.Headline.{IsConfigOf}
 use Rattle.mb_headline.specs.Laws.{IsEarly, IsFitJob, JobsAreFit}
 use Rattle.mb_headline.proofs.Fields.{fields_fit}
 use Rattle.mb_headline.proofs.Lines.{all_few, all_named}
-use Rattle.mb_headline.proofs.Planned.{rules_early, rules_strike}
+use Rattle.mb_headline.proofs.Planned.{rules_early}
 use Rattle.mb_headline.proofs.Reading.{IsRead, read_job}
 
 module _ (job : Job) (read : IsRead job) where
@@ -53,9 +52,6 @@ module _ (job : Job) (read : IsRead job) where
   plan_early : AllByRecursion IsEarly job.plan
   plan_early = subst (AllByRecursion IsEarly) (ap (λ (j : Job). j.plan) read.made.is) (rules_early (with_exits read.fields.callers read.made.calls) read.fields.faults read.made.rules read.made.planned)
 
-  plan_strikes : AllStrike job.plan
-  plan_strikes = subst AllStrike (ap (λ (j : Job). j.plan) read.made.is) (rules_strike (with_exits read.fields.callers read.made.calls) read.fields.faults read.made.rules read.made.planned)
-
   fit_letters : AreLetters (letters_of job.callers)
   fit_letters = subst (λ callers. AreLetters (letters_of callers)) callers_are (fields_fit read.members read.fields read.keyed).callers.letters
 
@@ -70,7 +66,6 @@ module _ (job : Job) (read : IsRead job) where
     config = fit_config;
     letters = fit_letters;
     early = plan_early;
-    strikes = plan_strikes;
   }
 
 pub jobs_fit : JobsAreFit

@@ -10,17 +10,12 @@ use Rattle.mb_jobs.specs.declared.jobs.Caller.{Caller}
 use Rattle.mb_jobs.specs.declared.jobs.Job.{Job}
 use Rattle.mb_plan.specs.declared.rules.Rule.{Rule}
 use Rattle.mb_run.specs.Letters.{AreLetters}
-use Rattle.mb_run.specs.Runs.{AllStrike}
 use Rattle.mb_headline.specs.Headline.{IsConfigOf}
 use Rattle.mb_headline.specs.Laws.{IsEarly, IsFitJob, SoaksAreFit}
 
 early_of : (rules : List Rule) → AllByRecursion StrikesFirst rules → AllByRecursion IsEarly rules
 early_of [] strikes = tt
 early_of (rule ∷ rules) strikes = (let first = strikes.0.first in let once = strikes.0.once in omega (arith, first, once), early_of rules strikes.1)
-
-strike_of : (rules : List Rule) → AllByRecursion StrikesFirst rules → AllStrike rules
-strike_of [] strikes = tt
-strike_of (rule ∷ rules) strikes = (let once = strikes.0.once in omega (arith, once), strike_of rules strikes.1)
 
 -- `a` and `b`
 two_letters : AreLetters (97 ∷ 98 ∷ [])
@@ -59,7 +54,6 @@ module _ (faults : ℕ) (job : Job) (fit : IsFitToRun faults job) where
     config = config_fits;
     letters = subst AreLetters (sym fit.letters) two_letters;
     early = early_of job.plan fit.strikes;
-    strikes = strike_of job.plan fit.strikes;
   }
 
 pub soaks_fit : GeneratedAreFit → SoaksAreFit

@@ -12,12 +12,10 @@ use Rattle.mb_kinds.specs.declared.replies.Reply.TheVariants as reply
 use Rattle.mb_run.specs.Calm.{AreAllPlain, HoldsNowhere}
 use Rattle.mb_run.specs.CoreSight.{seat_of, sight_of}
 use Rattle.mb_run.specs.Recovering.{crossing_of}
-use Rattle.mb_run.specs.Seals.{is_plain, omitted}
+use Rattle.mb_run.specs.Seals.{is_plain}
 use Rattle.mb_run.specs.Stales.{stales_beyond}
 use Rattle.mb_run.specs.Timely.{CountsStales}
-use Rattle.mb_run.proofs.Omitted.{none_omitted}
 use Rattle.mb_run.proofs.Stales.{none_beyond}
-use Rattle.mb_core_spec.specs.declared.steps.Step.{Step}
 use Rattle.mb_kinds.specs.declared.entries.Flight.{Flight}
 use Rattle.mb_headline.proofs.Begun.{idle_seat}
 use Rattle.mb_headline.specs.Laws.{IsBegunFor}
@@ -25,7 +23,7 @@ use Rattle.mb_edge.specs.declared.crossings.Crossing.{Crossing}
 use Rattle.mb_jobs.specs.declared.jobs.Caller.{Caller}
 use Rattle.mb_jobs.specs.declared.jobs.Job.{Job}
 use Rattle.mb_kinds.specs.declared.entries.Entry.{Entry}
-use Rattle.mb_run.specs.Drives.{EntersByOrder, IsDriven, IsDrivenApart, RisesByOrder, TakesByOrder}
+use Rattle.mb_run.specs.Drives.{EntersByOrder, IsDriven, IsDrivenApart, RisesByOrder, SealsByOrder, TakesByOrder}
 use Rattle.mb_run.specs.Letters.{AreLetters, letters_of}
 use Rattle.mb_run.specs.Orders.{asked_by}
 use Rattle.mb_run.specs.Served.{AreSound, AreSoundBy}
@@ -33,19 +31,24 @@ use Rattle.mb_run.specs.Sights.{Seat, Sight}
 use Rattle.mb_kinds.specs.declared.faults.FaultRecord.{FaultRecord}
 use Rattle.mb_plan.specs.Fires.{fires}
 use Rattle.mb_plan.specs.declared.rules.Rule.{Rule}
-use Rattle.mb_run.specs.Runs.{AllStrike, PlannedAreTaken}
 use Rattle.mb_core_spec.specs.declared.stages.Stage.TheVariants as stage
-use Rattle.mb_headline.specs.Headline.{EntersAsOrdered, HasNoDevice, KeepsOrder, RiseAsOrdered, TakesPlanned}
+use Rattle.mb_headline.specs.Headline.{EntersAsOrdered, HasNoDevice, KeepsOrder, RiseAsOrdered, SealsAsOrdered, TakesPlanned}
 
 -- the letters of a job are as an order wants them
 rise_as_ordered : (order : Option (List ℕ)) (callers : List Caller) (history : List Entry) → AreLetters (letters_of callers) → RisesByOrder order callers history → RiseAsOrdered order callers history
 rise_as_ordered None callers history letters rises = tt
 rise_as_ordered (Some order) callers history letters rises = rises letters
 
--- what was taken by the plan's test was taken by its rules
-planned_taken : (order : Option (List ℕ)) (plan : List Rule) (sight : Sight) → PlannedAreTaken → AllStrike plan → TakesByOrder order (Some (fires plan)) sight → TakesPlanned order plan sight.history sight.records
-planned_taken None plan sight law strikes taken = law plan sight.history sight.records strikes taken
-planned_taken (Some order) plan sight law strikes taken = tt
+-- what was taken by the plan's test was taken by the plan
+planned_taken : (order : Option (List ℕ)) (plan : List Rule) (sight : Sight) → TakesByOrder order (Some (fires plan)) sight → TakesPlanned order plan sight.history sight.records
+planned_taken None plan sight taken = taken
+planned_taken (Some order) plan sight taken = tt
+
+-- what was taken of checkpoints over a core that was begun without any records
+sealed_as_ordered : (order : Option (List ℕ)) (old new : Sight) → old.records ≡ [] → old.stage ≡ stage.Running → SealsByOrder order old new → SealsAsOrdered order new.records new.trail
+sealed_as_ordered None old new none runs asks = tt
+sealed_as_ordered (Some order) old new none runs asks = λ no_records.
+    let few = asks.takes (ap length no_records ∙ sym (ap length none)) runs in omega (arith, few)
 
 -- ---- without a plan
 
@@ -98,6 +101,9 @@ module _ {F D : Type 0} (told : D → Option Image) (faults : D → ℕ) (fs : F
   runs : (sight_of begun).stage ≡ stage.Running
   runs = ap (λ (core : CoreState F D). core.stage) over.over.begun
 
+  no_faults : (sight_of begun).records ≡ []
+  no_faults = ap (λ (core : CoreState F D). core.journal.records) over.over.begun
+
   bare : (sight_of begun).trail ≡ []
   bare = ap (λ (core : CoreState F D). core.journal.trail) over.over.begun
 
@@ -108,17 +114,17 @@ module _ {F D : Type 0} (told : D → Option Image) (faults : D → ℕ) (fs : F
   counts : CountsStales (sight_of begun)
   counts caller flight ticket here mine lacks = absurd (no_flight flight (sym (nobody caller) ∙ here))
 
-  pub order_kept : PlannedAreTaken → AllStrike job.plan → AreLetters (letters_of job.callers) → Right told faults driven → IsDriven job (Some (fires job.plan)) (sight_of begun) (sight_of driven)
+  pub order_kept : AreLetters (letters_of job.callers) → Right told faults driven → IsDriven job (Some (fires job.plan)) (sight_of begun) (sight_of driven)
       → KeepsOrder job driven.journal.history driven.journal.records driven.journal.trail
-  order_kept law strikes letters right drives = record {
+  order_kept letters right drives = record {
     lined = drives.lined;
     firsts = rise_as_ordered job.order job.callers driven.journal.history letters drives.firsts;
     enters = enters_as_ordered job.order job (sight_of driven) letters
         (λ none device. plain_without driven.journal.records driven.config.limit driven.stage driven.journal.history (no_records job.plan driven.journal.records none drives.sound)
         right.orderly.numbered.few right.orderly.numbered.says device)
         (drives.enters runs bare);
-    taken = planned_taken job.order job.plan (sight_of driven) law strikes (drives.taken runs);
-    prompt = (let low = drives.seals.prompt in let none = ap (λ (t : List Step). omitted begun.journal.history t) bare ∙ none_omitted begun.journal.history in omega (arith, low, none));
+    taken = planned_taken job.order job.plan (sight_of driven) (drives.taken runs);
+    asked = sealed_as_ordered job.order (sight_of begun) (sight_of driven) no_faults runs drives.asks;
     patient = λ caller. (let low = (drives.seals.told counts).few caller in let none = ap (stales_beyond caller) bare ∙ none_beyond caller in omega (arith, low, none));
   }
 
@@ -135,4 +141,5 @@ driven_apart job test old new drives = record {
   moments = drives.moments;
   sound = sound_by_all test new.records drives.sound;
   seals = drives.seals.undue;
+  prompt = drives.seals.prompt;
 }

@@ -1,7 +1,7 @@
 -- The rules of a job that a text writes fire at early crossings alone.
-use Rattle.std.proofs.Common.{◌≡◌, ◌≢◌, refl, List, [], ◌∷◌, ℕ, zero, suc, ◌+◌, ◌*◌, ◌<◌, ◌≤◌, Bool, true, false, cond, nat_eq, nat_lt, nat_le, inl, inr, Option, None, Some, Ok, length, ap, arith}
+use Rattle.std.proofs.Common.{◌≡◌, List, [], ◌∷◌, ℕ, ◌+◌, ◌*◌, ◌<◌, ◌≤◌, Bool, true, false, cond, nat_eq, nat_lt, nat_le, inl, inr, Option, None, Some, Ok, length, ap, arith}
 use Rattle.std.specs.Prelude.{◌&&◌, ◌-◌}
-use Rattle.std.proofs.lemmas.Bool.{and_parts, eqb-false, leb-true, ltb-true, or_cases}
+use Rattle.std.proofs.lemmas.Bool.{and_parts, leb-true, ltb-true, or_cases}
 use Rattle.std.proofs.lemmas.Option.{same_Some}
 use Rattle.std.specs.List.{AllByRecursion}
 use Rattle.mb_edge.specs.declared.crossings.Crossing.{Crossing}
@@ -13,7 +13,6 @@ use Rattle.mb_jobs.specs.declared.jobs.JobCall.{JobCall}
 use Rattle.mb_jobs.specs.Numbers.{digits_on, from_one, index_in, is_digit, number_below, zero_before}
 use Rattle.mb_jobs.specs.Rules.{kind_in, rule_in, rule_of, rule_of_words, rules_in, strokes_in}
 use Rattle.mb_jobs.specs.Words.{words_in}
-use Rattle.mb_run.specs.Runs.{AllStrike}
 use Rattle.mb_headline.specs.Laws.{IsEarly}
 use Rattle.mb_headline.proofs.Reading.{all_with, and_then_some, no_some, read_keeps, when_some}
 
@@ -74,33 +73,6 @@ words_early calls [] rule is = absurd (no_some rule is)
 pub rules_early : (calls : List JobCall) (texts : List (List ℕ)) (rules : List Rule) → rules_in calls texts ≡ Ok rules → AllByRecursion IsEarly rules
 rules_early calls texts rules is = read_keeps (λ (before : List Rule) (text : List ℕ). rule_in calls text) (AllByRecursion IsEarly)
     (λ before text rule early one. all_with IsEarly before (rule ∷ []) early (words_early calls (words_in text) rule one, tt)) [] texts rules tt is
-
--- ---- rules strike at least once
-
-index_positive : (count : ℕ) (word : List ℕ) (n : ℕ) → index_in count word ≡ Some n → 1 ≤ n
-index_positive count word n is =
-    let parts = and_then_some from_one (number_below (count + 1) word) n is in
-    by_zero parts.0 (nat_eq parts.0 0) refl parts.2
-  where
-    positive : (found n : ℕ) → found ≡ n → found ≢ 0 → 1 ≤ n
-    positive found zero same apart = absurd (apart same)
-    positive found (suc n) same apart = omega arith
-
-    by_zero : (found : ℕ) (b : Bool) → nat_eq found 0 ≡ b → cond b None (Some found) ≡ Some n → 1 ≤ n
-    by_zero found true none is = absurd (no_some n is)
-    by_zero found false some is = (let same = same_Some found n is in let apart = eqb-false found 0 some in positive found n same apart)
-
-words_strike : (calls : List JobCall) (words : List (List ℕ)) (rule : Rule) → rule_of_words calls words ≡ Some rule → 1 ≤ rule.times
-words_strike calls (call ∷ kind ∷ skip ∷ times ∷ strokes) rule is =
-    let parts = rule_parts calls (index_in (length calls) call) (kind_in kind) (number_below 100001 skip) (index_in 255 times) (strokes_in strokes) rule is in index_positive 255 times rule.times parts.1
-words_strike calls (call ∷ kind ∷ skip ∷ []) rule is = absurd (no_some rule is)
-words_strike calls (call ∷ kind ∷ []) rule is = absurd (no_some rule is)
-words_strike calls (call ∷ []) rule is = absurd (no_some rule is)
-words_strike calls [] rule is = absurd (no_some rule is)
-
-pub rules_strike : (calls : List JobCall) (texts : List (List ℕ)) (rules : List Rule) → rules_in calls texts ≡ Ok rules → AllStrike rules
-rules_strike calls texts rules is = read_keeps (λ (before : List Rule) (text : List ℕ). rule_in calls text) AllStrike
-    (λ before text rule strikes one. all_with (λ (rule : Rule). 1 ≤ rule.times) before (rule ∷ []) strikes (words_strike calls (words_in text) rule one, tt)) [] texts rules tt is
 
 -- ---- rules fire early
 

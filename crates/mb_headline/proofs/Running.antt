@@ -18,16 +18,17 @@ use Rattle.mb_plan.specs.Fires.{fires}
 use Rattle.mb_plan.specs.declared.rules.Rule.{Rule}
 use Rattle.mb_run.specs.CoreSight.{seat_of, sight_of}
 use Rattle.mb_run.specs.Drives.{HasEachMoment}
-use Rattle.mb_run.specs.Sights.{Seat, undue_in}
+use Rattle.mb_run.specs.Sights.{Seat, omitted_in, undue_in}
 use Rattle.mb_run.specs.Recovering.{crossing_of}
 use Rattle.mb_run.specs.Runs.{AreDistinct, AnswersFailed, HasRecords, NamesTwo}
-use Rattle.mb_run.specs.Seals.{AreAskedFor, AreInTime}
+use Rattle.mb_run.specs.Seals.{AreAskedFor, AreInTime, omitted}
 use Rattle.mb_run.specs.Served.{AreApart, AreSoundBy, IsApart, calls_in}
 use Rattle.mb_tree.specs.History.{Legal}
 use Rattle.mb_tree.specs.Opening.{opening}
 use Rattle.mb_tree.specs.declared.trees.Tree.{Tree}
 use Rattle.mb_headline.specs.Headline.{HasHistory, HasOrdinals, HasOwnCalls, IsConfigOf, IsRun, opened}
 use Rattle.mb_headline.specs.Laws.{IsEarly, IsPath}
+use Rattle.mb_run.proofs.Omitted.{none_omitted}
 use Rattle.mb_run.proofs.Sealings.{none_undue}
 use Rattle.mb_headline.proofs.Planned.{fires_early}
 
@@ -178,6 +179,13 @@ module _ {F D : Type 0} (fs : F) (told : D → Option Image) (faults : D → ℕ
       subst (λ n. AreAskedFor n asked ended.journal.history ended.journal.trail) path_config.threshold
       (record { run = path.ends.run; few = omega (arith, path_began, driving, low); ends = path.ends.ends })
 
+  path_prompt : omitted ended.journal.history ended.journal.trail ≡ 0
+  path_prompt =
+      let none = ap (λ (core : CoreState F D). omitted_in (sight_of core)) path.over.over.begun ∙ none_omitted [] in
+      let driving = path.drives.prompt in
+      let low = path.keeps.prompt in
+      omega (arith, none, driving, low)
+
   pub path_run : AllByRecursion IsEarly job.plan → IsRun told faults asked job disk ended
   path_run early = record {
     right = path.right;
@@ -192,4 +200,5 @@ module _ {F D : Type 0} (fs : F) (told : D → Option Image) (faults : D → ℕ
     devices = path_devices;
     seals = subst (λ n. AreInTime n (length ended.journal.oplog) ended.journal.sealed_at ended.journal.history) path_config.threshold path.seals;
     checkpoints = path_checkpoints;
+    prompt = path_prompt;
   }

@@ -17,8 +17,10 @@ use Rattle.mb_kinds.specs.declared.entries.Entry.{Entry}
 use Rattle.mb_kinds.specs.declared.faults.FaultRecord.{FaultRecord}
 use Rattle.mb_run.specs.Drives.{HasEachMoment, IsLinedUp}
 use Rattle.mb_run.specs.Letters.{letters_of}
+use Rattle.mb_plan.specs.Fires.{fires}
 use Rattle.mb_plan.specs.declared.rules.Rule.{Rule}
-use Rattle.mb_run.specs.Runs.{EntersFirst, FirstsRise, AnswersFailed, HasRecords, HasTakenFaults}
+use Rattle.mb_run.specs.Orders.{asked_in}
+use Rattle.mb_run.specs.Runs.{EntersFirst, FirstsRise, AnswersFailed, HasRecords, HasTakenFaults, is_seal}
 use Rattle.mb_run.specs.Seals.{AreAskedFor, AreInTime, omitted}
 use Rattle.mb_run.specs.Stales.{stales_beyond}
 use Rattle.mb_run.specs.Served.{calls_in, calls_of}
@@ -82,7 +84,8 @@ HasOrdinals job history = (caller : ℕ) → caller < length job.callers → Are
 -- in which each caller's calls stand once, in its order, with the ordinals from 1 on, each at one of the moments after the start;
 -- its fault records are of faults of the plan; the disk ended at most as many calls as it had faults; and checkpoints were taken in
 -- time: since the last one no sync(2) was done and fewer operations than the threshold are logged, also where the volume failed.
--- Where so many checkpoints were asked for, no more were taken where none was due, but for the one that ends the run
+-- Where so many checkpoints were asked for, no more were taken where none was due, but for the one that ends the run, and right
+-- behind each sync(2) that was logged one was taken
 pub record IsRun {F D : Type 0} (told : D → Option Image) (faults : D → ℕ) (asked : ℕ) (job : Job) (disk : D) (core : CoreState F D) : Type 0 where
   pub right : Right told faults core
   pub first : told core.first ≡ told disk
@@ -96,22 +99,29 @@ pub record IsRun {F D : Type 0} (told : D → Option Image) (faults : D → ℕ)
   pub devices : FewDevices (faults disk) (faults core.cache.disk) core.journal.history
   pub seals : AreInTime job.threshold (length core.journal.oplog) core.journal.sealed_at core.journal.history
   pub checkpoints : AreAskedFor job.threshold asked core.journal.history core.journal.trail
+  pub prompt : omitted core.journal.history core.journal.trail ≡ 0
 
--- in list order the faults of the plan are taken: a call with a plain reply met each that a rule has at its first fault points
+-- in list order the faults of the plan are taken: none was passed over at a fault point to which a call came, as far as its fault
+-- records tell how often it entered, gathered and finished, and a call with a plain reply met one of its own at most
 abbrev pub TakesPlanned : Option (List ℕ) → List Rule → List Entry → List FaultRecord → Type 0
-TakesPlanned None plan history records = HasTakenFaults plan history records
+TakesPlanned None plan history records = HasTakenFaults (Some (fires plan)) history records
 TakesPlanned (Some order) plan history records = Unit {0}
+
+-- by an order, where no fault came, at least as many checkpoints were taken as the order has `=`
+abbrev pub SealsAsOrdered : Option (List ℕ) → List FaultRecord → List Step → Type 0
+SealsAsOrdered None records trail = Unit {0}
+SealsAsOrdered (Some order) records trail = records ≡ [] → asked_in order ≤ count_by is_seal trail
 
 -- where one thread ran the job: without an order its calls stand in the job's order, entry by entry and moment by moment, and
 -- the faults of its plan were taken; by an order the first calls begin as the callers' letters first stand in it, and without
--- faults the trace begins with these calls. Right behind each sync(2) that was logged a checkpoint was taken, and no call was told
--- more than four times, since it last entered, that a copy of its is stale
+-- faults the trace begins with these calls, and checkpoints were taken where it asks for them. No call was told more than four times,
+-- since it last entered, that a copy of its is stale
 pub record KeepsOrder (job : Job) (history : List Entry) (records : List FaultRecord) (trail : List Step) : Type 0 where
   pub lined : IsLinedUp job.order job.calls job.start history
   pub firsts : RiseAsOrdered job.order job.callers history
   pub enters : EntersAsOrdered job.order job history trail
   pub taken : TakesPlanned job.order job.plan history records
-  pub prompt : omitted history trail ≡ 0
+  pub asked : SealsAsOrdered job.order records trail
   pub patient : (caller : ℕ) → stales_beyond caller trail ≡ 0
 
 -- ---- the end of a run

@@ -19,7 +19,6 @@ use Rattle.mb_run.specs.CoreSight.{sight_of}
 use Rattle.mb_run.specs.Drives.{IsBegun, IsDriven, IsDrivenApart, IsRunnable}
 use Rattle.mb_run.specs.Letters.{AreLetters, letters_of}
 use Rattle.mb_run.specs.Orders.{asked_by}
-use Rattle.mb_run.specs.Runs.{AllStrike}
 use Rattle.mb_run.specs.Seals.{AreInTime}
 use Rattle.mb_run.specs.Settling.{IsSettled, KeepsHistory, SealsAtEnd}
 use Rattle.mb_run.specs.Sights.{Sight}
@@ -39,7 +38,6 @@ pub record IsFitJob (job : Job) : Type 0 where
   pub config : (config : Config) → IsConfigOf job config → config.most ≡ length job.calls → IsConfig config
   pub letters : AreLetters (letters_of job.callers)
   pub early : AllByRecursion IsEarly job.plan
-  pub strikes : AllStrike job.plan
 
 -- so is each job that a text writes
 abbrev pub JobsAreFit : Type 0

@@ -7,7 +7,7 @@ use Rattle.mb_core_spec.specs.declared.stages.Stage.{Stage}
 use Rattle.mb_core_spec.specs.declared.stages.Stage.TheVariants as stage
 use Rattle.mb_edge.specs.Causes.{Rose}
 use Rattle.mb_fsops.specs.declared.v7.V7.{V7}
-use Rattle.mb_headline.specs.Headline.{EntersAsOrdered, FewerDevices, IsDone, IsGivenUp, IsRun, KeepsOrder, LeavesImage}
+use Rattle.mb_headline.specs.Headline.{EntersAsOrdered, FewerDevices, IsDone, IsGivenUp, IsRun, KeepsOrder, LeavesImage, SealsAsOrdered}
 use Rattle.mb_headline.specs.Laws.{DrivesKeepOrder, DrivesApart, IsBegunFor, IsFitJob, IsPath, PathsAreRuns, PathsEnd, PathsFail}
 use Rattle.mb_jobs.specs.declared.jobs.Job.{Job}
 use Rattle.mb_kinds.specs.Image.{Image}
@@ -18,9 +18,10 @@ use Rattle.mb_print.specs.Transcript.{end_text, failed_text}
 use Rattle.mb_core_spec.specs.declared.steps.Step.{Step}
 use Rattle.mb_kinds.specs.declared.faults.FaultRecord.{FaultRecord}
 use Rattle.mb_run.proofs.Calm.{enters_on}
+use Rattle.mb_run.proofs.Taking.{seals_more}
 use Rattle.mb_run.specs.CoreSight.{sight_of}
 use Rattle.mb_run.specs.Letters.{letters_of}
-use Rattle.mb_run.specs.Seals.{TrailGoesOn, omitted}
+use Rattle.mb_run.specs.Seals.{TrailGoesOn}
 use Rattle.mb_run.specs.Drives.{IsDriven, IsDrivenApart}
 use Rattle.mb_run.specs.Orders.{asked_by}
 use Rattle.mb_run.specs.Settling.{IsCutShort, IsSettled, KeepsHistory, SealsAtEnd}
@@ -111,6 +112,11 @@ entered_stays : (order : Option (List ℕ)) (job : Job) (history : List Entry) (
 entered_stays None job history trail now goes enters = tt
 entered_stays (Some order) job history trail now goes enters = λ none device. enters_on job.calls (letters_of job.callers) order trail now goes (enters none device)
 
+-- and its checkpoints
+sealed_stays : (order : Option (List ℕ)) (records : List FaultRecord) (trail now : List Step) → TrailGoesOn trail now → SealsAsOrdered order records trail → SealsAsOrdered order records now
+sealed_stays None records trail now goes asked = tt
+sealed_stays (Some order) records trail now goes asked = λ none. (let few = asked none in let more = seals_more trail now goes in omega (arith, few, more))
+
 -- history and fault records stay at the end of a run, and the trace goes on
 kept_stays : {D : Type 0} (job : Job) (driven ended : CoreState V7 D) → KeepsHistory (sight_of driven) (sight_of ended) → KeepsOrder job driven.journal.history driven.journal.records driven.journal.trail
     → KeepsOrder job ended.journal.history ended.journal.records ended.journal.trail
@@ -122,7 +128,7 @@ kept_stays job driven ended keeps order =
       firsts = order.firsts;
       enters = entered_stays job.order job driven.journal.history driven.journal.trail ended.journal.trail keeps.trail order.enters;
       taken = order.taken;
-      prompt = (let low = keeps.prompt in let none = order.prompt in let same = ap (λ (h : List Entry). omitted h ended.journal.trail) keeps.history in omega (arith, low, none, same));
+      asked = sealed_stays job.order driven.journal.records driven.journal.trail ended.journal.trail keeps.trail order.asked;
       patient = λ caller. (let low = keeps.told caller in let none = order.patient caller in omega (arith, low, none));
     }))
 

@@ -54,6 +54,7 @@ by_plan job asked tests count old new same low drives = record {
   moments = drives.moments;
   sound = record { holds = holds_by_plan tests (Some (fires job.plan)) count new.records same low drives.sound.holds; apart = drives.sound.apart };
   seals = drives.seals;
+  prompt = drives.prompt;
 }
 
 pub driven_by_threads : {D : Type 0} (told : D → Option Image) (faults : D → ℕ) (fs : V7) (job : Job) (disk : D) (begun driven : CoreState V7 D) (hooks : List Hooked) (hook : Hooked)

@@ -1,5 +1,5 @@
 -- The checkpoints that an order asks for, and the one at the end of a run.
-use Rattle.std.proofs.Common.{◌≡◌, inl, inr, List, [], ◌∷◌, ℕ, ◌+◌, ◌<◌, ◌≤◌, Bool, cond, Option, get_or, length, take, refl, ap, sym, subst, ◌∙◌, arith}
+use Rattle.std.proofs.Common.{◌≡◌, ◌≢◌, inl, inr, List, [], ◌∷◌, ℕ, ◌+◌, ◌<◌, ◌≤◌, Bool, cond, Option, get_or, length, take, refl, ap, sym, subst, ◌∙◌, arith}
 use Rattle.std.proofs.lemmas.List.{take_more}
 use Rattle.std.proofs.lemmas.List.Sums.{sum_by-append}
 use Rattle.mb_edge.specs.declared.crossings.Crossing.{Crossing}
@@ -9,6 +9,7 @@ use Rattle.mb_run.specs.Settling.{IsFlushed, SealsAtEnd}
 use Rattle.mb_run.specs.Sights.{Sight, undue_in}
 use Rattle.mb_run.specs.declared.runner.Runner.{Runner}
 use Rattle.mb_run.specs.declared.settles.SettleEnd.{SettleEnd}
+use Rattle.mb_run.proofs.Lists.{neq}
 use Rattle.mb_run.proofs.Moving.{whole_then}
 use Rattle.mb_run.specs.Timely.{IsTimely}
 use Rattle.mb_run.proofs.Timely.{timely_more, timely_same, timely_seal}
@@ -26,20 +27,18 @@ pub whole_more : (calls : List JobCall) (test : Option (Crossing → Bool)) (ord
 whole_more calls test order index a b d r s t within one two =
     subst (λ n. IsWhole calls test n a d r t) (sym (asked_more order index within)) (whole_then calls test (asked_in (take index order)) (asked_in (get_or order index 0 ∷ [])) a b d r s t one two)
 
--- where none is asked for, any number may be
-pub whole_asks : (calls : List JobCall) (test : Option (Crossing → Bool)) (asked : ℕ) (a b : Sight) (r s : List Runner) → IsWhole calls test 0 a b r s → IsWhole calls test asked a b r s
-whole_asks calls test asked a b r s whole = record {
-  underway = whole.underway;
-  grows = whole.grows;
-  balanced = whole.balanced;
-  config = whole.config;
-  firsts = whole.firsts;
-  later = whole.later;
-  seals = timely_more a b 0 asked (omega arith) whole.seals;
-}
+-- no other character asks for one
+pub none_asked : (character : ℕ) → character ≢ 61 → asked_in (character ∷ []) ≡ 0
+none_asked character other =
+    let one_if_asked : Bool → ℕ = λ b. cond b 1 0 in
+    let none : one_if_asked (asks character) ≡ 0 = ap one_if_asked (neq character 61 other) in
+    omega (arith, none)
+
+pub whole_asks : (calls : List JobCall) (test : Option (Crossing → Bool)) (character : ℕ) (a b : Sight) (r s : List Runner) → character ≢ 61 → IsWhole calls test 0 a b r s → IsWhole calls test (asked_in (character ∷ [])) a b r s
+whole_asks calls test character a b r s other whole = subst (λ n. IsWhole calls test n a b r s) (sym (none_asked character other)) whole
 
 -- `=` asks for one
-one_asked : (character : ℕ) → character ≡ 61 → asked_in (character ∷ []) ≡ 1
+pub one_asked : (character : ℕ) → character ≡ 61 → asked_in (character ∷ []) ≡ 1
 one_asked character is = ap (λ n. asked_in (n ∷ [])) is
 
 pub asked_seals : (character : ℕ) (old new : Sight) → character ≡ 61 → IsSealedNow old new → IsTimely (asked_in (character ∷ [])) old new

@@ -8,12 +8,12 @@ use Rattle.mb_jobs.specs.declared.jobs.Job.{Job}
 use Rattle.mb_jobs.specs.declared.jobs.JobCall.{JobCall}
 use Rattle.mb_kinds.specs.declared.entries.Entry.{Entry}
 use Rattle.mb_kinds.specs.declared.entries.Flight.{Flight}
-use Rattle.mb_run.specs.Drives.{EntersByOrder, EntersCalmly, TakesByOrder, AreNew, HasEachMoment, IsBegun, IsComplete, IsDriven, IsLinedUp, IsRunnable, RisesByOrder, new_runner}
+use Rattle.mb_run.specs.Drives.{EntersByOrder, EntersCalmly, TakesByOrder, AreNew, HasEachMoment, IsBegun, IsComplete, IsDriven, IsLinedUp, IsRunnable, RisesByOrder, SealsByOrder, new_runner}
 use Rattle.mb_run.specs.Firsts.{HasFirst}
 use Rattle.mb_run.specs.Letters.{AreLetters, HasBegunBy, letters_of}
-use Rattle.mb_run.specs.Runs.{FirstsRise, HasTakenTested}
+use Rattle.mb_run.specs.Runs.{FirstsRise, HasTakenFaults}
 use Rattle.mb_run.specs.Served.{AreSixCounts, IsAfter, IsRunInOrder, IsServedSoFar, AllUnderWay, calls_of, moments_in}
-use Rattle.mb_run.specs.Orders.{asked_by, asked_in}
+use Rattle.mb_run.specs.Orders.{TakesAsked, asked_by, asked_in}
 use Rattle.mb_run.specs.Timely.{IsTimely}
 use Rattle.mb_run.specs.Sights.{IsOrderlyInSight, Limits, Seat, Sight}
 use Rattle.mb_run.specs.declared.runner.Runner.{Runner}
@@ -83,7 +83,7 @@ declared : (job : Job) (old new : Sight) → IsBegun job old → new.config ≡ 
 declared job old new begun config = ap (λ (l : Limits). l.callers) config ∙ begun.callers
 
 pub listed : (job : Job) (test : Option (Crossing → Bool)) (old new : Sight) (callers : ℕ) → IsBegun job old → job.order ≡ None → callers ≡ length job.callers → IsRunInOrder job.calls callers test new → new.config ≡ old.config → IsOrderlyInSight new
-    → (old.stage ≡ stage.Running → HasTakenTested test new.history new.records) → IsTimely 0 old new → IsDriven job test old new
+    → (old.stage ≡ stage.Running → HasTakenFaults test new.history new.records) → IsTimely 0 old new → IsDriven job test old new
 listed job test old new callers begun none same ran config right taken seals =
     let start : new.config.start ≡ job.start = ap (λ (l : Limits). l.start) config ∙ begun.start in
     record {
@@ -98,12 +98,13 @@ listed job test old new callers begun none same ran config right taken seals =
       sound = ran.sound;
       taken = λ runs. subst (λ order. TakesByOrder order test new) (sym none) (taken runs);
       seals = subst (λ order. IsTimely (asked_by order) old new) (sym none) seals;
+      asks = subst (λ order. SealsByOrder order old new) (sym none) tt;
     }
 
 pub ordered : (job : Job) (test : Option (Crossing → Bool)) (old new : Sight) (callers : ℕ) (order : List ℕ) → IsBegun job old → job.order ≡ Some order → callers ≡ length job.callers → IsComplete job.calls callers test new → new.config ≡ old.config → IsOrderlyInSight new
     → (AreLetters (letters_of job.callers) → FirstsRise order (letters_of job.callers) new.history)
-    → (old.stage ≡ stage.Running → old.trail ≡ [] → EntersCalmly order job.callers job.calls test new) → IsTimely (asked_in order) old new → IsDriven job test old new
-ordered job test old new callers order begun some same done config right rises enters seals =
+    → (old.stage ≡ stage.Running → old.trail ≡ [] → EntersCalmly order job.callers job.calls test new) → IsTimely (asked_in order) old new → TakesAsked (asked_in order) old new → IsDriven job test old new
+ordered job test old new callers order begun some same done config right rises enters seals asks =
     let start : new.config.start ≡ job.start = ap (λ (l : Limits). l.start) config ∙ begun.start in
     record {
       config = config;
@@ -117,6 +118,7 @@ ordered job test old new callers order begun some same done config right rises e
       sound = done.sound;
       taken = λ runs. subst (λ given. TakesByOrder given test new) (sym some) tt;
       seals = subst (λ given. IsTimely (asked_by given) old new) (sym some) seals;
+      asks = subst (λ given. SealsByOrder given old new) (sym some) asks;
     }
 
 -- ---- the callers of a job

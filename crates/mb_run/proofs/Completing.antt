@@ -83,17 +83,6 @@ module _ (calls : List JobCall) (index : ℕ) (made : JobCall) (here : slice_get
     ]
   ])
 
-pub counted_first : (calls : List JobCall) → AreCounted calls (0 ∷ 0 ∷ 0 ∷ 0 ∷ 0 ∷ 0 ∷ 0 ∷ 0 ∷ []) 0
-counted_first calls zero few = refl
-counted_first calls (suc zero) few = refl
-counted_first calls (suc (suc zero)) few = refl
-counted_first calls (suc (suc (suc zero))) few = refl
-counted_first calls (suc (suc (suc (suc zero)))) few = refl
-counted_first calls (suc (suc (suc (suc (suc zero))))) few = refl
-counted_first calls (suc (suc (suc (suc (suc (suc zero)))))) few = refl
-counted_first calls (suc (suc (suc (suc (suc (suc (suc zero))))))) few = refl
-counted_first calls (suc (suc (suc (suc (suc (suc (suc (suc n)))))))) few = absurd (omega (arith, few))
-
 pub out_first : (calls : List JobCall) (runners : List Runner) → AreRunOut calls runners 0
 out_first calls runners caller low = omega arith
 

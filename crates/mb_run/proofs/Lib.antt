@@ -1,6 +1,7 @@
 pub mod Lists
 pub mod Counting
 pub mod TallyRecords
+pub mod Twice
 pub mod Tallying
 pub mod TallySteps
 pub mod TallyRolls
@@ -13,6 +14,7 @@ pub mod Stales
 pub mod Omitted
 pub mod Undue
 pub mod Timely
+pub mod Amiss
 pub mod Places
 pub mod Missing
 pub mod Balance
@@ -28,6 +30,7 @@ pub mod Everybody
 pub mod GivingUp
 pub mod Lines
 pub mod Openings
+pub mod Taking
 pub mod Moving
 pub mod Asked
 pub mod RunningOut
@@ -38,7 +41,6 @@ pub mod InOrder
 pub mod Indexed
 pub mod Resting
 pub mod Rising
-pub mod Planned
 pub mod Completing
 pub mod Beginning
 pub mod Ending

@@ -16,6 +16,7 @@ use Rattle.mb_run.proofs.Counting.{same_or_not}
 use Rattle.mb_run.proofs.Everybody.{got, put_here, put_there, put_underway}
 use Rattle.mb_run.proofs.Firsts.{firsts_same, firsts_then}
 use Rattle.mb_run.proofs.Going.{IsTurning, nears_then}
+use Rattle.mb_run.proofs.Taking.{takes_acts, takes_same, takes_then}
 use Rattle.mb_run.proofs.Timely.{timely_refl, timely_then}
 use Rattle.mb_run.proofs.Trails.{lengthens_same, lengthens_then}
 
@@ -83,10 +84,11 @@ moved_whole calls test old new runners caller d now underway low moves right = r
   firsts = moves.nears.acts.firsts;
   later = record { entries = moves.nears.acts.entries; history = moves.nears.acts.grown; trail = moves.nears.acts.trail };
   seals = moves.nears.seals;
+  takes = takes_acts (get_or runners caller d).crossings.caller old new moves.nears.acts;
 }
 
 pub whole_same : (calls : List JobCall) (test : Option (Crossing → Bool)) (sight : Sight) (runners : List Runner) → AllUnderWay calls test sight runners → IsWhole calls test 0 sight sight runners runners
-whole_same calls test sight runners underway = record { underway = underway; grows = grows_same runners; balanced = λ even. even; config = refl; firsts = firsts_same sight; later = lengthens_same sight; seals = timely_refl sight }
+whole_same calls test sight runners underway = record { underway = underway; grows = grows_same runners; balanced = λ even. even; config = refl; firsts = firsts_same sight; later = lengthens_same sight; seals = timely_refl sight; takes = takes_same sight }
 
 pub whole_then : (calls : List JobCall) (test : Option (Crossing → Bool)) (m n : ℕ) (a b d : Sight) (r s t : List Runner) → IsWhole calls test m a b r s → IsWhole calls test n b d s t → IsWhole calls test (m + n) a d r t
 whole_then calls test m n a b d r s t one two = record {
@@ -97,6 +99,7 @@ whole_then calls test m n a b d r s t one two = record {
   firsts = firsts_then a b d one.config one.firsts two.firsts;
   later = lengthens_then a b d one.later two.later;
   seals = timely_then a b d m n one.seals two.seals;
+  takes = takes_then a b d m n one.takes two.takes;
 }
 
 no_yes : false ≡ true → ⊥

@@ -1,16 +1,17 @@
 -- What leaves all calls as they are.
-use Rattle.std.proofs.Common.{◌≡◌, List, [], ◌∷◌, ℕ, ◌<◌, Bool, true, inl, inr, refl, ap, sym, subst, ◌∙◌, arith, Option, None, Some, length}
+use Rattle.std.proofs.Common.{◌≡◌, List, [], ◌∷◌, ℕ, ◌+◌, ◌<◌, ◌≤◌, Bool, true, inl, inr, refl, ap, sym, subst, ◌∙◌, arith, Option, None, Some, length}
 use Rattle.std.proofs.lemmas.List.{append-nil}
 use Rattle.std.proofs.lemmas.Option.{slice_get_within}
 use Rattle.mb_cache.specs.declared.answers.Flushed.{Flushed}
 use Rattle.mb_cache.specs.declared.answers.Flushed.TheVariants as flushed
+use Rattle.mb_core_spec.specs.declared.stages.Stage.TheVariants as stage
 use Rattle.mb_core_spec.specs.declared.steps.Step.TheVariants as step
 use Rattle.mb_edge.specs.declared.crossings.Crossing.{Crossing}
 use Rattle.mb_edge.specs.declared.crossings.Crossings.{Crossings}
 use Rattle.mb_jobs.specs.declared.jobs.JobCall.{JobCall}
 use Rattle.mb_kinds.specs.Own.{own}
 use Rattle.mb_run.specs.Events.{FlushesWith, sealed}
-use Rattle.mb_run.specs.Orders.{IsQuiet, IsWhole}
+use Rattle.mb_run.specs.Orders.{IsQuiet, IsWhole, seals_in}
 use Rattle.mb_run.specs.Recovering.{GoOn, Steps, Waits}
 use Rattle.mb_run.specs.Served.{ActsAlone, AllUnderWay, calls_of}
 use Rattle.mb_run.specs.Sights.{IsOrderlyInSight, Limits, Sight, recovers}
@@ -22,6 +23,7 @@ use Rattle.mb_run.proofs.Balance.{balanced_same}
 use Rattle.mb_run.proofs.Firsts.{firsts_still}
 use Rattle.mb_run.proofs.Moving.{grows_same}
 use Rattle.mb_run.proofs.Rolling.{not_running, other_served}
+use Rattle.mb_run.proofs.Taking.{takes_quiet}
 use Rattle.mb_run.proofs.Trails.{trail_marks, trail_put, trail_same}
 
 pub quiet_acts : (caller : ℕ) (old new : Sight) → IsQuiet old new → ActsAlone caller old new
@@ -45,8 +47,9 @@ quiet_acts caller old new quiet = record {
   trail = quiet.trail;
 }
 
-pub quiet_whole : (calls : List JobCall) (test : Option (Crossing → Bool)) (asked : ℕ) (old new : Sight) (runners : List Runner) → AllUnderWay calls test old runners → IsQuiet old new → IsTimely asked old new → IsOrderlyInSight new → IsWhole calls test asked old new runners runners
-quiet_whole calls test asked old new runners underway quiet seals right = record {
+pub quiet_whole : (calls : List JobCall) (test : Option (Crossing → Bool)) (asked : ℕ) (old new : Sight) (runners : List Runner) → AllUnderWay calls test old runners → IsQuiet old new → IsTimely asked old new → (old.stage ≡ stage.Running → seals_in old + asked ≤ seals_in new) → IsOrderlyInSight new
+    → IsWhole calls test asked old new runners runners
+quiet_whole calls test asked old new runners underway quiet seals takes right = record {
   underway = record {
     served = λ caller runner here. other_served (calls_of calls caller) (length runners) caller old new runner
         (λ same. (let low : caller < length runners = slice_get_within runners caller runner here in omega (arith, low, same)))
@@ -64,6 +67,7 @@ quiet_whole calls test asked old new runners underway quiet seals right = record
   firsts = firsts_still old new quiet.counts.history quiet.counts.begun quiet.seats;
   later = record { entries = []; history = quiet.counts.history ∙ sym (append-nil old.history); trail = quiet.trail };
   seals = seals;
+  takes = takes_quiet asked old new quiet takes;
 }
 
 pub quiet_same : (old new : Sight) → new ≡ old → IsQuiet old new

@@ -1,5 +1,6 @@
 -- A job in list order, call after call: the faults that are taken.
-use Rattle.std.proofs.Common.{◌≡◌, List, [], ◌∷◌, ℕ, ◌<◌, ◌≤◌, Bool, true, false, ◌&&◌, nat_eq, length, inl, inr, refl, ap, sym, subst, ◌∙◌, arith, Option, Some, slice_get, slice_set, get_or}
+use Rattle.std.proofs.Common.{◌≡◌, List, [], ◌∷◌, ℕ, ◌<◌, ◌≤◌, Bool, true, false, ◌&&◌, cond, nat_eq, length, inl, inr, refl, ap, sym, subst, ◌∙◌, arith, Option, None, Some, slice_get, slice_set, get_or}
+use Rattle.std.proofs.lemmas.List.Sums.{sum_by-cons}
 use Rattle.std.specs.List.{AllByRecursion}
 use Rattle.mb_core_spec.specs.declared.stages.Stage.{Stage}
 use Rattle.mb_core_spec.specs.declared.stages.Stage.TheVariants as stage
@@ -14,15 +15,15 @@ use Rattle.mb_kinds.specs.declared.faults.Kind.TheVariants.{Enter, Gather, Finis
 use Rattle.mb_plan.specs.Fires.{same_kind}
 use Rattle.mb_run.specs.Drives.{AreNew, IsBegun}
 use Rattle.mb_run.specs.Recovering.{awaits_remount}
-use Rattle.mb_run.specs.Runs.{HasTakenTested, TakesTested, is_of, is_plain, is_struck, is_struck_inside}
+use Rattle.mb_run.specs.Runs.{EntryTakesFaults, HasTakenFaults, TakesUpTo, is_of, strikes_of}
 use Rattle.mb_run.specs.Served.{IsAfter, IsCounted, Nears}
 use Rattle.mb_run.specs.Sights.{Sight, one_if}
-use Rattle.mb_run.specs.Tallies.{AreRested, AreTallied, HasPassedPoints, HasTallied, IsBetween, IsPast, IsRested, IsTallied, count_of}
-use Rattle.mb_run.specs.declared.runner.At.TheVariants as at
+use Rattle.mb_run.specs.Tallies.{AreRested, AreTallied, HasTallied, IsBetween, IsPast, IsRested, IsTallied, count_of}
 use Rattle.mb_run.specs.declared.runner.Runner.{Runner}
 use Rattle.mb_run.proofs.Counting.{same_or_not}
 use Rattle.mb_run.proofs.Everybody.{got, put_get}
 use Rattle.mb_run.proofs.Lists.{all_both, all_map, neq}
+use Rattle.mb_run.proofs.Tallying.{passed_back}
 
 -- ---- no record is of a call that did not begin
 
@@ -51,20 +52,27 @@ none_of crossings zeros kind fault counted positive = none_and (nat_eq fault.cal
 ])
 
 none_struck : (crossings : Crossings) → crossings.counts ≡ 0 ∷ 0 ∷ 0 ∷ 0 ∷ 0 ∷ 0 ∷ [] → (kind : Kind) (records : List FaultRecord) → AllByRecursion (IsCounted crossings) records → AllByRecursion (λ (fault : FaultRecord). 1 ≤ fault.nth) records
-    → is_struck records crossings.caller crossings.ordinal kind ≡ false
-none_struck crossings zeros kind [] counted positive = refl
-none_struck crossings zeros kind (fault ∷ records) counted positive = rw (none_of crossings zeros kind fault counted.0 positive.0) (none_struck crossings zeros kind records counted.1 positive.1)
-
-none_inside : (crossings : Crossings) → crossings.counts ≡ 0 ∷ 0 ∷ 0 ∷ 0 ∷ 0 ∷ 0 ∷ [] → (records : List FaultRecord) → AllByRecursion (IsCounted crossings) records → AllByRecursion (λ (fault : FaultRecord). 1 ≤ fault.nth) records
-    → is_struck_inside records crossings.caller crossings.ordinal ≡ false
-none_inside crossings zeros records counted positive = rw (none_struck crossings zeros Enter records counted positive, none_struck crossings zeros Gather records counted positive, none_struck crossings zeros Finish records counted positive) refl
+    → strikes_of records crossings.caller crossings.ordinal kind ≡ 0
+none_struck crossings zeros kind [] counted positive = omega arith
+none_struck crossings zeros kind (fault ∷ records) counted positive =
+    let test : FaultRecord → Bool = is_of crossings.caller crossings.ordinal kind in
+    let one_if_it : Bool → ℕ = λ b. cond b 1 0 in
+    let here : one_if_it (test fault) ≡ 0 = ap one_if_it (none_of crossings zeros kind fault counted.0 positive.0) in
+    let all = sum_by-cons (λ (f : FaultRecord). cond (test f) 1 0) fault records in
+    let rest = none_struck crossings zeros kind records counted.1 positive.1 in
+    omega (arith, here, all, rest)
 
 -- ---- a caller before a call
 
 past_all : (test : Option (Crossing → Bool)) (records : List FaultRecord) (crossings : Crossings) (answered : Bool) (history : List Entry) → AllByRecursion (λ (entry : Entry). entry.caller ≡ crossings.caller → entry.ordinal < crossings.ordinal) history
-    → AllByRecursion (λ (entry : Entry). is_plain entry.reply ≡ true → TakesTested test records entry) history → AllByRecursion (IsPast test records crossings answered) history
+    → AllByRecursion (EntryTakesFaults test records) history → AllByRecursion (IsPast test records crossings answered) history
 past_all test records crossings answered [] earlier taken = tt
 past_all test records crossings answered (entry ∷ history) earlier taken = (inr (earlier.0, taken.0), past_all test records crossings answered history earlier.1 taken.1)
+
+-- at no fault point no fault was passed over
+taken_none : (test : Option (Crossing → Bool)) (records : List FaultRecord) (crossings : Crossings) (kind : Kind) → count_of crossings kind ≡ 0 → TakesUpTo test records crossings.caller crossings.ordinal kind (count_of crossings kind)
+taken_none None records crossings kind none = tt
+taken_none (Some fires) records crossings kind none = λ nth one high holds. absurd (omega (arith, one, high, none))
 
 rest_tally : (test : Option (Crossing → Bool)) (sight : Sight) (runner : Runner) → HasTallied test sight → IsRested sight.history runner → AllByRecursion (IsCounted runner.crossings) sight.records → IsTallied test sight runner runner.at
 rest_tally test sight runner tallied rested counted =
@@ -73,7 +81,12 @@ rest_tally test sight runner tallied rested counted =
     let finishes = zero_count runner.crossings zeros Finish in
     let remounts = zero_count runner.crossings zeros Remount in
     let fewer = tallied.remounts in
-    let none = none_inside runner.crossings zeros sight.records counted tallied.records.positive in
+    let none : (kind : Kind) → strikes_of sight.records runner.crossings.caller runner.crossings.ordinal kind ≡ 0 = λ kind. none_struck runner.crossings zeros kind sight.records counted tallied.records.positive in
+    let e = none Enter in
+    let g = none Gather in
+    let f = none Finish in
+    let r = none Remount in
+    let p = none Replay in
     subst (IsTallied test sight runner) (sym rested.outside) (record {
       asked = rested.asked;
       present = tt;
@@ -81,9 +94,9 @@ rest_tally test sight runner tallied rested counted =
       enters = omega (arith, enters);
       finishes = omega (arith, finishes);
       remounts = omega (arith, remounts, fewer);
-      passed = subst (λ (b : Bool). HasPassedPoints runner.crossings runner.pages b at.Outside) (sym rested.lacks) (zero_count runner.crossings zeros Leave);
-      taken = λ kind some. absurd (some (zero_count runner.crossings zeros kind));
-      restarted = λ struck. absurd (let wrong : true ≡ false = sym struck ∙ none in cc);
+      passed = passed_back sight.records runner.crossings runner.pages runner.answered rested.lacks (record { twice = omega (arith, e, g, f); enters = omega (arith, e, g, f); gathers = omega (arith, g, f); finishes = omega (arith, f) }) (zero_count runner.crossings zeros Leave);
+      taken = λ kind. taken_none test sight.records runner.crossings kind (zero_count runner.crossings zeros kind);
+      restarted = inl (omega (arith, e, g, f, r, p));
       entries = past_all test sight.records runner.crossings runner.answered sight.history rested.earlier tallied.taken;
     })
 
@@ -121,7 +134,7 @@ module _ (calls : List JobCall) (test : Option (Crossing → Bool)) (old : Sight
         ];
       }
 
-pub rested_end : (test : Option (Crossing → Bool)) (sight : Sight) (runners : List Runner) → AreRested test sight runners → HasTakenTested test sight.history sight.records
+pub rested_end : (test : Option (Crossing → Bool)) (sight : Sight) (runners : List Runner) → AreRested test sight runners → HasTakenFaults test sight.history sight.records
 rested_end test sight runners rested = record { taken = rested.tallied.taken; near = rested.tallied.records.near }
 
 pub rested_begin : (job : Job) (test : Option (Crossing → Bool)) (sight : Sight) (runners : List Runner) → IsBegun job sight → AreNew runners (length job.callers) → sight.stage ≡ stage.Running → AreRested test sight runners
@@ -131,7 +144,7 @@ rested_begin job test sight runners begun new runs =
       tallied = record {
         records = subst AreTallied (sym begun.records) (record { near = tt; positive = tt });
         remounts = omega (arith, none);
-        taken = subst (λ (es : List Entry). AllByRecursion (λ (entry : Entry). is_plain entry.reply ≡ true → TakesTested test sight.records entry) es) (sym begun.history) tt;
+        taken = subst (λ (es : List Entry). AllByRecursion (EntryTakesFaults test sight.records) es) (sym begun.history) tt;
       };
       rested = λ caller runner is. subst (IsRested sight.history) (sym (new.each caller runner is)) (record {
         asked = refl;

@@ -81,13 +81,6 @@ module _ (caller : ℕ) where
       unfolding stales_beyond
       entered_beyond = ap (λ (s : Stales). s.beyond) (put (step.Entered ticket)) ∙ (entered_no_more (nat_eq ticket.caller caller) (staling_after caller untold trail)).beyond
 
-      pub entered_low : stales_since caller (trail ++ step.Entered ticket ∷ []) ≤ stales_since caller trail
-      unfolding stales_since
-      entered_low =
-          let is = ap (λ (s : Stales). s.since) (put (step.Entered ticket)) in
-          let low = (entered_no_more (nat_eq ticket.caller caller) (staling_after caller untold trail)).since in
-          omega (arith, is, low)
-
       -- a call is told that a copy is stale
       module _ (block : ℕ) where
         told : staling_after caller untold (trail ++ step.Stale ticket block ∷ []) ≡ told_if (nat_eq ticket.caller caller) (staling_after caller untold trail)

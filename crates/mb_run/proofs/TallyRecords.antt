@@ -1,7 +1,9 @@
 -- What fault records tell of the fault points of calls, with one record more.
-use Rattle.std.proofs.Common.{◌≡◌, ◌≢◌, List, [], ◌∷◌, ◌++◌, ℕ, zero, suc, ◌+◌, ◌<◌, ◌≤◌, Bool, true, false, ◌&&◌, ◌||◌, length, nat_eq, inl, inr, refl, ap, sym, subst, ◌∙◌, arith, add-zero, Option, None, Some, IfSome, slice_index}
+use Rattle.std.proofs.Common.{◌≡◌, ◌≢◌, List, [], ◌∷◌, ◌++◌, ℕ, zero, suc, ◌+◌, ◌-◌, ◌<◌, ◌≤◌, Bool, true, false, ◌&&◌, ◌||◌, cond, length, nat_eq, inl, inr, refl, ap, sym, subst, ◌∙◌, arith, add-zero, Option, None, Some, IfSome, slice_index}
 use Rattle.std.proofs.lemmas.Bool.{eq-eqb}
+use Rattle.std.proofs.lemmas.Bool.Decides.{leb_tells}
 use Rattle.std.proofs.lemmas.List.Folds.{list_any-append}
+use Rattle.std.proofs.lemmas.List.Sums.{sum_by_push}
 use Rattle.std.specs.List.{list_any}
 use Rattle.mb_edge.specs.Crossings.{next_nth, place_of}
 use Rattle.mb_edge.specs.declared.crossings.Crossing.{Crossing}
@@ -11,8 +13,9 @@ use Rattle.mb_kinds.specs.declared.faults.FaultRecord.{FaultRecord}
 use Rattle.mb_kinds.specs.declared.faults.Kind.{Kind}
 use Rattle.mb_kinds.specs.declared.faults.Kind.TheVariants.{Enter, Gather, Finish, Leave, Remount, Replay}
 use Rattle.mb_plan.specs.Fires.{same_kind}
-use Rattle.mb_run.specs.Runs.{AreNear, IsTakenFirst, TakesTested, is_near, is_of, is_struck, is_struck_first, is_struck_inside}
+use Rattle.mb_run.specs.Runs.{AreNear, TakesFaults, TakesUpTo, is_near, is_of, is_plain, is_struck_at, recoveries_of, strikes_inside, strikes_of}
 use Rattle.mb_run.specs.Served.{AreSixCounts, counted}
+use Rattle.mb_run.specs.Sights.{one_if}
 use Rattle.mb_run.specs.Tallies.{AreTallied, IsPast, count_of}
 use Rattle.mb_run.proofs.Counting.{here, same_or_not, there}
 use Rattle.mb_run.proofs.Lists.{all_both, neq}
@@ -25,10 +28,6 @@ or_left a b is = rw is refl
 or_right : (a b : Bool) → b ≡ true → (a || b) ≡ true
 or_right true b is = refl
 or_right false b is = is
-
-or_false : (a b : Bool) → b ≡ false → (a || b) ≡ a
-or_false true b is = refl
-or_false false b is = is
 
 and_false : (a b : Bool) → a ≡ false → (a && b) ≡ false
 and_false a b is = rw is refl
@@ -50,47 +49,76 @@ tallied_push records fault are near one = record {
   positive = all_both (λ (f : FaultRecord). 1 ≤ f.nth) records (fault ∷ []) are.positive (one, tt);
 }
 
-first_stays : (records : List FaultRecord) (fault : FaultRecord) (caller ordinal : ℕ) (kind : Kind) → is_struck_first records caller ordinal kind ≡ true → is_struck_first (records ++ fault ∷ []) caller ordinal kind ≡ true
-first_stays records fault caller ordinal kind is =
-    let test : FaultRecord → Bool = λ (f : FaultRecord). is_of caller ordinal kind f && nat_eq f.nth 1 in
+-- a struck fault point stays struck
+struck_stays : (records : List FaultRecord) (fault : FaultRecord) (caller ordinal : ℕ) (kind : Kind) (nth : ℕ) → is_struck_at records caller ordinal kind nth ≡ true → is_struck_at (records ++ fault ∷ []) caller ordinal kind nth ≡ true
+struck_stays records fault caller ordinal kind nth is =
+    let test : FaultRecord → Bool = λ (f : FaultRecord). is_of caller ordinal kind f && nat_eq f.nth nth in
     list_any-append test records (fault ∷ []) ∙ or_left (list_any test records) (list_any test (fault ∷ [])) is
 
-pub taken_stays : (test : Option (Crossing → Bool)) (records : List FaultRecord) (fault : FaultRecord) (caller ordinal : ℕ) (kind : Kind) → IsTakenFirst test records caller ordinal kind → IsTakenFirst test (records ++ fault ∷ []) caller ordinal kind
-taken_stays None records fault caller ordinal kind taken = tt
-taken_stays (Some fires) records fault caller ordinal kind taken = λ holds. first_stays records fault caller ordinal kind (taken holds)
+pub up_to_stays : (test : Option (Crossing → Bool)) (records : List FaultRecord) (fault : FaultRecord) (caller ordinal : ℕ) (kind : Kind) (most : ℕ) → TakesUpTo test records caller ordinal kind most → TakesUpTo test (records ++ fault ∷ []) caller ordinal kind most
+up_to_stays None records fault caller ordinal kind most taken = tt
+up_to_stays (Some fires) records fault caller ordinal kind most taken = λ nth low high holds. struck_stays records fault caller ordinal kind nth (taken nth low high holds)
+
+pub up_to_less : (test : Option (Crossing → Bool)) (records : List FaultRecord) (caller ordinal : ℕ) (kind : Kind) (most less : ℕ) → less ≤ most → TakesUpTo test records caller ordinal kind most → TakesUpTo test records caller ordinal kind less
+up_to_less None records caller ordinal kind most less low taken = tt
+up_to_less (Some fires) records caller ordinal kind most less low taken = λ nth one high holds. taken nth one (omega (arith, high, low)) holds
 
 same_kind_is : (kind : Kind) → same_kind kind kind ≡ true
 same_kind_is kind = eq-eqb (place_of kind) (place_of kind) refl
 
--- the record is of a call's first fault point of a kind
-pub first_here : (test : Option (Crossing → Bool)) (records : List FaultRecord) (crossings : Crossings) (kind : Kind) (nth : ℕ) → nth ≡ 1 → IsTakenFirst test (records ++ fault_at crossings kind nth ∷ []) crossings.caller crossings.ordinal kind
-first_here None records crossings kind nth one = tt
-first_here (Some fires) records crossings kind nth one = λ holds.
-    (let test : FaultRecord → Bool = λ (f : FaultRecord). is_of crossings.caller crossings.ordinal kind f && nat_eq f.nth 1 in
-    let is : test (fault_at crossings kind nth) ≡ true = rw (eq-eqb crossings.caller crossings.caller refl, eq-eqb crossings.ordinal crossings.ordinal refl, same_kind_is kind, eq-eqb nth 1 one) refl in
-    list_any-append test records (fault_at crossings kind nth ∷ []) ∙ or_right (list_any test records) (list_any test (fault_at crossings kind nth ∷ [])) (or_left (test (fault_at crossings kind nth)) false is))
+-- the record is of that fault point
+struck_here : (records : List FaultRecord) (crossings : Crossings) (kind : Kind) (nth at : ℕ) → nth ≡ at → is_struck_at (records ++ fault_at crossings kind nth ∷ []) crossings.caller crossings.ordinal kind at ≡ true
+struck_here records crossings kind nth at same =
+    let test : FaultRecord → Bool = λ (f : FaultRecord). is_of crossings.caller crossings.ordinal kind f && nat_eq f.nth at in
+    let is : test (fault_at crossings kind nth) ≡ true = rw (eq-eqb crossings.caller crossings.caller refl, eq-eqb crossings.ordinal crossings.ordinal refl, same_kind_is kind, eq-eqb nth at same) refl in
+    list_any-append test records (fault_at crossings kind nth ∷ []) ∙ or_right (list_any test records) (list_any test (fault_at crossings kind nth ∷ [])) (or_left (test (fault_at crossings kind nth)) false is)
 
--- ---- the record of another call, or of another kind
+-- ---- how many faults struck a call, with one record more
 
-struck_other : (records : List FaultRecord) (fault : FaultRecord) (caller ordinal : ℕ) (kind : Kind) → is_of caller ordinal kind fault ≡ false → is_struck (records ++ fault ∷ []) caller ordinal kind ≡ is_struck records caller ordinal kind
-struck_other records fault caller ordinal kind not =
-    let test : FaultRecord → Bool = λ (f : FaultRecord). is_of caller ordinal kind f in
-    list_any-append test records (fault ∷ []) ∙ or_false (list_any test records) (list_any test (fault ∷ [])) (or_false (is_of caller ordinal kind fault) false refl ∙ not)
+strikes_push : (records : List FaultRecord) (fault : FaultRecord) (caller ordinal : ℕ) (kind : Kind) → strikes_of (records ++ fault ∷ []) caller ordinal kind ≡ strikes_of records caller ordinal kind + cond (is_of caller ordinal kind fault) 1 0
+strikes_push records fault caller ordinal kind = sum_by_push (λ (f : FaultRecord). cond (is_of caller ordinal kind f) 1 0) records fault
 
-pub inside_other : (records : List FaultRecord) (fault : FaultRecord) (caller ordinal : ℕ) → is_of caller ordinal Enter fault ≡ false → is_of caller ordinal Gather fault ≡ false → is_of caller ordinal Finish fault ≡ false
-    → is_struck_inside (records ++ fault ∷ []) caller ordinal ≡ is_struck_inside records caller ordinal
-inside_other records fault caller ordinal enters gathers finishes =
-    rw (struck_other records fault caller ordinal Enter enters, struck_other records fault caller ordinal Gather gathers, struck_other records fault caller ordinal Finish finishes) refl
+strikes_other : (records : List FaultRecord) (fault : FaultRecord) (caller ordinal : ℕ) (kind : Kind) → is_of caller ordinal kind fault ≡ false → strikes_of (records ++ fault ∷ []) caller ordinal kind ≡ strikes_of records caller ordinal kind
+strikes_other records fault caller ordinal kind not =
+    strikes_push records fault caller ordinal kind ∙ ap (λ b. strikes_of records caller ordinal kind + cond b 1 0) not ∙ add-zero (strikes_of records caller ordinal kind)
 
-kind_not : (caller ordinal : ℕ) (kind : Kind) (fault : FaultRecord) → same_kind fault.kind kind ≡ false → is_of caller ordinal kind fault ≡ false
-kind_not caller ordinal kind fault other = elim (nat_eq fault.caller caller && nat_eq fault.ordinal ordinal) as (λ b. (b && same_kind fault.kind kind) ≡ false) [ true ↦ other | false ↦ refl ]
+-- a record of the call itself
+module _ (records : List FaultRecord) (crossings : Crossings) (kind : Kind) (nth : ℕ) where
+  pub strikes_more : (of : Kind) → strikes_of (records ++ fault_at crossings kind nth ∷ []) crossings.caller crossings.ordinal of ≡ strikes_of records crossings.caller crossings.ordinal of + cond (same_kind kind of) 1 0
+  strikes_more of =
+      let is : is_of crossings.caller crossings.ordinal of (fault_at crossings kind nth) ≡ same_kind kind of = rw (eq-eqb crossings.caller crossings.caller refl, eq-eqb crossings.ordinal crossings.ordinal refl) refl in
+      strikes_push records (fault_at crossings kind nth) crossings.caller crossings.ordinal of ∙ ap (λ b. strikes_of records crossings.caller crossings.ordinal of + cond b 1 0) is
 
--- a record of another kind than Enter, Gather and Finish
-pub inside_later : (records : List FaultRecord) (fault : FaultRecord) (caller ordinal : ℕ) → 3 ≤ place_of fault.kind → is_struck_inside (records ++ fault ∷ []) caller ordinal ≡ is_struck_inside records caller ordinal
-inside_later records fault caller ordinal late = inside_other records fault caller ordinal
-    (kind_not caller ordinal Enter fault (neq (place_of fault.kind) 0 (λ same. omega (arith, same, late))))
-    (kind_not caller ordinal Gather fault (neq (place_of fault.kind) 1 (λ same. omega (arith, same, late))))
-    (kind_not caller ordinal Finish fault (neq (place_of fault.kind) 2 (λ same. omega (arith, same, late))))
+  -- of another kind
+  pub strikes_there : (of : Kind) → place_of kind ≢ place_of of → strikes_of (records ++ fault_at crossings kind nth ∷ []) crossings.caller crossings.ordinal of ≡ strikes_of records crossings.caller crossings.ordinal of
+  strikes_there of apart =
+      strikes_more of ∙ ap (λ b. strikes_of records crossings.caller crossings.ordinal of + cond b 1 0) (neq (place_of kind) (place_of of) apart) ∙ add-zero (strikes_of records crossings.caller crossings.ordinal of)
+
+  -- of its own kind
+  pub strikes_here : strikes_of (records ++ fault_at crossings kind nth ∷ []) crossings.caller crossings.ordinal kind ≡ strikes_of records crossings.caller crossings.ordinal kind + 1
+  strikes_here = strikes_more kind ∙ ap (λ b. strikes_of records crossings.caller crossings.ordinal kind + cond b 1 0) (same_kind_is kind)
+
+  -- it counts once at most
+  pub recoveries_most : recoveries_of (records ++ fault_at crossings kind nth ∷ []) crossings.caller crossings.ordinal ≤ recoveries_of records crossings.caller crossings.ordinal + 1
+  recoveries_most = let one = once kind in let e = strikes_more Enter in let g = strikes_more Gather in let f = strikes_more Finish in let r = strikes_more Remount in let p = strikes_more Replay in omega (arith, one, e, g, f, r, p)
+    where
+      once : (of : Kind) → cond (same_kind of Enter) 1 0 + (cond (same_kind of Gather) 1 0 + (cond (same_kind of Finish) 1 0 + (cond (same_kind of Remount) 1 0 + cond (same_kind of Replay) 1 0))) ≤ 1
+      once Enter = omega arith
+      once Gather = omega arith
+      once Finish = omega arith
+      once Leave = omega arith
+      once Remount = omega arith
+      once Replay = omega arith
+
+  -- a record of where a call leaves counts for none
+  pub recoveries_left : place_of kind ≡ 3 → recoveries_of (records ++ fault_at crossings kind nth ∷ []) crossings.caller crossings.ordinal ≡ recoveries_of records crossings.caller crossings.ordinal
+  recoveries_left third =
+      let e = strikes_there Enter (λ same. omega (arith, third, same)) in
+      let g = strikes_there Gather (λ same. omega (arith, third, same)) in
+      let f = strikes_there Finish (λ same. omega (arith, third, same)) in
+      let r = strikes_there Remount (λ same. omega (arith, third, same)) in
+      let p = strikes_there Replay (λ same. omega (arith, third, same)) in
+      omega (arith, e, g, f, r, p)
 
 -- a record of another call
 not_of : (caller ordinal one other : ℕ) → (one ≡ caller → other < ordinal) → (nat_eq caller one && nat_eq ordinal other) ≡ false
@@ -102,29 +130,36 @@ not_of caller ordinal one other earlier = elim (same_or_not caller one) [
   and_no true = refl
   and_no false = refl
 
-pub inside_apart : (records : List FaultRecord) (crossings : Crossings) (kind : Kind) (nth caller ordinal : ℕ) → (caller ≡ crossings.caller → ordinal < crossings.ordinal) → is_struck_inside (records ++ fault_at crossings kind nth ∷ []) caller ordinal ≡ is_struck_inside records caller ordinal
-inside_apart records crossings kind nth caller ordinal earlier =
-    let not : (k : Kind) → is_of caller ordinal k (fault_at crossings kind nth) ≡ false = λ k. and_false (nat_eq crossings.caller caller && nat_eq crossings.ordinal ordinal) (same_kind kind k) (not_of crossings.caller crossings.ordinal caller ordinal earlier) in
-    inside_other records (fault_at crossings kind nth) caller ordinal (not Enter) (not Gather) (not Finish)
+strikes_apart : (records : List FaultRecord) (crossings : Crossings) (kind : Kind) (nth caller ordinal : ℕ) → (caller ≡ crossings.caller → ordinal < crossings.ordinal) → (of : Kind) → strikes_of (records ++ fault_at crossings kind nth ∷ []) caller ordinal of ≡ strikes_of records caller ordinal of
+strikes_apart records crossings kind nth caller ordinal earlier of = strikes_other records (fault_at crossings kind nth) caller ordinal of
+    (and_false (nat_eq crossings.caller caller && nat_eq crossings.ordinal ordinal) (same_kind kind of) (not_of crossings.caller crossings.ordinal caller ordinal earlier))
+
+-- its faults stay taken
+takes_stays : (test : Option (Crossing → Bool)) (records : List FaultRecord) (fault : FaultRecord) (caller ordinal plain : ℕ) → ((of : Kind) → strikes_of (records ++ fault ∷ []) caller ordinal of ≡ strikes_of records caller ordinal of) → TakesFaults test records caller ordinal plain
+    → TakesFaults test (records ++ fault ∷ []) caller ordinal plain
+takes_stays test records fault caller ordinal plain same was =
+    let now : List FaultRecord = records ++ fault ∷ [] in
+    let e = same Enter in
+    let g = same Gather in
+    let f = same Finish in
+    let r = same Remount in
+    let p = same Replay in
+    let stays : (kind : Kind) (most less : ℕ) → less ≤ most → TakesUpTo test records caller ordinal kind most → TakesUpTo test now caller ordinal kind less = λ kind most less low taken. up_to_less test now caller ordinal kind most less low (up_to_stays test records fault caller ordinal kind most taken) in
+    record {
+      twice = (let low = was.twice in omega (arith, low, e, g, f));
+      enters = stays Enter (strikes_inside records caller ordinal + plain) (strikes_inside now caller ordinal + plain) (omega (arith, e, g, f)) was.enters;
+      gathers = stays Gather (strikes_of records caller ordinal Gather + strikes_of records caller ordinal Finish + plain) (strikes_of now caller ordinal Gather + strikes_of now caller ordinal Finish + plain) (omega (arith, g, f)) was.gathers;
+      finishes = stays Finish (strikes_of records caller ordinal Finish + plain) (strikes_of now caller ordinal Finish + plain) (omega (arith, f)) was.finishes;
+      leaves = stays Leave plain plain (omega arith) was.leaves;
+      remounts = stays Remount (recoveries_of records caller ordinal + plain - 1) (recoveries_of now caller ordinal + plain - 1) (omega (arith, e, g, f, r, p)) was.remounts;
+    }
 
 -- an earlier call's faults stay taken
 pub past_push : (test : Option (Crossing → Bool)) (records : List FaultRecord) (crossings : Crossings) (kind : Kind) (nth : ℕ) (answered : Bool) (entry : Entry) → IsPast test records crossings answered entry
     → IsPast test (records ++ fault_at crossings kind nth ∷ []) crossings answered entry
 past_push test records crossings kind nth answered entry (inl mine) = inl mine
 past_push test records crossings kind nth answered entry (inr past) =
-    let fault : FaultRecord = fault_at crossings kind nth in
-    inr (
-      past.0,
-      λ plain.
-          (let was : TakesTested test records entry = past.1 plain in
-          record {
-            enters = taken_stays test records fault entry.caller entry.ordinal Enter was.enters;
-            gathers = taken_stays test records fault entry.caller entry.ordinal Gather was.gathers;
-            finishes = taken_stays test records fault entry.caller entry.ordinal Finish was.finishes;
-            leaves = taken_stays test records fault entry.caller entry.ordinal Leave was.leaves;
-            remounts = λ struck. taken_stays test records fault entry.caller entry.ordinal Remount (was.remounts (sym (inside_apart records crossings kind nth entry.caller entry.ordinal past.0) ∙ struck));
-          }),
-    )
+    inr (past.0, takes_stays test records (fault_at crossings kind nth) entry.caller entry.ordinal (one_if (is_plain entry.reply)) (strikes_apart records crossings kind nth entry.caller entry.ordinal past.0) past.1)
 
 -- ---- the next fault point of a kind is counted
 
@@ -154,6 +189,9 @@ next_more counts kind = (omega arith, omega arith)
 pub next_first : (counts : List ℕ) (kind : Kind) → slice_index counts (place_of kind) ≡ 0 → next_nth counts kind ≡ 1
 next_first counts kind none = omega (arith, none)
 
+pub next_least : (counts : List ℕ) (kind : Kind) (least : ℕ) → least ≤ slice_index counts (place_of kind) → least < 4294967295 → least + 1 ≤ next_nth counts kind
+next_least counts kind least low small = omega (arith, low, small)
+
 module _ (crossings : Crossings) (kind : Kind) (are : AreSixCounts crossings) where
   pub counted_here : count_of (counted crossings kind) kind ≡ next_nth crossings.counts kind
   counted_here = here crossings kind are
@@ -173,29 +211,52 @@ module _ (crossings : Crossings) (kind : Kind) (are : AreSixCounts crossings) wh
     | inr apart ↦ λ none. some (sym (counted_there other apart) ∙ none)
   ]
 
-  module _ (test : Option (Crossing → Bool)) (records : List FaultRecord) (taken : (other : Kind) → count_of crossings other ≢ 0 → IsTakenFirst test records crossings.caller crossings.ordinal other) where
+  -- one crossing more, where the count is not the greatest
+  pub counted_more : (least : ℕ) → least ≤ count_of crossings kind → least < 4294967295 → least + 1 ≤ count_of (counted crossings kind) kind
+  counted_more least low small = let more = next_least crossings.counts kind least low small in omega (arith, counted_here, more)
+
+  module _ (test : Option (Crossing → Bool)) (records : List FaultRecord) (taken : (other : Kind) → TakesUpTo test records crossings.caller crossings.ordinal other (count_of crossings other)) where
+    abbrev next : ℕ
+    next = next_nth crossings.counts kind
+
+    -- a fault point of another kind
+    elsewhere : (rs : List FaultRecord) (other : Kind) → place_of other ≢ place_of kind → TakesUpTo test rs crossings.caller crossings.ordinal other (count_of crossings other)
+        → TakesUpTo test rs crossings.caller crossings.ordinal other (count_of (counted crossings kind) other)
+    elsewhere rs other apart was = let same = counted_there other apart in up_to_less test rs crossings.caller crossings.ordinal other (count_of crossings other) (count_of (counted crossings kind) other) (omega (arith, same)) was
+
+    -- one of this kind that was not counted before is the next one
+    is_next : (nth : ℕ) → nth ≤ count_of (counted crossings kind) kind → count_of crossings kind < nth → nth ≡ next
+    is_next nth high above = let more = (next_more crossings.counts kind).0 in omega (arith, high, above, more, counted_here)
+
     -- no fault came there
-    pub taken_go : IfSome test (λ fires. fires (record { caller = crossings.caller; ordinal = crossings.ordinal; kind = kind; nth = next_nth crossings.counts kind }) ≡ false) → (other : Kind) → count_of (counted crossings kind) other ≢ 0
-        → IsTakenFirst test records crossings.caller crossings.ordinal other
-    taken_go unfired other some = elim (same_or_not (place_of other) (place_of kind)) [
-      | inl same ↦ subst (λ (k : Kind). IsTakenFirst test records crossings.caller crossings.ordinal k) (sym (same_place other kind same)) (elim (same_or_not (count_of crossings kind) 0) [
-        | inl none ↦ never test (subst (λ n. IfSome test (λ fires. fires (record { caller = crossings.caller; ordinal = crossings.ordinal; kind = kind; nth = n }) ≡ false)) (next_first crossings.counts kind none) unfired)
-        | inr was ↦ taken kind was
-      ])
-      | inr apart ↦ taken other (λ none. some (counted_there other apart ∙ none))
+    pub taken_go : IfSome test (λ fires. fires (record { caller = crossings.caller; ordinal = crossings.ordinal; kind = kind; nth = next_nth crossings.counts kind }) ≡ false) → (other : Kind)
+        → TakesUpTo test records crossings.caller crossings.ordinal other (count_of (counted crossings kind) other)
+    taken_go unfired other = elim (same_or_not (place_of other) (place_of kind)) [
+      | inl same ↦ subst (λ (k : Kind). TakesUpTo test records crossings.caller crossings.ordinal k (count_of (counted crossings kind) k)) (sym (same_place other kind same)) (never test (taken kind) unfired)
+      | inr apart ↦ elsewhere records other apart (taken other)
     ] where
-      never : (told : Option (Crossing → Bool)) → IfSome told (λ fires. fires (record { caller = crossings.caller; ordinal = crossings.ordinal; kind = kind; nth = 1 }) ≡ false) → IsTakenFirst told records crossings.caller crossings.ordinal kind
-      never None not = tt
-      never (Some fires) not = λ holds. absurd (let both : true ≡ false = sym holds ∙ not in cc)
+      never : (told : Option (Crossing → Bool)) → TakesUpTo told records crossings.caller crossings.ordinal kind (count_of crossings kind)
+          → IfSome told (λ fires. fires (record { caller = crossings.caller; ordinal = crossings.ordinal; kind = kind; nth = next }) ≡ false)
+          → TakesUpTo told records crossings.caller crossings.ordinal kind (count_of (counted crossings kind) kind)
+      never None was not = tt
+      never (Some fires) was not = λ nth one high holds. elim (leb_tells nth (count_of crossings kind)) [
+        | inl low ↦ was nth one low.1 holds
+        | inr above ↦ absurd (
+            let it : fires (record { caller = crossings.caller; ordinal = crossings.ordinal; kind = kind; nth = next }) ≡ true =
+            ap (λ n. fires (record { caller = crossings.caller; ordinal = crossings.ordinal; kind = kind; nth = n })) (sym (is_next nth high above.1)) ∙ holds in
+            let both : true ≡ false = sym it ∙ not in cc)
+      ]
 
     -- a fault was taken there
-    pub taken_struck : (other : Kind) → count_of (counted crossings kind) other ≢ 0 → IsTakenFirst test (records ++ fault_at crossings kind (next_nth crossings.counts kind) ∷ []) crossings.caller crossings.ordinal other
-    taken_struck other some =
-        let fault : FaultRecord = fault_at crossings kind (next_nth crossings.counts kind) in
-        elim (same_or_not (place_of other) (place_of kind)) [
-          | inl same ↦ subst (λ (k : Kind). IsTakenFirst test (records ++ fault ∷ []) crossings.caller crossings.ordinal k) (sym (same_place other kind same)) (elim (same_or_not (count_of crossings kind) 0) [
-            | inl none ↦ first_here test records crossings kind (next_nth crossings.counts kind) (next_first crossings.counts kind none)
-            | inr was ↦ taken_stays test records fault crossings.caller crossings.ordinal kind (taken kind was)
-          ])
-          | inr apart ↦ taken_stays test records fault crossings.caller crossings.ordinal other (taken other (λ none. some (counted_there other apart ∙ none)))
-        ]
+    pub taken_struck : (other : Kind) → TakesUpTo test (records ++ fault_at crossings kind (next_nth crossings.counts kind) ∷ []) crossings.caller crossings.ordinal other (count_of (counted crossings kind) other)
+    taken_struck other = elim (same_or_not (place_of other) (place_of kind)) [
+      | inl same ↦ subst (λ (k : Kind). TakesUpTo test (records ++ fault_at crossings kind next ∷ []) crossings.caller crossings.ordinal k (count_of (counted crossings kind) k)) (sym (same_place other kind same)) (struck test (taken kind))
+      | inr apart ↦ elsewhere (records ++ fault_at crossings kind next ∷ []) other apart (up_to_stays test records (fault_at crossings kind next) crossings.caller crossings.ordinal other (count_of crossings other) (taken other))
+    ] where
+      struck : (told : Option (Crossing → Bool)) → TakesUpTo told records crossings.caller crossings.ordinal kind (count_of crossings kind)
+          → TakesUpTo told (records ++ fault_at crossings kind next ∷ []) crossings.caller crossings.ordinal kind (count_of (counted crossings kind) kind)
+      struck None was = tt
+      struck (Some fires) was = λ nth one high holds. elim (leb_tells nth (count_of crossings kind)) [
+        | inl low ↦ struck_stays records (fault_at crossings kind next) crossings.caller crossings.ordinal kind nth (was nth one low.1 holds)
+        | inr above ↦ struck_here records crossings kind next nth (sym (is_next nth high above.1))
+      ]

@@ -1,5 +1,5 @@
 -- A caller that acts alone: what a recovery that it runs leaves of the tally of its call.
-use Rattle.std.proofs.Common.{◌≡◌, ◌≢◌, ◌⊎◌, List, [], ◌∷◌, ◌++◌, ℕ, ◌+◌, ◌≤◌, Bool, true, false, length, inl, inr, refl, ap, sym, subst, ◌∙◌, arith, Option, None, Some, IfSome, length-append}
+use Rattle.std.proofs.Common.{◌≡◌, ◌⊎◌, List, [], ◌∷◌, ◌++◌, ℕ, ◌+◌, ◌≤◌, Bool, true, false, length, inl, inr, refl, ap, sym, subst, ◌∙◌, arith, Option, None, Some, IfSome, length-append}
 use Rattle.std.proofs.lemmas.Bool.{le-leb}
 use Rattle.std.specs.List.{AllByRecursion}
 use Rattle.mb_core_spec.specs.declared.stages.Stage.{Stage}
@@ -12,14 +12,14 @@ use Rattle.mb_kinds.specs.declared.calls.Call.{Call}
 use Rattle.mb_kinds.specs.declared.entries.Entry.{Entry}
 use Rattle.mb_kinds.specs.declared.faults.FaultRecord.{FaultRecord}
 use Rattle.mb_kinds.specs.declared.faults.Kind.{Kind}
-use Rattle.mb_kinds.specs.declared.faults.Kind.TheVariants.{Enter, Finish, Leave, Remount, Replay}
+use Rattle.mb_kinds.specs.declared.faults.Kind.TheVariants.{Enter, Gather, Finish, Leave, Remount, Replay}
 use Rattle.mb_kinds.specs.declared.replies.Reply.TheVariants as reply
 use Rattle.mb_run.specs.Events.{Answers, entry_of}
 use Rattle.mb_run.specs.Recovering.{GoOn, Rolls, Steps, StrikesStep, awaits_remount, counted, next_of}
-use Rattle.mb_run.specs.Runs.{IsTakenFirst, is_near, is_struck_inside}
+use Rattle.mb_run.specs.Runs.{TakesUpTo, is_near, recoveries_of}
 use Rattle.mb_run.specs.Served.{AreSixCounts, IsAtBy, IsResting, CrossingsAreKept, MayStep, advanced, calls_in, calls_of, with_crossings}
 use Rattle.mb_run.specs.Sights.{IsWaiting, Sight, one_if, recovers}
-use Rattle.mb_run.specs.Tallies.{AreTallied, IsBetween, IsPast, IsUpToDate, IsRestarted, IsTallied, TalliedBy, count_of}
+use Rattle.mb_run.specs.Tallies.{AreTallied, HasPassedAtLeast, HasPassedPoints, IsBetween, IsPast, IsUpToDate, IsRestarted, IsTallied, TalliedBy, count_of}
 use Rattle.mb_run.specs.declared.answers.Stepped.{Stepped}
 use Rattle.mb_run.specs.declared.answers.Stepped.TheVariants as stepped
 use Rattle.mb_run.specs.declared.runner.At.{At}
@@ -29,31 +29,44 @@ use Rattle.mb_run.proofs.Balance.{marked_here}
 use Rattle.mb_run.proofs.Lists.{all_map}
 use Rattle.mb_run.proofs.Rolling.{Ends, rolled_went}
 use Rattle.mb_run.proofs.Struck.{one_most}
-use Rattle.mb_run.proofs.Tallying.{ends_unplain, lacks_leave, passed_back, with_counted}
-use Rattle.mb_run.proofs.TallyRecords.{counted_most, counted_some, counted_there, fault_at, next_more, past_push, taken_go, taken_struck, tallied_push}
+use Rattle.mb_run.proofs.Tallying.{ends_unplain, lacks_leave, passed_back, restarted_most, restarted_same, with_counted}
+use Rattle.mb_run.proofs.TallyRecords.{counted_more, counted_most, counted_there, fault_at, next_more, past_push, recoveries_most, strikes_there, taken_go, taken_struck, tallied_push}
 
 rests_outside : (sight : Sight) (caller : ℕ) (a : At) → IsUpToDate sight caller a → IsResting sight.incarnation a → a ≡ at.Outside
 rests_outside sight caller at.Outside present rests = refl
 rests_outside sight caller (at.Inside ticket) present rests = absurd (rests present.0)
-rests_outside sight caller (at.Logged ticket) present rests = absurd (rests present)
+rests_outside sight caller (at.Logged ticket) present rests = absurd (rests present.0)
 
 module _ (test : Option (Crossing → Bool)) (old new : Sight) (runner : Runner) (tally : IsTallied test old runner at.Outside) (lacks : runner.answered ≡ false) (history : new.history ≡ old.history) where
   not_failed : recovers old.stage ≡ true → old.stage ≡ stage.Failed → ⊥
   not_failed recovered fails = let wrong : true ≡ false = sym recovered ∙ ap recovers fails in cc
 
-  no_leaves : count_of runner.crossings Leave ≡ 0
-  no_leaves = lacks_leave runner.crossings runner.pages runner.answered lacks tally.passed
+  left_none : HasPassedAtLeast old.records runner.crossings 0 0 0 × (count_of runner.crossings Leave ≡ 0)
+  left_none = lacks_leave old.records runner.crossings runner.pages runner.answered lacks tally.passed
 
   -- a call that was struck inside still waits for the file system, or the volume failed
-  goes_on_restarted : (crossings : Crossings) → count_of crossings Remount ≡ count_of runner.crossings Remount → recovers old.stage ≡ true → (awaits_remount old.stage ≡ true → (awaits_remount new.stage ≡ true) ⊎ (new.stage ≡ stage.Failed))
-      → IsRestarted runner.crossings old.stage runner.answered → IsRestarted crossings new.stage runner.answered
-  goes_on_restarted crossings same recovered carries was = elim was [
-    | inl some ↦ inl (λ none. some (sym same ∙ none))
-    | inr not_yet ↦ elim not_yet.1 [
-      | inl awaits ↦ inr (not_yet.0, carries awaits)
-      | inr fails ↦ absurd (not_failed recovered fails)
-    ]
-  ]
+  goes_on_restarted : (crossings : Crossings) → crossings.caller ≡ runner.crossings.caller → crossings.ordinal ≡ runner.crossings.ordinal → count_of crossings Remount ≡ count_of runner.crossings Remount → recovers old.stage ≡ true
+      → (awaits_remount old.stage ≡ true → (awaits_remount new.stage ≡ true) ⊎ (new.stage ≡ stage.Failed)) → IsRestarted old.records crossings new.stage runner.answered
+  goes_on_restarted crossings caller ordinal same recovered carries =
+      restarted_same old.records runner.crossings crossings new.stage runner.answered caller ordinal same (elim tally.restarted [
+        | inl all ↦ inl all
+        | inr not_yet ↦ elim not_yet.2 [
+          | inl awaits ↦ inr (not_yet.0, not_yet.1, carries awaits)
+          | inr fails ↦ absurd (not_failed recovered fails)
+        ]
+      ])
+
+  -- at a fault point of the recovery those of the call are as they were
+  passed_late : (kind : Kind) → AreSixCounts runner.crossings → 4 ≤ place_of kind → HasPassedAtLeast old.records (counted runner.crossings kind) 0 0 0
+  passed_late kind are late =
+      let was = left_none.0 in
+      let enters = was.enters in
+      let gathers = was.gathers in
+      let finishes = was.finishes in
+      let e = counted_there runner.crossings kind are Enter (λ is. omega (arith, is, late)) in
+      let g = counted_there runner.crossings kind are Gather (λ is. omega (arith, is, late)) in
+      let f = counted_there runner.crossings kind are Finish (λ is. omega (arith, is, late)) in
+      record { twice = was.twice; enters = omega (arith, enters, e); gathers = omega (arith, gathers, g); finishes = omega (arith, finishes, f) }
 
   -- ---- no fault came
 
@@ -71,16 +84,15 @@ module _ (test : Option (Crossing → Bool)) (old new : Sight) (runner : Runner)
       enters = (let was = tally.enters in omega (arith, size, was));
       finishes = (let was = tally.finishes in omega (arith, size, was));
       remounts = (let was = tally.remounts in omega (arith, size, was, fewer));
-      passed = tally.passed;
+      passed = rw records tally.passed;
       taken = rw records tally.taken;
-      restarted = λ struck. goes_on_restarted runner.crossings refl recovered carries (tally.restarted (rw records at struck));
+      restarted = rw records (goes_on_restarted runner.crossings refl refl refl recovered carries);
       entries = rw (records, history) tally.entries;
     }
 
     -- at a fault point of the recovery
     module _ (kind : Kind) (are : AreSixCounts runner.crossings) (late : 4 ≤ place_of kind) (unfired : IfSome test (λ fires. fires (next_of kind runner.crossings) ≡ false)) where
-      pub rolls_past : count_of (counted runner.crossings kind) Remount + one_if (awaits_remount new.stage) ≤ length old.records
-          → (is_struck_inside old.records runner.crossings.caller runner.crossings.ordinal ≡ true → IsRestarted (counted runner.crossings kind) new.stage runner.answered) → IsTallied test new (with_counted runner kind) at.Outside
+      pub rolls_past : count_of (counted runner.crossings kind) Remount + one_if (awaits_remount new.stage) ≤ length old.records → IsRestarted old.records (counted runner.crossings kind) new.stage runner.answered → IsTallied test new (with_counted runner kind) at.Outside
       rolls_past remounts restarted = record {
         asked = tally.asked;
         present = tt;
@@ -88,9 +100,9 @@ module _ (test : Option (Crossing → Bool)) (old new : Sight) (runner : Runner)
         enters = (let was = tally.enters in let same = counted_there runner.crossings kind are Enter (λ is. omega (arith, is, late)) in omega (arith, size, was, same));
         finishes = (let was = tally.finishes in let same = counted_there runner.crossings kind are Finish (λ is. omega (arith, is, late)) in omega (arith, size, was, same));
         remounts = omega (arith, size, remounts);
-        passed = passed_back (counted runner.crossings kind) runner.pages runner.answered lacks (counted_there runner.crossings kind are Leave (λ is. omega (arith, is, late)) ∙ no_leaves);
+        passed = rw records (passed_back old.records (counted runner.crossings kind) runner.pages runner.answered lacks (passed_late kind are late) (counted_there runner.crossings kind are Leave (λ is. omega (arith, is, late)) ∙ left_none.1));
         taken = rw records (taken_go runner.crossings kind are test old.records tally.taken unfired);
-        restarted = λ struck. restarted (rw records at struck);
+        restarted = rw records restarted;
         entries = rw (records, history) tally.entries;
       }
 
@@ -100,28 +112,66 @@ module _ (test : Option (Crossing → Bool)) (old new : Sight) (runner : Runner)
     longer : length new.records ≡ length old.records + 1
     longer = ap length more ∙ length-append old.records (fault_at runner.crossings kind (next_nth runner.crossings.counts kind) ∷ [])
 
+    abbrev struck_records : List FaultRecord
+    struck_records = old.records ++ fault_at runner.crossings kind (next_nth runner.crossings.counts kind) ∷ []
+
+    struck_late : HasPassedAtLeast struck_records (counted runner.crossings kind) 0 0 0
+    struck_late =
+        let was = passed_late kind are late in
+        let twice = was.twice in
+        let enters = was.enters in
+        let gathers = was.gathers in
+        let finishes = was.finishes in
+        let nth : ℕ = next_nth runner.crossings.counts kind in
+        let e = strikes_there old.records runner.crossings kind nth Enter (λ is. omega (arith, is, late)) in
+        let g = strikes_there old.records runner.crossings kind nth Gather (λ is. omega (arith, is, late)) in
+        let f = strikes_there old.records runner.crossings kind nth Finish (λ is. omega (arith, is, late)) in
+        record { twice = omega (arith, twice, e, g, f); enters = omega (arith, enters, e, g, f); gathers = omega (arith, gathers, g, f); finishes = omega (arith, finishes, f) }
+
     pub rolls_struck : is_near (length old.records) kind (next_nth runner.crossings.counts kind) ≡ true → count_of (counted runner.crossings kind) Remount + one_if (awaits_remount new.stage) ≤ length old.records + 1
+        → recoveries_of old.records runner.crossings.caller runner.crossings.ordinal ≤ count_of (counted runner.crossings kind) Remount
         → (awaits_remount new.stage ≡ true) ⊎ (new.stage ≡ stage.Failed) → IsTallied test new (with_counted runner kind) at.Outside
-    rolls_struck near remounts on = record {
+    rolls_struck near remounts all on = record {
       asked = tally.asked;
       present = tt;
       records = subst AreTallied (sym more) (tallied_push old.records (fault_at runner.crossings kind (next_nth runner.crossings.counts kind)) tally.records near (next_more runner.crossings.counts kind).1);
       enters = (let was = tally.enters in let same = counted_there runner.crossings kind are Enter (λ is. omega (arith, is, late)) in omega (arith, longer, was, same));
       finishes = (let was = tally.finishes in let same = counted_there runner.crossings kind are Finish (λ is. omega (arith, is, late)) in omega (arith, longer, was, same));
       remounts = omega (arith, longer, remounts);
-      passed = passed_back (counted runner.crossings kind) runner.pages runner.answered lacks (counted_there runner.crossings kind are Leave (λ is. omega (arith, is, late)) ∙ no_leaves);
-      taken = subst (λ (rs : List FaultRecord). (other : Kind) → count_of (counted runner.crossings kind) other ≢ 0 → IsTakenFirst test rs runner.crossings.caller runner.crossings.ordinal other) (sym more)
+      passed = subst (λ (rs : List FaultRecord). HasPassedPoints rs (counted runner.crossings kind) runner.pages runner.answered at.Outside) (sym more)
+          (passed_back struck_records (counted runner.crossings kind) runner.pages runner.answered lacks struck_late (counted_there runner.crossings kind are Leave (λ is. omega (arith, is, late)) ∙ left_none.1));
+      taken = subst (λ (rs : List FaultRecord). (other : Kind) → TakesUpTo test rs runner.crossings.caller runner.crossings.ordinal other (count_of (counted runner.crossings kind) other)) (sym more)
           (taken_struck runner.crossings kind are test old.records tally.taken);
-      restarted = λ struck. inr (lacks, on);
+      restarted = subst (λ (rs : List FaultRecord). IsRestarted rs (counted runner.crossings kind) new.stage runner.answered) (sym more)
+          (let most = recoveries_most old.records runner.crossings kind (next_nth runner.crossings.counts kind) in inr (lacks, omega (arith, most, all), on));
       entries = subst (λ (es : List Entry). AllByRecursion (IsPast test new.records (counted runner.crossings kind) runner.answered) es) (sym history)
           (subst (λ (rs : List FaultRecord). AllByRecursion (IsPast test rs (counted runner.crossings kind) runner.answered) old.history) (sym more)
-          (all_map (IsPast test old.records runner.crossings runner.answered) (IsPast test (old.records ++ fault_at runner.crossings kind (next_nth runner.crossings.counts kind) ∷ []) runner.crossings runner.answered) old.history
+          (all_map (IsPast test old.records runner.crossings runner.answered) (IsPast test struck_records runner.crossings runner.answered) old.history
           (λ entry is. past_push test old.records runner.crossings kind (next_nth runner.crossings.counts kind) runner.answered entry is) tally.entries));
     }
 
 -- ---- by the answers of a step
 
-module _ (test : Option (Crossing → Bool)) (old new : Sight) (runner : Runner) (are : AreSixCounts runner.crossings) (tally : IsTallied test old runner at.Outside) (lacks : runner.answered ≡ false) where
+module _ (test : Option (Crossing → Bool)) (old new : Sight) (runner : Runner) (are : AreSixCounts runner.crossings) (small : length old.records ≤ 256) (tally : IsTallied test old runner at.Outside) (lacks : runner.answered ≡ false) where
+  -- the file system is started anew: after each fault
+  all_restarted : awaits_remount old.stage ≡ true → recoveries_of old.records runner.crossings.caller runner.crossings.ordinal ≤ count_of (counted runner.crossings Remount) Remount
+  all_restarted awaits =
+      let most = restarted_most old.records runner.crossings old.stage runner.answered tally.restarted in
+      let few = tally.remounts in
+      let one : one_if (awaits_remount old.stage) ≡ 1 = ap one_if awaits in
+      let counts = counted_more runner.crossings Remount are (count_of runner.crossings Remount) (omega arith) (omega (arith, few, small)) in
+      omega (arith, most, counts)
+
+  -- or was already
+  none_owed : awaits_remount old.stage ≡ false → recovers old.stage ≡ true → recoveries_of old.records runner.crossings.caller runner.crossings.ordinal ≤ count_of runner.crossings Remount
+  none_owed not recovered = elim tally.restarted [
+    | inl all ↦ all
+    | inr lacks_it ↦ elim lacks_it.2 [
+      | inl awaits ↦ absurd (let wrong : true ≡ false = sym awaits ∙ not in cc)
+      | inr fails ↦ absurd (let wrong : true ≡ false = sym recovered ∙ ap recovers fails in cc)
+    ]
+  ]
+
   still_at : (crossings : Crossings) → crossings ≡ runner.crossings → IsTallied test new runner at.Outside → IsTallied test new (with_crossings runner crossings) at.Outside
   still_at crossings is now = subst (λ (c : Crossings). IsTallied test new (with_crossings runner c) at.Outside) (sym is) now
 
@@ -147,12 +197,13 @@ module _ (test : Option (Crossing → Bool)) (old new : Sight) (runner : Runner)
             subst (λ (k : Kind). IsTallied test new (with_counted runner k) at.Outside) (sym dropped.1)
             (rolls_struck test old new runner tally lacks strikes.waits.counts.history Remount are (omega arith) (subst (λ (k : Kind). new.records ≡ old.records ++ fault_at runner.crossings k (next_nth runner.crossings.counts k) ∷ []) dropped.1 more)
             (let next = (next_more runner.crossings.counts Remount).0 in le-leb (next_nth runner.crossings.counts Remount) (length old.records + 1) (omega (arith, next, was, before)))
-            (let counts = counted_most runner.crossings Remount are in omega (arith, counts, was, before, most)) on))
+            (let counts = counted_most runner.crossings Remount are in omega (arith, counts, was, before, most)) (all_restarted (ap awaits_remount dropped.0)) on))
         | inr replays ↦ (
             let was = tally.remounts in
-            subst (λ (k : Kind). IsTallied test new (with_counted runner k) at.Outside) (sym replays)
-            (rolls_struck test old new runner tally lacks strikes.waits.counts.history Replay are (omega arith) (subst (λ (k : Kind). new.records ≡ old.records ++ fault_at runner.crossings k (next_nth runner.crossings.counts k) ∷ []) replays more) refl
-            (let same = counted_there runner.crossings Replay are Remount (λ is. omega (arith, is)) in omega (arith, same, was, most)) on))
+            subst (λ (k : Kind). IsTallied test new (with_counted runner k) at.Outside) (sym replays.1)
+            (rolls_struck test old new runner tally lacks strikes.waits.counts.history Replay are (omega arith) (subst (λ (k : Kind). new.records ≡ old.records ++ fault_at runner.crossings k (next_nth runner.crossings.counts k) ∷ []) replays.1 more) refl
+            (let same = counted_there runner.crossings Replay are Remount (λ is. omega (arith, is)) in omega (arith, same, was, most))
+            (let same = counted_there runner.crossings Replay are Remount (λ is. omega (arith, is)) in let all = none_owed replays.0 strikes.recovered in omega (arith, same, all)) on))
       ])
 
   rolled : (crossings : Crossings) (answer : Stepped) → Steps test (Some runner.crossings) (Some crossings) old new answer → (Ends answer → ⊥) → IsTallied test new (with_crossings runner crossings) at.Outside
@@ -172,7 +223,7 @@ module _ (test : Option (Crossing → Bool)) (old new : Sight) (runner : Runner)
       let was = tally.remounts in
       let counts = counted_most runner.crossings Remount are in
       subst (λ (c : Crossings). IsTallied test new (with_crossings runner c) at.Outside) (sym past.counts)
-      (rolls_past test old new runner tally lacks steps.2.waits.counts.history steps.2.records Remount are (omega arith) past.unfired (omega (arith, was, before, none, counts)) (λ struck. inl (counted_some runner.crossings Remount are)))
+      (rolls_past test old new runner tally lacks steps.2.waits.counts.history steps.2.records Remount are (omega arith) past.unfired (omega (arith, was, before, none, counts)) (inl (all_restarted (ap awaits_remount steps.0))))
   rolled crossings stepped.Reopened steps goes = steps_none crossings steps.3 steps.1 steps.2
   rolled crossings (stepped.Replayed n) steps goes =
       let past = steps.3 in
@@ -181,7 +232,7 @@ module _ (test : Option (Crossing → Bool)) (old new : Sight) (runner : Runner)
       let was = tally.remounts in
       subst (λ (c : Crossings). IsTallied test new (with_crossings runner c) at.Outside) (sym past.counts)
       (rolls_past test old new runner tally lacks steps.1.waits.counts.history steps.1.records Replay are (omega arith) past.unfired (omega (arith, was, same, awaits))
-      (λ struck. goes_on_restarted test old new runner tally lacks steps.1.waits.counts.history (counted runner.crossings Replay) same steps.1.recovered (λ a. inl (steps.2 ∙ a)) (tally.restarted struck)))
+      (goes_on_restarted test old new runner tally lacks steps.1.waits.counts.history (counted runner.crossings Replay) refl refl same steps.1.recovered (λ a. inl (steps.2 ∙ a))))
   rolled crossings stepped.Resumed steps goes =
       let none : one_if (awaits_remount new.stage) ≡ 0 = ap (λ (s : Stage). one_if (awaits_remount s)) steps.0 in
       still_at crossings steps.4 (rolls_none test old new runner tally lacks steps.2.waits.counts.history steps.2.records steps.2.recovered (λ awaits. absurd (let wrong : true ≡ false = sym awaits ∙ steps.3 in cc)) (omega (arith, none)))
@@ -200,13 +251,16 @@ module _ (calls : List JobCall) (test : Option (Crossing → Bool)) (old : Sight
   outside_is : IsTallied test old runner runner.at → runner.at ≡ at.Outside
   outside_is tally = rests_outside old runner.crossings.caller runner.at tally.present rests
 
+  few : length old.records ≤ 256
+  few = let records = may.right.records in let limit = may.right.limit in omega (arith, records, limit)
+
   as_outside : IsTallied test old runner runner.at → IsTallied test old runner at.Outside
   as_outside tally = subst (IsTallied test old runner) (outside_is tally) tally
 
   tallied_on : (new : Sight) (now : Runner) (by : Option Crossings) (answer : Stepped) → GoOn (Some runner.crossings) by → Steps test (Some runner.crossings) by old new answer → (Ends answer → ⊥) → CrossingsAreKept runner by now → IsTallied test old runner runner.at
       → IsTallied test new now now.at
   tallied_on new now None answer on steps goes keeps tally = absurd keeps
-  tallied_on new now (Some crossings) answer on steps goes keeps tally = rolled_by test old new runner may.counts (as_outside tally) lacks_it crossings answer (outside_is tally) steps goes now keeps
+  tallied_on new now (Some crossings) answer on steps goes keeps tally = rolled_by test old new runner may.counts few (as_outside tally) lacks_it crossings answer (outside_is tally) steps goes now keeps
 
   pub tallied_roll : (new : Sight) (now : Runner) (by : Option Crossings) (answer : Stepped) → GoOn (Some runner.crossings) by → Steps test (Some runner.crossings) by old new answer → (Ends answer → ⊥) → CrossingsAreKept runner by now → IsTallied test old runner runner.at
       → TalliedBy test new now (rolled_went answer)
@@ -227,4 +281,4 @@ module _ (calls : List JobCall) (test : Option (Crossing → Bool)) (old : Sight
   tallied_device new (Some crossings) on steps tally =
       let made : Answers runner.crossings.caller waiting.0 reply.Device old new = steps.1 waiting.0 waiting.1 in
       let at_it = subst (IsAtBy (calls_of calls runner.crossings.caller) (calls_in old.history runner.crossings.caller) runner.done (old.seats runner.crossings.caller).begun) waiting.1 may.served.calls in
-      ends_unplain test old new runner made.stays.records made.stays.stage runner.at tally lacks_it (entry_of runner.crossings.caller waiting.0 None reply.Device) (at_it.1 ∙ sym may.served.ordinal) refl made.history
+      ends_unplain test old new runner made.stays.records made.stays.stage runner.at tally lacks_it (entry_of runner.crossings.caller waiting.0 None reply.Device) refl (at_it.1 ∙ sym may.served.ordinal) refl made.history

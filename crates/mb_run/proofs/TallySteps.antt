@@ -1,9 +1,8 @@
 -- A caller that acts alone: what each step of its call leaves of the tally.
-use Rattle.std.proofs.Common.{◌≡◌, List, [], ◌∷◌, ℕ, ◌+◌, Bool, true, false, inl, inr, refl, ap, sym, subst, ◌∙◌, arith, Option, None, Some}
+use Rattle.std.proofs.Common.{◌≡◌, List, [], ◌∷◌, ℕ, ◌+◌, ◌≤◌, Bool, true, false, inl, inr, refl, ap, sym, subst, ◌∙◌, arith, Option, None, Some}
 use Rattle.std.proofs.lemmas.Option.{same_Some}
 use Rattle.std.specs.List.{AllByRecursion}
 use Rattle.mb_core_spec.specs.Copies.{PagesState, no_pages}
-use Rattle.mb_core_spec.specs.declared.stages.Stage.TheVariants as stage
 use Rattle.mb_core_state.specs.declared.answers.Finished.TheVariants as finished
 use Rattle.mb_core_state.specs.declared.answers.Gathered.TheVariants as gathered
 use Rattle.mb_core_state.specs.declared.answers.Left.TheVariants as left
@@ -20,8 +19,7 @@ use Rattle.mb_kinds.specs.declared.replies.Reply.TheVariants as reply
 use Rattle.mb_run.specs.Events.{Answers, EntersInSight, EntersInside, FinishesInSight, Gains, GathersInSight, IsUnplain, LeavesWith, Logs, SealsIf, entry_of}
 use Rattle.mb_run.specs.Seals.{is_due}
 use Rattle.mb_run.specs.Pages.{has}
-use Rattle.mb_run.specs.Recovering.{awaits_remount}
-use Rattle.mb_run.specs.Runs.{is_plain}
+use Rattle.mb_run.specs.Runs.{is_plain, strikes_inside}
 use Rattle.mb_run.specs.Served.{Asks, IsAtBy, IsHeld, IsMarked, IsStanding, MayStep, advanced, calls_in, calls_of}
 use Rattle.mb_run.specs.Sights.{SeatHasTicket, Sight, flight_of}
 use Rattle.mb_run.specs.Tallies.{IsBetween, IsEntering, IsFinishing, IsPast, IsTallied}
@@ -31,8 +29,8 @@ use Rattle.mb_run.specs.declared.runner.Runner.{Runner}
 use Rattle.mb_run.proofs.Balance.{marked_here, marked_lacks}
 use Rattle.mb_run.proofs.Inside.{own_logged, own_ordinal, own_ticket, ordinal_logged}
 use Rattle.mb_run.proofs.Lists.{all_both, all_map}
-use Rattle.mb_run.proofs.Tallying.{ends_left, ends_outside, ends_unplain, enter_go, enter_struck, finish_go, finish_struck, gather_go, gather_struck, leave_struck, passed_pages, tally_on, with_counted}
-use Rattle.mb_run.proofs.TallyRecords.{counted_some}
+use Rattle.mb_run.proofs.Tallying.{ends_left, ends_outside, ends_unplain, enter_go, enter_struck, finish_go, finish_struck, gather_go, gather_struck, gathered_if, leave_struck, passed_pages, restarted_runs, tally_on, with_counted}
+use Rattle.mb_run.proofs.Twice.{once_at_most}
 
 -- ---- a call goes in
 
@@ -52,13 +50,13 @@ module _ (calls : List JobCall) (test : Option (Crossing → Bool)) (old : Sight
   pub in_struck : (new : Sight) (now : Runner) → Asks test old new runner now ticket Enter true → IsEntering test old runner ticket → IsTallied test new now now.at
   in_struck new now asks entering = elim asks.2 [
     | inl skipped ↦ absurd (skipped.0 entering.present)
-    | inr struck ↦ subst (λ (r : Runner). IsTallied test new r r.at) (sym asks.0) (enter_struck test old runner may.counts ticket entering.tallied lacks new own ordinal struck.1)
+    | inr struck ↦ subst (λ (r : Runner). IsTallied test new r r.at) (sym asks.0) (enter_struck test old runner may.counts ticket (stood.1.runs entering.present) entering.tallied lacks new own ordinal entering.once struck.1)
   ]
 
   pub in_go : (new : Sight) (now : Runner) → Asks test old new runner now ticket Enter false → IsEntering test old runner ticket → IsTallied test new now now.at
   in_go new now asks entering =
       subst (λ (s : Sight). IsTallied test s now now.at) (sym asks.0) (subst (λ (r : Runner). IsTallied test old r r.at) (sym asks.1)
-      (subst (IsTallied test old (with_counted runner Enter)) (sym inside) (enter_go test old runner may.counts ticket entering.tallied lacks asks.2 entering.present entering.fresh entering.empty)))
+      (subst (IsTallied test old (with_counted runner Enter)) (sym inside) (enter_go test old runner may.counts ticket (stood.1.runs entering.present) entering.tallied lacks asks.2 entering.present entering.fresh entering.empty entering.once)))
 
   -- ---- it gathers
 
@@ -68,7 +66,7 @@ module _ (calls : List JobCall) (test : Option (Crossing → Bool)) (old : Sight
   pub gathering_struck : (new : Sight) (now : Runner) → Asks test old new runner now ticket Gather true → IsTallied test old runner runner.at → IsTallied test new now now.at
   gathering_struck new now asks tally = elim asks.2 [
     | inl skipped ↦ absurd (skipped.0 (here tally).present.0)
-    | inr struck ↦ subst (λ (r : Runner). IsTallied test new r r.at) (sym asks.0) (gather_struck test old runner may.counts ticket (here tally) lacks new own ordinal struck.1)
+    | inr struck ↦ subst (λ (r : Runner). IsTallied test new r r.at) (sym asks.0) (gather_struck test old runner may.counts ticket (stood.1.runs (here tally).present.0) (here tally) lacks new own ordinal struck.1)
   ]
 
   module _ (mid : Sight) (m : Runner) (asks : Asks test old mid runner m ticket Gather false) where
@@ -76,14 +74,14 @@ module _ (calls : List JobCall) (test : Option (Crossing → Bool)) (old : Sight
     gathering_skip new need got mine was now gathers tally = absurd (gathers.0 ((here tally).present.0 ∙ ap (λ (s : Sight). s.incarnation) (sym asks.0)))
 
     counted_tally : IsTallied test old runner runner.at → IsTallied test old (with_counted runner Gather) (at.Inside ticket)
-    counted_tally tally = gather_go test old runner may.counts ticket (here tally) lacks asks.2
+    counted_tally tally = gather_go test old runner may.counts ticket (stood.1.runs (here tally).present.0) (here tally) lacks asks.2
 
     pub gathering_device : (new : Sight) (need : Need) (got : PagesState) → GathersInSight mid new ticket need m.pages got gathered.Device → IsTallied test old runner runner.at → IsBetween test new (advanced m)
     gathering_device new need got gathers tally =
         let given = subst (λ (s : Sight). (flight : Flight) → (s.seats ticket.caller).flight ≡ Some flight → Answers ticket.caller flight reply.Device s new) asks.0 gathers.1 in
         let made : Answers ticket.caller stood.0.flight reply.Device old new = given stood.0.flight (ap (λ n. (old.seats n).flight) own ∙ stood.0.here) in
         subst (λ (r : Runner). IsBetween test new (advanced r)) (sym asks.1)
-        (ends_unplain test old new (with_counted runner Gather) made.stays.records made.stays.stage (at.Inside ticket) (counted_tally tally) lacks (entry_of ticket.caller stood.0.flight None reply.Device) (sym stood.0.ordinal ∙ ordinal) refl made.history)
+        (ends_unplain test old new (with_counted runner Gather) made.stays.records made.stays.stage (at.Inside ticket) (counted_tally tally) lacks (entry_of ticket.caller stood.0.flight None reply.Device) own (sym stood.0.ordinal ∙ ordinal) refl made.history)
 
     pub gathering_done : (new : Sight) (need : Need) (got : PagesState) → GathersInSight mid new ticket need m.pages got gathered.Done → IsTallied test old runner runner.at → IsTallied test new (record m { pages = got }) m.at
     gathering_done new need got gathers tally =
@@ -92,23 +90,23 @@ module _ (calls : List JobCall) (test : Option (Crossing → Bool)) (old : Sight
         subst (λ (r : Runner). IsTallied test new (record r { pages = got }) r.at) (sym asks.1) (subst (IsTallied test new (record (with_counted runner Gather) { pages = got })) (sym inside)
         (tally_on test old new (with_counted runner Gather) (record (with_counted runner Gather) { pages = got }) (at.Inside ticket) (at.Inside ticket) was gains.stays.records gains.stays.stage gains.counts.history refl refl was.asked
         (was.present.0 ∙ sym gains.stays.incarnation, subst (λ n. new.fresh n ≡ true) own (gains.fresh (subst (λ n. old.fresh n ≡ true) (sym own) was.present.1)))
-        (record { enters = was.passed.enters; gathers = λ there. counted_some runner.crossings Gather may.counts; leaves = was.passed.leaves }) (omega arith) (omega arith)))
+        (gathered_if test old runner may.counts ticket (stood.1.runs (here tally).present.0) (here tally) lacks (has got 0), was.passed.1) (omega arith) (omega arith)))
 
   -- ---- it finishes
 
-  pub finishing_struck : (new : Sight) (now : Runner) → Asks test old new runner now ticket Finish true → IsTallied test old runner runner.at → IsTallied test new now now.at
-  finishing_struck new now asks tally = elim asks.2 [
+  pub finishing_struck : (new : Sight) (now : Runner) → Asks test old new runner now ticket Finish true → has runner.pages 0 ≡ true → IsTallied test old runner runner.at → IsTallied test new now now.at
+  finishing_struck new now asks there tally = elim asks.2 [
     | inl skipped ↦ absurd (skipped.0 (here tally).present.0)
-    | inr struck ↦ subst (λ (r : Runner). IsTallied test new r r.at) (sym asks.0) (finish_struck test old runner may.counts ticket (here tally) lacks new own ordinal struck.1)
+    | inr struck ↦ subst (λ (r : Runner). IsTallied test new r r.at) (sym asks.0) (finish_struck test old runner may.counts ticket (stood.1.runs (here tally).present.0) (here tally) lacks there new own ordinal struck.1)
   ]
 
   pub finishing_go : (mid : Sight) (m : Runner) → Asks test old mid runner m ticket Finish false → has runner.pages 0 ≡ true → IsTallied test old runner runner.at → IsFinishing test mid m ticket
   finishing_go mid m asks there tally =
       subst (λ (s : Sight). IsFinishing test s m ticket) (sym asks.0) (subst (λ (r : Runner). IsFinishing test old r ticket) (sym asks.1)
-      (record { tallied = finish_go test old runner may.counts ticket (here tally) lacks asks.2 there; fresh = (here tally).present.1 }))
+      (record { tallied = finish_go test old runner may.counts ticket (stood.1.runs (here tally).present.0) (here tally) lacks there asks.2; fresh = (here tally).present.1 }))
 
   pub finishing_skip : (new : Sight) (mine was : ℕ) (now : Runner) → FinishesInSight old new ticket runner.pages call (finished.Skip mine was) → IsFinishing test old runner ticket → IsTallied test new now now.at
-  finishing_skip new mine was now finishes finishing = absurd (finishes.0 finishing.tallied.present)
+  finishing_skip new mine was now finishes finishing = absurd (finishes.0 finishing.tallied.present.0)
 
   pub finishing_stale : (new : Sight) (block : ℕ) (now : Runner) → FinishesInSight old new ticket runner.pages call (finished.Stale block) → IsFinishing test old runner ticket → IsTallied test new now now.at
   finishing_stale new block now finishes finishing =
@@ -133,20 +131,14 @@ module _ (calls : List JobCall) (test : Option (Crossing → Bool)) (old : Sight
       let same = logs.stays.records in
       record {
         asked = tally.asked;
-        present = now ∙ sym logs.stays.incarnation;
+        present = (now ∙ sym logs.stays.incarnation, logs.stays.stage ∙ runs);
         records = rw same tally.records;
         enters = rw same tally.enters;
         finishes = rw same tally.finishes;
         remounts = rw (same, logs.stays.stage) tally.remounts;
-        passed = tally.passed;
+        passed = rw same tally.passed;
         taken = rw same tally.taken;
-        restarted = λ struck. elim (tally.restarted (rw same at struck)) [
-          | inl some ↦ inl some
-          | inr failed ↦ elim failed.1 [
-            | inl awaits ↦ absurd (let wrong : false ≡ true = ap awaits_remount (sym runs) ∙ awaits in cc)
-            | inr fails ↦ absurd (let wrong : stage.Running ≡ stage.Failed = sym runs ∙ fails in cc)
-          ]
-        ];
+        restarted = inl (rw same (restarted_runs old.records runner.crossings old.stage runner.answered runs tally.restarted));
         entries = rw (same, logs.history)
             (all_both (IsPast test old.records runner.crossings true) old.history (entry ∷ []) (all_map (IsPast test old.records runner.crossings false) (IsPast test old.records runner.crossings true) old.history now_past past) (inl (own, place, refl), tt));
       }
@@ -157,7 +149,7 @@ module _ (calls : List JobCall) (test : Option (Crossing → Bool)) (old : Sight
       let on : new.stage ≡ mid.stage = ap (λ (s : Sight). s.stage) seals in
       let history : new.history ≡ mid.history = ap (λ (s : Sight). s.history) seals in
       let incarnation : new.incarnation ≡ mid.incarnation = ap (λ (s : Sight). s.incarnation) seals in
-      tally_on test mid new logged logged (at.Logged ticket) (at.Logged ticket) was records on history refl refl was.asked (was.present ∙ sym incarnation) was.passed (omega arith) (omega arith)
+      tally_on test mid new logged logged (at.Logged ticket) (at.Logged ticket) was records on history refl refl was.asked (was.present.0 ∙ sym incarnation, on ∙ was.present.1) was.passed (omega arith) (omega arith)
   seals_tally mid new false was seals = subst (λ (s : Sight). IsTallied test s logged (at.Logged ticket)) (sym seals) was
 
   pub finishing_logged : (new : Sight) → FinishesInSight old new ticket runner.pages call finished.Logged → IsFinishing test old runner ticket → IsTallied test new logged (at.Logged ticket)
@@ -178,14 +170,14 @@ module _ (calls : List JobCall) (test : Option (Crossing → Bool)) (old : Sight
 
   pub leaving_struck : (new : Sight) (now : Runner) → Asks test old new runner now ticket Leave true → IsTallied test old runner runner.at → IsTallied test new now now.at
   leaving_struck new now asks tally = elim asks.2 [
-    | inl skipped ↦ absurd (skipped.0 (there tally).present)
+    | inl skipped ↦ absurd (skipped.0 (there tally).present.0)
     | inr struck ↦ subst (λ (r : Runner). IsTallied test new r r.at) (sym asks.0)
-        (leave_struck test old runner may.counts ticket (there tally) done new (own_logged calls test old runner call may ticket logged_at) (ordinal_logged calls test old runner call may ticket logged_at) struck.1)
+        (leave_struck test old runner may.counts ticket (there tally).present.1 (there tally) done new (own_logged calls test old runner call may ticket logged_at) (ordinal_logged calls test old runner call may ticket logged_at) struck.1)
   ]
 
   module _ (mid : Sight) (m : Runner) (asks : Asks test old mid runner m ticket Leave false) where
     pub leaving_skip : (new : Sight) (mine was : ℕ) (now : Runner) → LeavesWith mid new ticket (left.Skip mine was) → IsTallied test old runner runner.at → IsTallied test new now now.at
-    leaving_skip new mine was now leaves tally = absurd (leaves.0 ((there tally).present ∙ ap (λ (s : Sight). s.incarnation) (sym asks.0)))
+    leaving_skip new mine was now leaves tally = absurd (leaves.0 ((there tally).present.0 ∙ ap (λ (s : Sight). s.incarnation) (sym asks.0)))
 
     pub leaving_left : (new : Sight) (answer : Reply) → LeavesWith mid new ticket (left.Left answer) → IsTallied test old runner runner.at → IsBetween test new (advanced m)
     leaving_left new answer leaves tally =
@@ -231,7 +223,7 @@ module _ (calls : List JobCall) (test : Option (Crossing → Bool)) (old : Sight
         ends_outside test old new runner went.stays.records went.stays.stage (rests tally) (sym marked ∙ went.answered) went.counts.history)
     | inr made ↦ (
         let answers = made.2 in
-        ends_unplain test old new runner answers.stays.records answers.stays.stage at.Outside (rests tally) (lacks_it made.0) (entry_of runner.crossings.caller flight None answer) (ordinal_by (old.seats runner.crossings.caller).flight refl) (unplain_is answer made.1) answers.history)
+        ends_unplain test old new runner answers.stays.records answers.stays.stage at.Outside (rests tally) (lacks_it made.0) (entry_of runner.crossings.caller flight None answer) refl (ordinal_by (old.seats runner.crossings.caller).flight refl) (unplain_is answer made.1) answers.history)
   ]
 
   pub entering_shut : (new : Sight) → EntersInSight old new runner.crossings.caller call enter.Shut → IsTallied test old runner runner.at → IsTallied test new runner runner.at
@@ -247,9 +239,10 @@ module _ (calls : List JobCall) (test : Option (Crossing → Bool)) (old : Sight
       let aged = subst (IsStanding old runner.crossings.caller runner.pages) outside may.served.stands in
       let after : Runner = record runner { at = at.Inside ticket; asked = false; pages = no_pages } in
       subst (λ (r : Runner). IsEntering test mid r ticket) (sym is) (record {
-        tallied = tally_on test old mid runner after at.Outside at.Outside was begins.stays.records begins.stays.stage begins.history refl refl refl tt (passed_pages runner.crossings runner.pages no_pages runner.answered was.passed) (omega arith) (omega arith);
+        tallied = tally_on test old mid runner after at.Outside at.Outside was begins.stays.records begins.stays.stage begins.history refl refl refl tt (passed_pages old.records runner.crossings runner.pages no_pages runner.answered was.passed) (omega arith) (omega arith);
         present = enters.present ∙ sym begins.stays.incarnation;
         fresh = enters.fresh aged;
         lacks = lacks_it enters.lacks;
         empty = refl;
+        once = rw begins.stays.records (subst (λ n. strikes_inside old.records runner.crossings.caller n ≤ 1) (ordinal_by (old.seats runner.crossings.caller).flight refl) (once_at_most old.records runner.crossings.caller flight.ordinal enters.once));
       })

@@ -1,9 +1,10 @@
 -- A caller that acts alone: what its fault points and the core's events leave of the tally of its call.
-use Rattle.std.proofs.Common.{◌≡◌, ◌≢◌, ◌⊎◌, List, [], ◌∷◌, ◌++◌, ℕ, ◌+◌, ◌<◌, ◌≤◌, Bool, true, false, length, inl, inr, refl, ap, sym, subst, ◌∙◌, arith, Option, IfSome, length-append}
+use Rattle.std.proofs.Common.{◌≡◌, ◌≢◌, ◌⊎◌, List, [], ◌∷◌, ◌++◌, ℕ, zero, suc, ◌+◌, ◌-◌, ◌<◌, ◌≤◌, Bool, true, false, length, inl, inr, refl, ap, sym, subst, ◌∙◌, arith, Option, IfSome, length-append}
 use Rattle.std.proofs.lemmas.Bool.{le-leb}
 use Rattle.std.specs.List.{AllByRecursion}
 use Rattle.mb_core_spec.specs.Copies.{PagesState, no_pages}
 use Rattle.mb_core_spec.specs.declared.stages.Stage.{Stage}
+use Rattle.mb_core_spec.specs.declared.stages.Stage.TheVariants as stage
 use Rattle.mb_edge.specs.Crossings.{next_nth, place_of}
 use Rattle.mb_edge.specs.declared.crossings.Crossing.{Crossing}
 use Rattle.mb_edge.specs.declared.crossings.Crossings.{Crossings}
@@ -15,66 +16,130 @@ use Rattle.mb_kinds.specs.declared.faults.Ticket.{Ticket}
 use Rattle.mb_run.specs.Events.{StrikesCall}
 use Rattle.mb_run.specs.Pages.{has}
 use Rattle.mb_run.specs.Recovering.{awaits_remount, counted, next_of}
-use Rattle.mb_run.specs.Runs.{IsTakenFirst, TakesTested, is_near, is_plain, is_struck_inside}
+use Rattle.mb_run.specs.Runs.{EntryTakesFaults, TakesFaults, TakesUpTo, is_near, is_plain, recoveries_of, strikes_inside, strikes_of}
 use Rattle.mb_run.specs.Served.{AreSixCounts, advanced, backed}
 use Rattle.mb_run.specs.Sights.{Sight, one_if}
-use Rattle.mb_run.specs.Tallies.{AreTallied, HasFinished, HasPassedPoints, HasTallied, IsBetween, IsPast, IsUpToDate, IsRestarted, IsTallied, count_of, is_in, is_logged}
+use Rattle.mb_run.specs.Tallies.{AreTallied, HasPassedAtLeast, HasPassedPoints, HasTallied, IsBetween, IsPast, IsUpToDate, IsRestarted, IsTallied, count_of, is_in, is_logged}
 use Rattle.mb_run.specs.declared.runner.At.{At}
 use Rattle.mb_run.specs.declared.runner.At.TheVariants as at
 use Rattle.mb_run.specs.declared.runner.Runner.{Runner}
 use Rattle.mb_run.proofs.Lists.{all_both, all_map}
-use Rattle.mb_run.proofs.TallyRecords.{counted_here, counted_most, counted_some, counted_stays, counted_there, fault_at, inside_later, next_more, past_push, taken_go, taken_struck, tallied_push}
+use Rattle.mb_run.proofs.TallyRecords.{counted_here, counted_more, counted_most, counted_some, counted_there, fault_at, next_more, past_push, recoveries_left, recoveries_most, strikes_here, strikes_there, taken_go, taken_struck, tallied_push, up_to_less}
 
 abbrev pub with_counted : Runner → Kind → Runner
 with_counted runner kind = record runner { crossings = counted runner.crossings kind }
 
 -- ---- which fault points a call passed
 
-pub lacks_leave : (crossings : Crossings) (pages : PagesState) (answered : Bool) → answered ≡ false → HasPassedPoints crossings pages answered at.Outside → count_of crossings Leave ≡ 0
-lacks_leave crossings pages true is passed = cc
-lacks_leave crossings pages false is passed = passed
+pub lacks_leave : (records : List FaultRecord) (crossings : Crossings) (pages : PagesState) (answered : Bool) → answered ≡ false → HasPassedPoints records crossings pages answered at.Outside → HasPassedAtLeast records crossings 0 0 0 × (count_of crossings Leave ≡ 0)
+lacks_leave records crossings pages true is passed = cc
+lacks_leave records crossings pages false is passed = passed
 
-pub passed_back : (crossings : Crossings) (pages : PagesState) (answered : Bool) → answered ≡ false → count_of crossings Leave ≡ 0 → HasPassedPoints crossings pages answered at.Outside
-passed_back crossings pages true is none = cc
-passed_back crossings pages false is none = none
+pub passed_back : (records : List FaultRecord) (crossings : Crossings) (pages : PagesState) (answered : Bool) → answered ≡ false → HasPassedAtLeast records crossings 0 0 0 → count_of crossings Leave ≡ 0 → HasPassedPoints records crossings pages answered at.Outside
+passed_back records crossings pages true is least none = cc
+passed_back records crossings pages false is least none = (least, none)
 
-passed_left : (crossings : Crossings) (pages : PagesState) (answered : Bool) → answered ≡ true → HasFinished crossings → count_of crossings Leave ≢ 0 → HasPassedPoints crossings pages answered at.Outside
-passed_left crossings pages true is finished some = (finished, some)
-passed_left crossings pages false is finished some = cc
+passed_left : (records : List FaultRecord) (crossings : Crossings) (pages : PagesState) (answered : Bool) → answered ≡ true → HasPassedAtLeast records crossings 1 1 1 → count_of crossings Leave ≢ 0 → HasPassedPoints records crossings pages answered at.Outside
+passed_left records crossings pages true is finished some = (finished, some)
+passed_left records crossings pages false is finished some = cc
 
-pub passed_pages : (crossings : Crossings) (one other : PagesState) (answered : Bool) → HasPassedPoints crossings one answered at.Outside → HasPassedPoints crossings other answered at.Outside
-passed_pages crossings one other true passed = passed
-passed_pages crossings one other false passed = passed
+pub passed_pages : (records : List FaultRecord) (crossings : Crossings) (one other : PagesState) (answered : Bool) → HasPassedPoints records crossings one answered at.Outside → HasPassedPoints records crossings other answered at.Outside
+passed_pages records crossings one other true passed = passed
+passed_pages records crossings one other false passed = passed
 
-pub left_passed : (crossings : Crossings) (pages : PagesState) (answered : Bool) → answered ≡ true → HasPassedPoints crossings pages answered at.Outside → HasFinished crossings × (count_of crossings Leave ≢ 0)
-left_passed crossings pages true is passed = passed
-left_passed crossings pages false is passed = cc
+pub left_passed : (records : List FaultRecord) (crossings : Crossings) (pages : PagesState) (answered : Bool) → answered ≡ true → HasPassedPoints records crossings pages answered at.Outside → HasPassedAtLeast records crossings 1 1 1 × (count_of crossings Leave ≢ 0)
+left_passed records crossings pages true is passed = passed
+left_passed records crossings pages false is passed = cc
 
-pub restarted_same : (before now : Crossings) (on : Stage) (answered : Bool) → count_of now Remount ≡ count_of before Remount → IsRestarted before on answered → IsRestarted now on answered
-restarted_same before now on answered same is = elim is [ inl some ↦ inl (λ none. some (sym same ∙ none)) | inr lacks ↦ inr lacks ]
+-- as many, or fewer
+pub passed_less : (records : List FaultRecord) (crossings : Crossings) (entered gathered finished : ℕ) → HasPassedAtLeast records crossings entered gathered finished → HasPassedAtLeast records crossings 0 0 0
+passed_less records crossings entered gathered finished least =
+    let twice = least.twice in
+    let enters = least.enters in
+    let gathers = least.gathers in
+    let finishes = least.finishes in
+    record { twice = omega (arith, twice); enters = omega (arith, enters); gathers = omega (arith, gathers); finishes = omega (arith, finishes) }
+
+-- wherever it stands
+pub passed_any : (records : List FaultRecord) (crossings : Crossings) (pages : PagesState) (answered : Bool) (stand : At) → HasPassedPoints records crossings pages answered stand → HasPassedAtLeast records crossings 0 0 0
+passed_any records crossings pages true at.Outside passed = passed_less records crossings 1 1 1 passed.0
+passed_any records crossings pages false at.Outside passed = passed.0
+passed_any records crossings pages answered (at.Inside ticket) passed = passed_less records crossings 1 (one_if (has pages 0)) 0 passed.0
+passed_any records crossings pages answered (at.Logged ticket) passed = passed_less records crossings 1 1 1 passed.0
+
+-- ---- how often the file system was started anew
+
+pub restarted_same : (records : List FaultRecord) (before now : Crossings) (on : Stage) (answered : Bool) → now.caller ≡ before.caller → now.ordinal ≡ before.ordinal → count_of now Remount ≡ count_of before Remount → IsRestarted records before on answered
+    → IsRestarted records now on answered
+restarted_same records before now on answered caller ordinal same is =
+    let owed : recoveries_of records now.caller now.ordinal ≡ recoveries_of records before.caller before.ordinal = ap (λ n. recoveries_of records n now.ordinal) caller ∙ ap (recoveries_of records before.caller) ordinal in
+    elim is [ inl all ↦ inl (omega (arith, all, owed, same)) | inr lacks ↦ (let low = lacks.1 in inr (lacks.0, omega (arith, low, owed, same), lacks.2)) ]
+
+-- after each fault, where the call has its entry
+pub restarted_all : (records : List FaultRecord) (crossings : Crossings) (on : Stage) (answered : Bool) → answered ≡ true → IsRestarted records crossings on answered → recoveries_of records crossings.caller crossings.ordinal ≤ count_of crossings Remount
+restarted_all records crossings on answered is restarted = elim restarted [ inl all ↦ all | inr lacks ↦ absurd (let wrong : true ≡ false = sym is ∙ lacks.0 in cc) ]
+
+-- or where the volume runs
+pub restarted_runs : (records : List FaultRecord) (crossings : Crossings) (on : Stage) (answered : Bool) → on ≡ stage.Running → IsRestarted records crossings on answered → recoveries_of records crossings.caller crossings.ordinal ≤ count_of crossings Remount
+restarted_runs records crossings on answered runs restarted = elim restarted [
+  | inl all ↦ all
+  | inr lacks ↦ elim lacks.2 [
+    | inl awaits ↦ absurd (let wrong : false ≡ true = ap awaits_remount (sym runs) ∙ awaits in cc)
+    | inr fails ↦ absurd (let wrong : stage.Running ≡ stage.Failed = sym runs ∙ fails in cc)
+  ]
+]
+
+-- after each but one
+pub restarted_most : (records : List FaultRecord) (crossings : Crossings) (on : Stage) (answered : Bool) → IsRestarted records crossings on answered → recoveries_of records crossings.caller crossings.ordinal ≤ count_of crossings Remount + 1
+restarted_most records crossings on answered restarted = elim restarted [ inl all ↦ omega (arith, all) | inr lacks ↦ lacks.1 ]
 
 -- ---- a call ends
 
--- a call that passed all fault points, and those before it, took their faults
-module _ (test : Option (Crossing → Bool)) (crossings : Crossings) (records : List FaultRecord) (on : Stage) (finished : HasFinished crossings) (left : count_of crossings Leave ≢ 0)
-    (taken : (kind : Kind) → count_of crossings kind ≢ 0 → IsTakenFirst test records crossings.caller crossings.ordinal kind) (restarted : is_struck_inside records crossings.caller crossings.ordinal ≡ true → IsRestarted crossings on true) where
-  own_taken : (entry : Entry) → entry.caller ≡ crossings.caller → entry.ordinal ≡ crossings.ordinal → TakesTested test records entry
-  own_taken entry caller ordinal = record {
-    enters = rw (caller, ordinal) (taken Enter finished.enters);
-    gathers = rw (caller, ordinal) (taken Gather finished.gathers);
-    finishes = rw (caller, ordinal) (taken Finish finished.finishes);
-    leaves = rw (caller, ordinal) (taken Leave left);
-    remounts = λ struck. rw (caller, ordinal)
-        (let is : is_struck_inside records crossings.caller crossings.ordinal ≡ true = ap (λ n. is_struck_inside records n crossings.ordinal) (sym caller) ∙ ap (λ n. is_struck_inside records entry.caller n) (sym ordinal) ∙ struck in
-        taken Remount (elim (restarted is) [ inl some ↦ some | inr lacks ↦ absurd (let wrong : true ≡ false = lacks.0 in cc) ]));
-  }
+at_least_one : (n : ℕ) → n ≢ 0 → 1 ≤ n
+at_least_one zero some = absurd (some refl)
+at_least_one (suc n) some = omega arith
 
-  one_taken : (entry : Entry) → IsPast test records crossings true entry → is_plain entry.reply ≡ true → TakesTested test records entry
-  one_taken entry (inl mine) plain = own_taken entry mine.0 mine.1
-  one_taken entry (inr past) plain = past.1 plain
+-- a call that passed so many fault points took their faults
+module _ (test : Option (Crossing → Bool)) (crossings : Crossings) (records : List FaultRecord) (taken : (kind : Kind) → TakesUpTo test records crossings.caller crossings.ordinal kind (count_of crossings kind)) where
+  of_own : (plain : ℕ) → HasPassedAtLeast records crossings plain plain plain → plain ≤ count_of crossings Leave → recoveries_of records crossings.caller crossings.ordinal + plain ≤ count_of crossings Remount + 1
+      → TakesFaults test records crossings.caller crossings.ordinal plain
+  of_own plain passed leaves restarted =
+      let caller : ℕ = crossings.caller in
+      let ordinal : ℕ = crossings.ordinal in
+      let less : (kind : Kind) (n : ℕ) → n ≤ count_of crossings kind → TakesUpTo test records caller ordinal kind n = λ kind n low. up_to_less test records caller ordinal kind (count_of crossings kind) n low (taken kind) in
+      record {
+        twice = passed.twice;
+        enters = less Enter (strikes_inside records caller ordinal + plain) passed.enters;
+        gathers = less Gather (strikes_of records caller ordinal Gather + strikes_of records caller ordinal Finish + plain) passed.gathers;
+        finishes = less Finish (strikes_of records caller ordinal Finish + plain) passed.finishes;
+        leaves = less Leave plain leaves;
+        remounts = less Remount (recoveries_of records caller ordinal + plain - 1) (omega (arith, restarted));
+      }
 
-  pub all_taken : (history : List Entry) → AllByRecursion (IsPast test records crossings true) history → AllByRecursion (λ (entry : Entry). is_plain entry.reply ≡ true → TakesTested test records entry) history
-  all_taken history all = all_map (IsPast test records crossings true) (λ (entry : Entry). is_plain entry.reply ≡ true → TakesTested test records entry) history one_taken all
+  -- its entry, which is plain or not
+  pub of_entry : (entry : Entry) → entry.caller ≡ crossings.caller → entry.ordinal ≡ crossings.ordinal → ((is_plain entry.reply ≡ false) ⊎ (HasPassedAtLeast records crossings 1 1 1 × (count_of crossings Leave ≢ 0) × (recoveries_of records crossings.caller crossings.ordinal ≤ count_of crossings Remount)))
+      → HasPassedAtLeast records crossings 0 0 0 → recoveries_of records crossings.caller crossings.ordinal ≤ count_of crossings Remount + 1 → EntryTakesFaults test records entry
+  of_entry entry caller ordinal finished least most =
+      let own : TakesFaults test records crossings.caller crossings.ordinal (one_if (is_plain entry.reply)) = by_plain (is_plain entry.reply) finished in
+      subst (λ n. TakesFaults test records n entry.ordinal (one_if (is_plain entry.reply))) (sym caller) (subst (λ n. TakesFaults test records crossings.caller n (one_if (is_plain entry.reply))) (sym ordinal) own)
+    where
+      by_plain : (plain : Bool) → ((plain ≡ false) ⊎ (HasPassedAtLeast records crossings 1 1 1 × (count_of crossings Leave ≢ 0) × (recoveries_of records crossings.caller crossings.ordinal ≤ count_of crossings Remount)))
+          → TakesFaults test records crossings.caller crossings.ordinal (one_if plain)
+      by_plain false told = of_own 0 least (omega arith) (omega (arith, most))
+      by_plain true (inl wrong) = absurd (let no : true ≡ false = wrong in cc)
+      by_plain true (inr all) = (let some = at_least_one (count_of crossings Leave) all.1 in let restarted = all.2 in of_own 1 all.0 some (omega (arith, restarted)))
+
+-- its entry, and those before it, have taken their faults
+own_or_past : (test : Option (Crossing → Bool)) (records : List FaultRecord) (crossings : Crossings) → ((entry : Entry) → entry.caller ≡ crossings.caller → entry.ordinal ≡ crossings.ordinal → EntryTakesFaults test records entry)
+    → (entry : Entry) → IsPast test records crossings true entry → EntryTakesFaults test records entry
+own_or_past test records crossings own entry (inl mine) = own entry mine.0 mine.1
+own_or_past test records crossings own entry (inr past) = past.1
+
+pub all_taken : (test : Option (Crossing → Bool)) (crossings : Crossings) (records : List FaultRecord) → ((kind : Kind) → TakesUpTo test records crossings.caller crossings.ordinal kind (count_of crossings kind)) → HasPassedAtLeast records crossings 1 1 1
+    → count_of crossings Leave ≢ 0 → recoveries_of records crossings.caller crossings.ordinal ≤ count_of crossings Remount → (history : List Entry) → AllByRecursion (IsPast test records crossings true) history → AllByRecursion (EntryTakesFaults test records) history
+all_taken test crossings records taken finished left restarted history all =
+    all_map (IsPast test records crossings true) (EntryTakesFaults test records) history
+    (own_or_past test records crossings (λ entry caller ordinal. of_entry test crossings records taken entry caller ordinal (inr (finished, left, restarted)) (passed_less records crossings 1 1 1 finished) (omega (arith, restarted)))) all
 
 one_earlier : (test : Option (Crossing → Bool)) (records : List FaultRecord) (crossings : Crossings) (answered : Bool) (entry : Entry) → IsPast test records crossings answered entry → entry.caller ≡ crossings.caller → entry.ordinal < crossings.ordinal + 1
 one_earlier test records crossings answered entry (inl mine) own = (let here = mine.1 in omega (arith, here))
@@ -88,25 +153,37 @@ pub between : (test : Option (Crossing → Bool)) (sight : Sight) (runner : Runn
     → IsBetween test sight (advanced runner)
 between test sight runner tallied earlier = (tallied, record { asked = refl; outside = refl; lacks = refl; counts = refl; earlier = earlier })
 
+-- where it leaves, the other fault points are as they were
+passed_leave : (records : List FaultRecord) (crossings : Crossings) → AreSixCounts crossings → HasPassedAtLeast records crossings 1 1 1 → HasPassedAtLeast records (counted crossings Leave) 1 1 1
+passed_leave records crossings are was =
+    let twice = was.twice in
+    let enters = was.enters in
+    let gathers = was.gathers in
+    let finishes = was.finishes in
+    let e = counted_there crossings Leave are Enter (λ same. omega (arith, same)) in
+    let g = counted_there crossings Leave are Gather (λ same. omega (arith, same)) in
+    let f = counted_there crossings Leave are Finish (λ same. omega (arith, same)) in
+    record { twice = twice; enters = omega (arith, enters, e); gathers = omega (arith, gathers, g); finishes = omega (arith, finishes, f) }
+
 -- its reply is handed out, and nothing else changes
 module _ (test : Option (Crossing → Bool)) (old new : Sight) (runner : Runner) (records : new.records ≡ old.records) (on : new.stage ≡ old.stage) where
-  tallied_still : AreTallied old.records → (m : ℕ) → m + one_if (awaits_remount old.stage) ≤ length old.records → AllByRecursion (λ (entry : Entry). is_plain entry.reply ≡ true → TakesTested test old.records entry) new.history → HasTallied test new
+  tallied_still : AreTallied old.records → (m : ℕ) → m + one_if (awaits_remount old.stage) ≤ length old.records → AllByRecursion (EntryTakesFaults test old.records) new.history → HasTallied test new
   tallied_still are m fewer taken =
       let same : one_if (awaits_remount new.stage) ≡ one_if (awaits_remount old.stage) = ap (λ (s : Stage). one_if (awaits_remount s)) on in
       let size : length new.records ≡ length old.records = ap length records in
       record {
         records = subst AreTallied (sym records) are;
         remounts = omega (arith, fewer, same, size);
-        taken = subst (λ (rs : List FaultRecord). AllByRecursion (λ (entry : Entry). is_plain entry.reply ≡ true → TakesTested test rs entry) new.history) (sym records) taken;
+        taken = subst (λ (rs : List FaultRecord). AllByRecursion (EntryTakesFaults test rs) new.history) (sym records) taken;
       }
 
   -- a call that was struck where it left
   pub ends_outside : IsTallied test old runner at.Outside → runner.answered ≡ true → new.history ≡ old.history → IsBetween test new (advanced runner)
   ends_outside tally answered history =
-      let passed = left_passed runner.crossings runner.pages runner.answered answered tally.passed in
+      let passed = left_passed old.records runner.crossings runner.pages runner.answered answered tally.passed in
       let past = subst (λ (b : Bool). AllByRecursion (IsPast test old.records runner.crossings b) old.history) answered tally.entries in
-      let taken = all_taken test runner.crossings old.records old.stage passed.0 passed.1 tally.taken (λ struck. subst (IsRestarted runner.crossings old.stage) answered (tally.restarted struck)) old.history past in
-      between test new runner (tallied_still tally.records (count_of runner.crossings Remount) tally.remounts (subst (λ (es : List Entry). AllByRecursion (λ (entry : Entry). is_plain entry.reply ≡ true → TakesTested test old.records entry) es) (sym history) taken))
+      let taken = all_taken test runner.crossings old.records tally.taken passed.0 passed.1 (restarted_all old.records runner.crossings old.stage runner.answered answered tally.restarted) old.history past in
+      between test new runner (tallied_still tally.records (count_of runner.crossings Remount) tally.remounts (subst (λ (es : List Entry). AllByRecursion (EntryTakesFaults test old.records) es) (sym history) taken))
       (subst (λ (es : List Entry). AllByRecursion (λ (entry : Entry). entry.caller ≡ runner.crossings.caller → entry.ordinal < runner.crossings.ordinal + 1) es) (sym history) (all_earlier test old.records runner.crossings true old.history past))
 
   -- a call that left
@@ -114,39 +191,35 @@ module _ (test : Option (Crossing → Bool)) (old new : Sight) (runner : Runner)
       → IsBetween test new (advanced (with_counted runner Leave))
   ends_left are ticket tally answered unfired history =
       let crossings : Crossings = counted runner.crossings Leave in
-      let finished : HasFinished crossings = record {
-        enters = counted_stays runner.crossings Leave are Enter tally.passed.0.enters;
-        gathers = counted_stays runner.crossings Leave are Gather tally.passed.0.gathers;
-        finishes = counted_stays runner.crossings Leave are Finish tally.passed.0.finishes;
-      } in
+      let finished : HasPassedAtLeast old.records crossings 1 1 1 = passed_leave old.records runner.crossings are tally.passed.0 in
       let past = subst (λ (b : Bool). AllByRecursion (IsPast test old.records crossings b) old.history) answered tally.entries in
       let same : count_of crossings Remount ≡ count_of runner.crossings Remount = counted_there runner.crossings Leave are Remount (λ same. omega (arith, same)) in
-      let taken = all_taken test crossings old.records old.stage finished (counted_some runner.crossings Leave are) (taken_go runner.crossings Leave are test old.records tally.taken unfired)
-      (λ struck. restarted_same runner.crossings crossings old.stage true same (subst (IsRestarted runner.crossings old.stage) answered (tally.restarted struck))) old.history past in
-      between test new (with_counted runner Leave)
-      (tallied_still tally.records (count_of runner.crossings Remount) tally.remounts (subst (λ (es : List Entry). AllByRecursion (λ (entry : Entry). is_plain entry.reply ≡ true → TakesTested test old.records entry) es) (sym history) taken))
+      let all = restarted_all old.records runner.crossings old.stage runner.answered answered tally.restarted in
+      let taken = all_taken test crossings old.records (taken_go runner.crossings Leave are test old.records tally.taken unfired) finished (counted_some runner.crossings Leave are) (omega (arith, all, same)) old.history past in
+      between test new (with_counted runner Leave) (tallied_still tally.records (count_of runner.crossings Remount) tally.remounts (subst (λ (es : List Entry). AllByRecursion (EntryTakesFaults test old.records) es) (sym history) taken))
       (subst (λ (es : List Entry). AllByRecursion (λ (entry : Entry). entry.caller ≡ runner.crossings.caller → entry.ordinal < runner.crossings.ordinal + 1) es) (sym history) (all_earlier test old.records crossings true old.history past))
 
   -- a call that ends with an entry which is no step of the model
-  pub ends_unplain : (stand : At) → IsTallied test old runner stand → runner.answered ≡ false → (entry : Entry) → entry.ordinal ≡ runner.crossings.ordinal → is_plain entry.reply ≡ false → new.history ≡ old.history ++ entry ∷ [] → IsBetween test new (advanced runner)
-  ends_unplain stand tally lacks entry ordinal unplain history =
+  pub ends_unplain : (stand : At) → IsTallied test old runner stand → runner.answered ≡ false → (entry : Entry) → entry.caller ≡ runner.crossings.caller → entry.ordinal ≡ runner.crossings.ordinal → is_plain entry.reply ≡ false → new.history ≡ old.history ++ entry ∷ []
+      → IsBetween test new (advanced runner)
+  ends_unplain stand tally lacks entry caller ordinal unplain history =
       let past = subst (λ (b : Bool). AllByRecursion (IsPast test old.records runner.crossings b) old.history) lacks tally.entries in
-      let taken : AllByRecursion (λ (e : Entry). is_plain e.reply ≡ true → TakesTested test old.records e) old.history =
-      all_map (IsPast test old.records runner.crossings false) (λ (e : Entry). is_plain e.reply ≡ true → TakesTested test old.records e) old.history unanswered past in
-      let all = all_both (λ (e : Entry). is_plain e.reply ≡ true → TakesTested test old.records e) old.history (entry ∷ []) taken ((λ plain. absurd (let wrong : true ≡ false = sym plain ∙ unplain in cc)), tt) in
-      between test new runner (tallied_still tally.records (count_of runner.crossings Remount) tally.remounts (subst (λ (es : List Entry). AllByRecursion (λ (e : Entry). is_plain e.reply ≡ true → TakesTested test old.records e) es) (sym history) all))
+      let taken : AllByRecursion (EntryTakesFaults test old.records) old.history = all_map (IsPast test old.records runner.crossings false) (EntryTakesFaults test old.records) old.history unanswered past in
+      let its = of_entry test runner.crossings old.records tally.taken entry caller ordinal (inl unplain) (passed_any old.records runner.crossings runner.pages runner.answered stand tally.passed) (restarted_most old.records runner.crossings old.stage runner.answered tally.restarted) in
+      let all = all_both (EntryTakesFaults test old.records) old.history (entry ∷ []) taken (its, tt) in
+      between test new runner (tallied_still tally.records (count_of runner.crossings Remount) tally.remounts (subst (λ (es : List Entry). AllByRecursion (EntryTakesFaults test old.records) es) (sym history) all))
       (subst (λ (es : List Entry). AllByRecursion (λ (e : Entry). e.caller ≡ runner.crossings.caller → e.ordinal < runner.crossings.ordinal + 1) es) (sym history)
       (all_both (λ (e : Entry). e.caller ≡ runner.crossings.caller → e.ordinal < runner.crossings.ordinal + 1) old.history (entry ∷ []) (all_earlier test old.records runner.crossings false old.history past) ((λ own. omega (arith, ordinal)), tt)))
     where
-      unanswered : (e : Entry) → IsPast test old.records runner.crossings false e → is_plain e.reply ≡ true → TakesTested test old.records e
-      unanswered e (inl mine) plain = absurd (let wrong : false ≡ true = mine.2 in cc)
-      unanswered e (inr past) plain = past.1 plain
+      unanswered : (e : Entry) → IsPast test old.records runner.crossings false e → EntryTakesFaults test old.records e
+      unanswered e (inl mine) = absurd (let wrong : false ≡ true = mine.2 in cc)
+      unanswered e (inr past) = past.1
 
 -- ---- a call goes on
 
 -- the entries and records stay, and the call stands as before or farther
 pub tally_on : (test : Option (Crossing → Bool)) (old new : Sight) (before now : Runner) (from to : At) → IsTallied test old before from → new.records ≡ old.records → new.stage ≡ old.stage → new.history ≡ old.history → now.crossings ≡ before.crossings
-    → now.answered ≡ before.answered → now.asked ≡ false → IsUpToDate new now.crossings.caller to → HasPassedPoints now.crossings now.pages now.answered to → is_in from ≤ is_in to → is_logged from ≤ is_logged to → IsTallied test new now to
+    → now.answered ≡ before.answered → now.asked ≡ false → IsUpToDate new now.crossings.caller to → HasPassedPoints old.records now.crossings now.pages now.answered to → is_in from ≤ is_in to → is_logged from ≤ is_logged to → IsTallied test new now to
 tally_on test old new before now from to tally records on history crossings answered asked present passed inner later =
     let size : length new.records ≡ length old.records = ap length records in
     let same : (kind : Kind) → count_of now.crossings kind ≡ count_of before.crossings kind = λ kind. ap (λ (c : Crossings). count_of c kind) crossings in
@@ -158,7 +231,7 @@ tally_on test old new before now from to tally records on history crossings answ
       enters = (let was = tally.enters in omega (arith, size, same Enter, was, inner));
       finishes = (let was = tally.finishes in omega (arith, size, same Finish, was, later));
       remounts = (let was = tally.remounts in omega (arith, size, same Remount, was, awaits));
-      passed = passed;
+      passed = rw records passed;
       taken = rw (crossings, records) tally.taken;
       restarted = rw (crossings, answered, records, on) tally.restarted;
       entries = rw (crossings, answered, records, history) tally.entries;
@@ -172,7 +245,7 @@ module _ (test : Option (Crossing → Bool)) (old : Sight) (runner : Runner) (ki
 
   -- the call goes on
   pub tally_go : IfSome test (λ fires. fires (next_of kind runner.crossings) ≡ false) → (to : At) → IsUpToDate old runner.crossings.caller to → count_of (counted runner.crossings kind) Enter ≤ length old.records + is_in to
-      → count_of (counted runner.crossings kind) Finish ≤ length old.records + is_logged to → HasPassedPoints (counted runner.crossings kind) runner.pages runner.answered to → IsTallied test old (with_counted runner kind) to
+      → count_of (counted runner.crossings kind) Finish ≤ length old.records + is_logged to → HasPassedPoints old.records (counted runner.crossings kind) runner.pages runner.answered to → IsTallied test old (with_counted runner kind) to
   tally_go unfired to present enters finishes passed = record {
     asked = tally.asked;
     present = present;
@@ -182,18 +255,32 @@ module _ (test : Option (Crossing → Bool)) (old : Sight) (runner : Runner) (ki
     remounts = (let was = tally.remounts in omega (arith, same_remounts, was));
     passed = passed;
     taken = taken_go runner.crossings kind are test old.records tally.taken unfired;
-    restarted = λ struck. restarted_same runner.crossings (counted runner.crossings kind) old.stage runner.answered same_remounts (tally.restarted struck);
+    restarted = restarted_same old.records runner.crossings (counted runner.crossings kind) old.stage runner.answered refl refl same_remounts tally.restarted;
     entries = tally.entries;
   }
 
+  -- the records with that of the call
+  abbrev struck_records : List FaultRecord
+  struck_records = old.records ++ fault_at runner.crossings kind (next_nth runner.crossings.counts kind) ∷ []
+
+  -- after the fault the file system is to be started anew, if not by the call
+  owes : old.stage ≡ stage.Running → (on : Stage) → awaits_remount on ≡ true → (runner.answered ≡ false) ⊎ (place_of kind ≡ 3) → IsRestarted struck_records (counted runner.crossings kind) on runner.answered
+  owes runs on awaits late =
+      let nth : ℕ = next_nth runner.crossings.counts kind in
+      let was = restarted_runs old.records runner.crossings old.stage runner.answered runs tally.restarted in
+      elim late [
+        | inl lacks ↦ (let most = recoveries_most old.records runner.crossings kind nth in inr (lacks, omega (arith, was, most, same_remounts), inl awaits))
+        | inr third ↦ (let same = recoveries_left old.records runner.crossings kind nth third in inl (omega (arith, was, same, same_remounts)))
+      ]
+
   -- the call is struck
-  pub tally_struck : (new : Sight) (ticket : Ticket) → ticket.caller ≡ runner.crossings.caller → ticket.ordinal ≡ runner.crossings.ordinal → StrikesCall old new ticket kind (next_nth runner.crossings.counts kind)
+  pub tally_struck : (new : Sight) (ticket : Ticket) → ticket.caller ≡ runner.crossings.caller → ticket.ordinal ≡ runner.crossings.ordinal → old.stage ≡ stage.Running → StrikesCall old new ticket kind (next_nth runner.crossings.counts kind)
       → is_near (length old.records) kind (next_nth runner.crossings.counts kind) ≡ true → count_of (counted runner.crossings kind) Enter ≤ length old.records + 1 → count_of (counted runner.crossings kind) Finish ≤ length old.records + 1
-      → HasPassedPoints (counted runner.crossings kind) no_pages runner.answered at.Outside → (runner.answered ≡ false) ⊎ (3 ≤ place_of kind) → IsTallied test new (backed (with_counted runner kind)) at.Outside
-  tally_struck new ticket own ordinal strikes near enters finishes passed late =
+      → HasPassedPoints struck_records (counted runner.crossings kind) no_pages runner.answered at.Outside → (runner.answered ≡ false) ⊎ (place_of kind ≡ 3) → IsTallied test new (backed (with_counted runner kind)) at.Outside
+  tally_struck new ticket own ordinal runs strikes near enters finishes passed late =
       let nth : ℕ = next_nth runner.crossings.counts kind in
       let fault : FaultRecord = fault_at runner.crossings kind nth in
-      let more : new.records ≡ old.records ++ fault ∷ [] = strikes.records
+      let more : new.records ≡ struck_records = strikes.records
       ∙ ap (λ n. old.records ++ record { caller = n; ordinal = ticket.ordinal; kind = kind; nth = nth } ∷ []) own ∙ ap (λ n. old.records ++ record { caller = runner.crossings.caller; ordinal = n; kind = kind; nth = nth } ∷ []) ordinal in
       let size : length new.records ≡ length old.records + 1 = ap length more ∙ length-append old.records (fault ∷ []) in
       let awaits : awaits_remount new.stage ≡ true = ap awaits_remount strikes.stage in
@@ -205,19 +292,13 @@ module _ (test : Option (Crossing → Bool)) (old : Sight) (runner : Runner) (ki
         enters = omega (arith, enters, size);
         finishes = omega (arith, finishes, size);
         remounts = (let was = tally.remounts in omega (arith, same_remounts, was, size, one));
-        passed = passed;
-        taken = subst (λ (rs : List FaultRecord). (other : Kind) → count_of (counted runner.crossings kind) other ≢ 0 → IsTakenFirst test rs runner.crossings.caller runner.crossings.ordinal other) (sym more)
+        passed = subst (λ (rs : List FaultRecord). HasPassedPoints rs (counted runner.crossings kind) no_pages runner.answered at.Outside) (sym more) passed;
+        taken = subst (λ (rs : List FaultRecord). (other : Kind) → TakesUpTo test rs runner.crossings.caller runner.crossings.ordinal other (count_of (counted runner.crossings kind) other)) (sym more)
             (taken_struck runner.crossings kind are test old.records tally.taken);
-        restarted = λ struck. elim late [
-          | inl lacks ↦ inr (lacks, inl awaits)
-          | inr beyond ↦ (
-              let was : is_struck_inside old.records runner.crossings.caller runner.crossings.ordinal ≡ true =
-              sym (inside_later old.records fault runner.crossings.caller runner.crossings.ordinal beyond) ∙ ap (λ (rs : List FaultRecord). is_struck_inside rs runner.crossings.caller runner.crossings.ordinal) (sym more) ∙ struck in
-              elim (tally.restarted was) [ inl some ↦ inl (λ none. some (sym same_remounts ∙ none)) | inr lacks ↦ inr (lacks.0, inl awaits) ])
-        ];
+        restarted = subst (λ (rs : List FaultRecord). IsRestarted rs (counted runner.crossings kind) new.stage runner.answered) (sym more) (owes runs new.stage awaits late);
         entries = subst (λ (es : List Entry). AllByRecursion (IsPast test new.records (counted runner.crossings kind) runner.answered) es) (sym strikes.counts.history)
             (subst (λ (rs : List FaultRecord). AllByRecursion (IsPast test rs (counted runner.crossings kind) runner.answered) old.history) (sym more)
-            (all_map (IsPast test old.records runner.crossings runner.answered) (IsPast test (old.records ++ fault ∷ []) runner.crossings runner.answered) old.history (λ entry is. past_push test old.records runner.crossings kind nth runner.answered entry is) tally.entries));
+            (all_map (IsPast test old.records runner.crossings runner.answered) (IsPast test struck_records runner.crossings runner.answered) old.history (λ entry is. past_push test old.records runner.crossings kind nth runner.answered entry is) tally.entries));
       }
 
 -- ---- by its kinds
@@ -228,7 +309,7 @@ near_next n nth low = le-leb nth (n + 1) low
 never_remount : (n : ℕ) → n < 4 → 4 ≢ n
 never_remount n low same = omega (arith, low, same)
 
-module _ (test : Option (Crossing → Bool)) (old : Sight) (runner : Runner) (are : AreSixCounts runner.crossings) (ticket : Ticket) where
+module _ (test : Option (Crossing → Bool)) (old : Sight) (runner : Runner) (are : AreSixCounts runner.crossings) (ticket : Ticket) (runs : old.stage ≡ stage.Running) where
   abbrev n : ℕ
   n = length old.records
 
@@ -238,10 +319,29 @@ module _ (test : Option (Crossing → Bool)) (old : Sight) (runner : Runner) (ar
   abbrev after : Kind → Crossings
   after kind = counted runner.crossings kind
 
+  abbrev next : Kind → ℕ
+  next kind = next_nth runner.crossings.counts kind
+
+  abbrev with_fault : Kind → List FaultRecord
+  with_fault kind = old.records ++ fault_at runner.crossings kind (next kind) ∷ []
+
+  -- how many faults of a kind struck the call
+  abbrev struck : Kind → ℕ
+  struck kind = strikes_of old.records runner.crossings.caller runner.crossings.ordinal kind
+
+  more_of : (kind : Kind) → strikes_of (with_fault kind) runner.crossings.caller runner.crossings.ordinal kind ≡ struck kind + 1
+  more_of kind = strikes_here old.records runner.crossings kind (next kind)
+
+  same_of : (kind other : Kind) → place_of kind ≢ place_of other → strikes_of (with_fault kind) runner.crossings.caller runner.crossings.ordinal other ≡ struck other
+  same_of kind other apart = strikes_there old.records runner.crossings kind (next kind) other apart
+
   -- a call that entered just now
   module _ (tally : IsTallied test old runner at.Outside) (lacks : runner.answered ≡ false) where
+    was_outside : HasPassedAtLeast old.records runner.crossings 0 0 0 × (count_of runner.crossings Leave ≡ 0)
+    was_outside = lacks_leave old.records runner.crossings runner.pages runner.answered lacks tally.passed
+
     no_leave : count_of (after Enter) Leave ≡ 0
-    no_leave = counted_there runner.crossings Enter are Leave (λ same. omega (arith, same)) ∙ lacks_leave runner.crossings runner.pages runner.answered lacks tally.passed
+    no_leave = counted_there runner.crossings Enter are Leave (λ same. omega (arith, same)) ∙ was_outside.1
 
     one_more : count_of (after Enter) Enter ≤ n + 1
     one_more = let most = counted_most runner.crossings Enter are in let was = tally.enters in omega (arith, most, was)
@@ -249,58 +349,144 @@ module _ (test : Option (Crossing → Bool)) (old : Sight) (runner : Runner) (ar
     same_finishes : count_of (after Enter) Finish ≤ n
     same_finishes = let is = counted_there runner.crossings Enter are Finish (λ same. omega (arith, same)) in let was = tally.finishes in omega (arith, is, was)
 
-    pub enter_go : Unfired Enter → ticket.incarnation ≡ old.incarnation → old.fresh runner.crossings.caller ≡ true → runner.pages ≡ no_pages → IsTallied test old (with_counted runner Enter) (at.Inside ticket)
-    enter_go unfired present fresh empty =
-        tally_go test old runner Enter are at.Outside tally (never_remount 0 (omega arith)) unfired (at.Inside ticket) (present, fresh) one_more (omega (arith, same_finishes))
-        (record { enters = counted_some runner.crossings Enter are; gathers = λ there. absurd (let wrong : false ≡ true = ap (λ (p : PagesState). has p 0) (sym empty) ∙ there in cc); leaves = no_leave })
+    gathers_still : count_of (after Enter) Gather ≡ count_of runner.crossings Gather
+    gathers_still = counted_there runner.crossings Enter are Gather (λ same. omega (arith, same))
 
-    pub enter_struck : (new : Sight) → ticket.caller ≡ runner.crossings.caller → ticket.ordinal ≡ runner.crossings.ordinal → StrikesCall old new ticket Enter (next_nth runner.crossings.counts Enter) → IsTallied test new (backed (with_counted runner Enter)) at.Outside
-    enter_struck new own ordinal strikes =
+    finishes_still : count_of (after Enter) Finish ≡ count_of runner.crossings Finish
+    finishes_still = counted_there runner.crossings Enter are Finish (λ same. omega (arith, same))
+
+    -- it entered once more than it was struck
+    enters_more : strikes_inside old.records runner.crossings.caller runner.crossings.ordinal ≤ 1 → strikes_inside old.records runner.crossings.caller runner.crossings.ordinal + 1 ≤ count_of (after Enter) Enter
+    enters_more once = let was = was_outside.0.enters in counted_more runner.crossings Enter are (strikes_inside old.records runner.crossings.caller runner.crossings.ordinal) (omega (arith, was)) (omega (arith, once))
+
+    went_in : strikes_inside old.records runner.crossings.caller runner.crossings.ordinal ≤ 1 → HasPassedAtLeast old.records (after Enter) 1 0 0
+    went_in once =
+        let enters = enters_more once in
+        let gathers = was_outside.0.gathers in
+        let finishes = was_outside.0.finishes in
+        record { twice = omega (arith, once); enters = enters; gathers = omega (arith, gathers, gathers_still); finishes = omega (arith, finishes, finishes_still) }
+
+    struck_in : strikes_inside old.records runner.crossings.caller runner.crossings.ordinal ≤ 1 → HasPassedAtLeast (with_fault Enter) (after Enter) 0 0 0
+    struck_in once =
+        let enters = enters_more once in
+        let gathers = was_outside.0.gathers in
+        let finishes = was_outside.0.finishes in
+        let e = more_of Enter in
+        let g = same_of Enter Gather (λ same. omega (arith, same)) in
+        let f = same_of Enter Finish (λ same. omega (arith, same)) in
+        record { twice = omega (arith, once, e, g, f); enters = omega (arith, enters, e, g, f); gathers = omega (arith, gathers, gathers_still, g, f); finishes = omega (arith, finishes, finishes_still, f) }
+
+    pub enter_go : Unfired Enter → ticket.incarnation ≡ old.incarnation → old.fresh runner.crossings.caller ≡ true → runner.pages ≡ no_pages → strikes_inside old.records runner.crossings.caller runner.crossings.ordinal ≤ 1
+        → IsTallied test old (with_counted runner Enter) (at.Inside ticket)
+    enter_go unfired present fresh empty once =
+        tally_go test old runner Enter are at.Outside tally (never_remount 0 (omega arith)) unfired (at.Inside ticket) (present, fresh) one_more (omega (arith, same_finishes))
+        (subst (λ (p : PagesState). HasPassedAtLeast old.records (after Enter) 1 (one_if (has p 0)) 0) (sym empty) (went_in once), no_leave)
+
+    pub enter_struck : (new : Sight) → ticket.caller ≡ runner.crossings.caller → ticket.ordinal ≡ runner.crossings.ordinal → strikes_inside old.records runner.crossings.caller runner.crossings.ordinal ≤ 1
+        → StrikesCall old new ticket Enter (next_nth runner.crossings.counts Enter) → IsTallied test new (backed (with_counted runner Enter)) at.Outside
+    enter_struck new own ordinal once strikes =
         let here = counted_here runner.crossings Enter are in
-        tally_struck test old runner Enter are at.Outside tally (never_remount 0 (omega arith)) new ticket own ordinal strikes (near_next n (next_nth runner.crossings.counts Enter) (omega (arith, one_more, here))) one_more (omega (arith, same_finishes))
-        (passed_back (after Enter) no_pages runner.answered lacks no_leave) (inl lacks)
+        tally_struck test old runner Enter are at.Outside tally (never_remount 0 (omega arith)) new ticket own ordinal runs strikes (near_next n (next_nth runner.crossings.counts Enter) (omega (arith, one_more, here))) one_more (omega (arith, same_finishes))
+        (passed_back (with_fault Enter) (after Enter) no_pages runner.answered lacks (struck_in once) no_leave) (inl lacks)
 
   -- a call inside
   module _ (tally : IsTallied test old runner (at.Inside ticket)) (lacks : runner.answered ≡ false) where
     inside_leave : (kind : Kind) → 3 ≢ place_of kind → count_of (after kind) Leave ≡ 0
-    inside_leave kind apart = counted_there runner.crossings kind are Leave apart ∙ tally.passed.leaves
+    inside_leave kind apart = counted_there runner.crossings kind are Leave apart ∙ tally.passed.1
 
     inside_enters : (kind : Kind) → 0 ≢ place_of kind → count_of (after kind) Enter ≤ n + 1
     inside_enters kind apart = let is = counted_there runner.crossings kind are Enter apart in let was = tally.enters in omega (arith, is, was)
+
+    was_inside : HasPassedAtLeast old.records runner.crossings 1 (one_if (has runner.pages 0)) 0
+    was_inside = tally.passed.0
+
+    -- it gathers once more
+    gathers_more : struck Gather + struck Finish + 1 ≤ count_of (after Gather) Gather
+    gathers_more =
+        let twice = was_inside.twice in
+        let gathers = was_inside.gathers in
+        counted_more runner.crossings Gather are (struck Gather + struck Finish) (omega (arith, gathers)) (omega (arith, twice))
+
+    gathered : HasPassedAtLeast old.records (after Gather) 1 1 0
+    gathered =
+        let twice = was_inside.twice in
+        let enters = was_inside.enters in
+        let finishes = was_inside.finishes in
+        let enters_still = counted_there runner.crossings Gather are Enter (λ same. omega (arith, same)) in
+        let finishes_still = counted_there runner.crossings Gather are Finish (λ same. omega (arith, same)) in
+        record { twice = twice; enters = omega (arith, enters, enters_still); gathers = gathers_more; finishes = omega (arith, finishes, finishes_still) }
+
+    pub gathered_if : (some : Bool) → HasPassedAtLeast old.records (after Gather) 1 (one_if some) 0
+    gathered_if true = gathered
+    gathered_if false = (let gathers = gathered.gathers in record { twice = gathered.twice; enters = gathered.enters; gathers = omega (arith, gathers); finishes = gathered.finishes })
+
+    struck_gathering : HasPassedAtLeast (with_fault Gather) (after Gather) 0 0 0
+    struck_gathering =
+        let twice = was_inside.twice in
+        let enters = gathered.enters in
+        let finishes = gathered.finishes in
+        let gathers = gathers_more in
+        let e = same_of Gather Enter (λ same. omega (arith, same)) in
+        let g = more_of Gather in
+        let f = same_of Gather Finish (λ same. omega (arith, same)) in
+        record { twice = omega (arith, twice, e, g, f); enters = omega (arith, enters, e, g, f); gathers = omega (arith, gathers, g, f); finishes = omega (arith, finishes, f) }
 
     pub gather_go : Unfired Gather → IsTallied test old (with_counted runner Gather) (at.Inside ticket)
     gather_go unfired =
         let same = counted_there runner.crossings Gather are Finish (λ same. omega (arith, same)) in
         let was = tally.finishes in
         tally_go test old runner Gather are (at.Inside ticket) tally (never_remount 1 (omega arith)) unfired (at.Inside ticket) tally.present (inside_enters Gather (λ same. omega (arith, same))) (omega (arith, same, was))
-        (record { enters = counted_stays runner.crossings Gather are Enter tally.passed.enters; gathers = λ there. counted_some runner.crossings Gather are; leaves = inside_leave Gather (λ same. omega (arith, same)) })
+        (gathered_if (has runner.pages 0), inside_leave Gather (λ same. omega (arith, same)))
 
     pub gather_struck : (new : Sight) → ticket.caller ≡ runner.crossings.caller → ticket.ordinal ≡ runner.crossings.ordinal → StrikesCall old new ticket Gather (next_nth runner.crossings.counts Gather) → IsTallied test new (backed (with_counted runner Gather)) at.Outside
     gather_struck new own ordinal strikes =
         let same = counted_there runner.crossings Gather are Finish (λ same. omega (arith, same)) in
         let was = tally.finishes in
-        tally_struck test old runner Gather are (at.Inside ticket) tally (never_remount 1 (omega arith)) new ticket own ordinal strikes refl (inside_enters Gather (λ same. omega (arith, same))) (omega (arith, same, was))
-        (passed_back (after Gather) no_pages runner.answered lacks (inside_leave Gather (λ same. omega (arith, same)))) (inl lacks)
+        tally_struck test old runner Gather are (at.Inside ticket) tally (never_remount 1 (omega arith)) new ticket own ordinal runs strikes refl (inside_enters Gather (λ same. omega (arith, same))) (omega (arith, same, was))
+        (passed_back (with_fault Gather) (after Gather) no_pages runner.answered lacks struck_gathering (inside_leave Gather (λ same. omega (arith, same)))) (inl lacks)
 
     finish_most : count_of (after Finish) Finish ≤ n + 1
     finish_most = let most = counted_most runner.crossings Finish are in let was = tally.finishes in omega (arith, most, was)
 
-    pub finish_go : Unfired Finish → has runner.pages 0 ≡ true → IsTallied test old (with_counted runner Finish) (at.Logged ticket)
-    finish_go unfired there =
-        tally_go test old runner Finish are (at.Inside ticket) tally (never_remount 2 (omega arith)) unfired (at.Logged ticket) tally.present.0 (inside_enters Finish (λ same. omega (arith, same))) finish_most (
+    -- it has the tables, and comes to finish
+    module _ (there : has runner.pages 0 ≡ true) where
+      finished : HasPassedAtLeast old.records (after Finish) 1 1 1
+      finished =
+          let twice = was_inside.twice in
+          let enters = was_inside.enters in
+          let gathers = was_inside.gathers in
+          let finishes = was_inside.finishes in
+          let enters_still = counted_there runner.crossings Finish are Enter (λ same. omega (arith, same)) in
+          let gathers_still = counted_there runner.crossings Finish are Gather (λ same. omega (arith, same)) in
+          let one : one_if (has runner.pages 0) ≡ 1 = ap one_if there in
           record {
-            enters = counted_stays runner.crossings Finish are Enter tally.passed.enters;
-            gathers = counted_stays runner.crossings Finish are Gather (tally.passed.gathers there);
-            finishes = counted_some runner.crossings Finish are;
-          },
-          inside_leave Finish (λ same. omega (arith, same)),
-        )
+            twice = twice;
+            enters = omega (arith, enters, enters_still);
+            gathers = omega (arith, gathers, gathers_still, one);
+            finishes = counted_more runner.crossings Finish are (struck Finish) (omega (arith, finishes)) (omega (arith, twice));
+          }
 
-    pub finish_struck : (new : Sight) → ticket.caller ≡ runner.crossings.caller → ticket.ordinal ≡ runner.crossings.ordinal → StrikesCall old new ticket Finish (next_nth runner.crossings.counts Finish) → IsTallied test new (backed (with_counted runner Finish)) at.Outside
-    finish_struck new own ordinal strikes =
-        let here = counted_here runner.crossings Finish are in
-        tally_struck test old runner Finish are (at.Inside ticket) tally (never_remount 2 (omega arith)) new ticket own ordinal strikes (near_next n (next_nth runner.crossings.counts Finish) (omega (arith, finish_most, here)))
-        (inside_enters Finish (λ same. omega (arith, same))) finish_most (passed_back (after Finish) no_pages runner.answered lacks (inside_leave Finish (λ same. omega (arith, same)))) (inl lacks)
+      struck_finishing : HasPassedAtLeast (with_fault Finish) (after Finish) 0 0 0
+      struck_finishing =
+          let twice = was_inside.twice in
+          let enters = finished.enters in
+          let gathers = finished.gathers in
+          let finishes = finished.finishes in
+          let e = same_of Finish Enter (λ same. omega (arith, same)) in
+          let g = same_of Finish Gather (λ same. omega (arith, same)) in
+          let f = more_of Finish in
+          record { twice = omega (arith, twice, e, g, f); enters = omega (arith, enters, e, g, f); gathers = omega (arith, gathers, g, f); finishes = omega (arith, finishes, f) }
+
+      pub finish_go : Unfired Finish → IsTallied test old (with_counted runner Finish) (at.Logged ticket)
+      finish_go unfired =
+          tally_go test old runner Finish are (at.Inside ticket) tally (never_remount 2 (omega arith)) unfired (at.Logged ticket) (tally.present.0, runs) (inside_enters Finish (λ same. omega (arith, same))) finish_most
+          (finished, inside_leave Finish (λ same. omega (arith, same)))
+
+      pub finish_struck : (new : Sight) → ticket.caller ≡ runner.crossings.caller → ticket.ordinal ≡ runner.crossings.ordinal → StrikesCall old new ticket Finish (next_nth runner.crossings.counts Finish) → IsTallied test new (backed (with_counted runner Finish)) at.Outside
+      finish_struck new own ordinal strikes =
+          let here = counted_here runner.crossings Finish are in
+          tally_struck test old runner Finish are (at.Inside ticket) tally (never_remount 2 (omega arith)) new ticket own ordinal runs strikes (near_next n (next_nth runner.crossings.counts Finish) (omega (arith, finish_most, here)))
+          (inside_enters Finish (λ same. omega (arith, same))) finish_most (passed_back (with_fault Finish) (after Finish) no_pages runner.answered lacks struck_finishing (inside_leave Finish (λ same. omega (arith, same)))) (inl lacks)
 
   -- a call that has its entry
   module _ (tally : IsTallied test old runner (at.Logged ticket)) (has_it : runner.answered ≡ true) where
@@ -310,15 +496,20 @@ module _ (test : Option (Crossing → Bool)) (old : Sight) (runner : Runner) (ar
     leave_finishes : count_of (after Leave) Finish ≤ n + 1
     leave_finishes = let is = counted_there runner.crossings Leave are Finish (λ same. omega (arith, same)) in let was = tally.finishes in omega (arith, is, was)
 
-    finished : HasFinished (after Leave)
-    finished = record {
-      enters = counted_stays runner.crossings Leave are Enter tally.passed.0.enters;
-      gathers = counted_stays runner.crossings Leave are Gather tally.passed.0.gathers;
-      finishes = counted_stays runner.crossings Leave are Finish tally.passed.0.finishes;
-    }
+    struck_leaving : HasPassedAtLeast (with_fault Leave) (after Leave) 1 1 1
+    struck_leaving =
+        let was = passed_leave old.records runner.crossings are tally.passed.0 in
+        let twice = was.twice in
+        let enters = was.enters in
+        let gathers = was.gathers in
+        let finishes = was.finishes in
+        let e = same_of Leave Enter (λ same. omega (arith, same)) in
+        let g = same_of Leave Gather (λ same. omega (arith, same)) in
+        let f = same_of Leave Finish (λ same. omega (arith, same)) in
+        record { twice = omega (arith, twice, e, g, f); enters = omega (arith, enters, e, g, f); gathers = omega (arith, gathers, g, f); finishes = omega (arith, finishes, f) }
 
     pub leave_struck : (new : Sight) → ticket.caller ≡ runner.crossings.caller → ticket.ordinal ≡ runner.crossings.ordinal → StrikesCall old new ticket Leave (next_nth runner.crossings.counts Leave) → IsTallied test new (backed (with_counted runner Leave)) at.Outside
     leave_struck new own ordinal strikes =
         let first : next_nth runner.crossings.counts Leave ≡ 1 = (let none = tally.passed.1 in omega (arith, none)) in
-        tally_struck test old runner Leave are (at.Logged ticket) tally (never_remount 3 (omega arith)) new ticket own ordinal strikes (ap (λ nth. is_near n Leave nth) first) leave_enters leave_finishes
-        (passed_left (after Leave) no_pages runner.answered has_it finished (counted_some runner.crossings Leave are)) (inr (omega arith))
+        tally_struck test old runner Leave are (at.Logged ticket) tally (never_remount 3 (omega arith)) new ticket own ordinal runs strikes (ap (λ nth. is_near n Leave nth) first) leave_enters leave_finishes
+        (passed_left (with_fault Leave) (after Leave) no_pages runner.answered has_it struck_leaving (counted_some runner.crossings Leave are)) (inr (omega arith))

@@ -65,14 +65,20 @@ module _ (old new : Sight) where
   omitted_is : (history : List Entry) (trail : List Step) → new.history ≡ history → new.trail ≡ trail → omitted_in new ≡ omitted history trail
   omitted_is history trail grown goes = ap (λ (h : List Entry). omitted h new.trail) grown ∙ ap (λ (t : List Step). omitted history t) goes
 
-  more_omitted : (more : List Entry) → KeepsLog old new → new.history ≡ old.history ++ more → omitted_in new ≤ omitted_in old
+  pub more_omitted : (more : List Entry) → KeepsLog old new → new.history ≡ old.history ++ more → omitted_in new ≤ omitted_in old
   more_omitted more log grown =
       let is = omitted_is (old.history ++ more) (old.trail ++ log.trail.steps) grown log.trail.whole in
       let low = marks_omitted old.history more old.trail log.trail.steps log.trail.others in
       omega (arith, is, low)
 
-  still_omitted : KeepsLog old new → new.history ≡ old.history → omitted_in new ≤ omitted_in old
+  pub still_omitted : KeepsLog old new → new.history ≡ old.history → omitted_in new ≤ omitted_in old
   still_omitted log same = more_omitted [] log (same ∙ sym (append-nil old.history))
+
+pub stale_prompt : (caller : ℕ) (old new : Sight) (pages : PagesState) → IsStale caller old new pages → omitted_in new ≤ omitted_in old
+stale_prompt caller old new pages stale =
+    let is = omitted_is old new (old.history ++ []) (old.trail ++ step.Stale stale.ticket stale.block ∷ []) (stale.counts.history ∙ sym (append-nil old.history)) stale.trail in
+    let low = stale_omitted old.history [] old.trail stale.ticket stale.block in
+    omega (arith, is, low)
 
 -- ---- what one caller does leaves the others as they are
 
@@ -238,9 +244,7 @@ module _ (caller : ℕ) (old new : Sight) (pages : PagesState) (ticket : Ticket)
   pub timely_stale : IsTimely 0 old new
   timely_stale = record {
     undue = (let low = stale_undue_in caller old new pages stale in omega (arith, low));
-    prompt = (let is = omitted_is old new (old.history ++ []) (old.trail ++ step.Stale told stale.block ∷ []) (stale.counts.history ∙ sym (append-nil old.history)) stale.trail in
-        let low = stale_omitted old.history [] old.trail told stale.block in
-        omega (arith, is, low));
+    prompt = stale_prompt caller old new pages stale;
     told = tells;
   }
 
@@ -364,6 +368,9 @@ timely_alone test old new by (stepped.Replayed number) steps = timely_waits old 
 timely_alone test old new by (stepped.Unwound ticket) steps = timely_waits old new steps.1.waits steps.1.recovered
 timely_alone test old new by stepped.Dropped steps = timely_waits old new steps.1.waits steps.1.recovered
 timely_alone test old new by stepped.Reopened steps = timely_waits old new steps.1.waits steps.1.recovered
+
+pub alone_undue : (test : Option (Crossing → Bool)) (old new : Sight) (by : Option Crossings) (answer : Stepped) → Steps test None by old new answer → undue_in new ≤ undue_in old
+alone_undue test old new by answer steps = let low = (timely_alone test old new by answer steps).undue in omega (arith, low)
 
 -- and nobody is told that a copy is stale
 waits_told : (old new : Sight) → Waits old new → (caller : ℕ) → stales_beyond caller new.trail ≤ stales_beyond caller old.trail

@@ -10,11 +10,11 @@ use Rattle.mb_jobs.specs.declared.jobs.JobCall.{JobCall}
 use Rattle.mb_kinds.specs.declared.entries.Entry.{Entry}
 use Rattle.mb_run.specs.Calm.{AreAllPlain, HoldsNowhere}
 use Rattle.mb_run.specs.Letters.{AreLetters, letters_of}
-use Rattle.mb_run.specs.Orders.{asked_by}
-use Rattle.mb_run.specs.Runs.{EntersFirst, FirstsRise, HasTakenTested}
+use Rattle.mb_run.specs.Orders.{TakesAsked, asked_by, asked_in}
+use Rattle.mb_run.specs.Runs.{EntersFirst, FirstsRise, HasTakenFaults}
 use Rattle.mb_run.specs.Served.{AreSound, AreSoundBy, EntriesAreCalls, calls_in, calls_of, moments_in}
 use Rattle.mb_run.specs.Timely.{IsTimely}
-use Rattle.mb_run.specs.Sights.{AreApart, IsOrderlyInSight, Sight, undue_in}
+use Rattle.mb_run.specs.Sights.{AreApart, IsOrderlyInSight, Sight, omitted_in, undue_in}
 use Rattle.mb_core_spec.specs.Copies.{no_pages}
 use Rattle.mb_run.specs.declared.runner.At.TheVariants as at
 use Rattle.mb_run.specs.declared.runner.Runner.{Runner}
@@ -31,6 +31,7 @@ pub record IsRunnable (job : Job) : Type 0 where
 pub record IsBegun (job : Job) (sight : Sight) : Type 0 where
   pub history : sight.history ≡ []
   pub records : sight.records ≡ []
+  pub trail : sight.trail ≡ []
   pub begun : sight.begun ≡ 0
   pub open_calls : sight.open_calls ≡ 0
   pub seats : (caller : ℕ) → sight.seats caller ≡ record { begun = 0; flight = None }
@@ -73,10 +74,15 @@ abbrev pub EntersByOrder : Option (List ℕ) → List Caller → List JobCall �
 EntersByOrder None callers calls test sight = Unit {0}
 EntersByOrder (Some order) callers calls test sight = EntersCalmly order callers calls test sight
 
--- in list order the faults that the test has at the first crossings are taken
+-- in list order the faults that the test tells are taken
 abbrev pub TakesByOrder : Option (List ℕ) → Option (Crossing → Bool) → Sight → Type 0
-TakesByOrder None test sight = HasTakenTested test sight.history sight.records
+TakesByOrder None test sight = HasTakenFaults test sight.history sight.records
 TakesByOrder (Some order) test sight = Unit {0}
+
+-- by an order, over a volume that runs, and where no fault came, as many checkpoints were taken at least as the order asks for
+abbrev pub SealsByOrder : Option (List ℕ) → Sight → Sight → Type 0
+SealsByOrder None old new = Unit {0}
+SealsByOrder (Some order) old new = TakesAsked (asked_in order) old new
 
 -- what a job leaves of a core that was begun for it
 pub record IsDriven (job : Job) (test : Option (Crossing → Bool)) (old new : Sight) : Type 0 where
@@ -93,6 +99,7 @@ pub record IsDriven (job : Job) (test : Option (Crossing → Bool)) (old new : S
   -- of the checkpoints no more were taken where none was due than the order asks for; each sync(2) has one right behind; and no
   -- call is told more than four times that a copy of its is stale
   pub seals : IsTimely (asked_by job.order) old new
+  pub asks : SealsByOrder job.order old new
 
 -- the end tells whether the volume failed
 abbrev pub EndsDrive : Stage → DriveEnd → Type 0
@@ -125,3 +132,4 @@ pub record IsDrivenApart (job : Job) (asked : ℕ) (tests : ℕ → Option (Cros
   pub moments : HasEachMoment job.start new.history
   pub sound : AreSoundBy tests new.records
   pub seals : undue_in new ≤ undue_in old + asked
+  pub prompt : omitted_in new ≤ omitted_in old

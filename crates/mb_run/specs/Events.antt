@@ -11,6 +11,7 @@ use Rattle.mb_kinds.specs.declared.replies.Reply.TheVariants as reply
 use Rattle.mb_edge.specs.Causes.{Rose}
 use Rattle.mb_cache.specs.Kept.{shown}
 use Rattle.mb_core_spec.specs.Copies.{PagesState, no_pages}
+use Rattle.mb_core_spec.specs.Faults.{IsTwice}
 use Rattle.mb_run.specs.Pages.{PagesGrow, HasTablesFor, LacksAll, PerformsOver, has}
 use Rattle.mb_run.specs.Seals.{MarksTrail, is_due}
 use Rattle.mb_run.specs.Sights.{Seat, Sight, one_if, recovers, flight_of, is_new, IsOld}
@@ -112,6 +113,8 @@ pub record EntersInside (old new : Sight) (caller : ℕ) (call : Call) (ticket :
   pub moment : ticket.moment ≡ (flight_of old caller call (old.seats caller).flight).moment
   pub present : ticket.incarnation ≡ old.incarnation
   pub lacks : (flight_of old caller call (old.seats caller).flight).answered ≡ false
+  -- it met no two faults of its own
+  pub once : (first second : ℕ) → IsTwice old.records caller (flight_of old caller call (old.seats caller).flight).ordinal first second → ⊥
   pub empty : IsOld old.incarnation (old.seats caller).flight → new.copies caller ≡ no_pages
   pub never : IsOld old.incarnation (old.seats caller).flight → new.stales caller ≡ 0
   pub fresh : IsOld old.incarnation (old.seats caller).flight → new.fresh caller ≡ true

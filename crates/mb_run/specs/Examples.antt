@@ -1,15 +1,17 @@
 -- Worked examples: the definitions of a run, evaluated.
-use Rattle.std.specs.Prelude.{List, [], ◌∷◌, ◌++◌, ℕ, ◌+◌, ◌≡◌, true, false, None}
+use Rattle.std.specs.Prelude.{List, [], ◌∷◌, ◌++◌, ℕ, ◌+◌, ◌≡◌, true, false, None, Some}
 use Rattle.mb_core_spec.specs.declared.steps.Step.{Step}
 use Rattle.mb_core_spec.specs.declared.steps.Step.TheVariants as step
 use Rattle.mb_jobs.specs.declared.jobs.JobCall.{JobCall}
 use Rattle.mb_kinds.specs.declared.calls.Call.TheVariants.{Sync, Exit}
 use Rattle.mb_kinds.specs.declared.entries.Entry.{Entry}
 use Rattle.mb_kinds.specs.declared.faults.FaultRecord.{FaultRecord}
-use Rattle.mb_kinds.specs.declared.faults.Kind.TheVariants.{Finish, Gather}
+use Rattle.mb_kinds.specs.declared.faults.Kind.TheVariants.{Enter, Finish, Gather}
 use Rattle.mb_kinds.specs.declared.faults.Ticket.{Ticket}
 use Rattle.mb_kinds.specs.declared.replies.Reply.TheVariants as reply
-use Rattle.mb_run.specs.Runs.{AreNear, EntersFirst, begun_from, calm_prefix, is_near, is_struck_first, pair_rises}
+use Rattle.mb_plan.specs.Fires.{fires}
+use Rattle.mb_plan.specs.declared.rules.Rule.{Rule}
+use Rattle.mb_run.specs.Runs.{AreNear, EntersFirst, TakesFaults, begun_from, calm_prefix, is_near, is_struck_at, pair_rises, strikes_inside}
 use Rattle.mb_run.specs.Seals.{AreInTime, is_due, is_synced, omitted, undue}
 use Rattle.mb_run.specs.Stales.{stales_beyond, stales_since}
 
@@ -68,9 +70,31 @@ WorkedEntering =
 abbrev pub struck : List FaultRecord
 struck = record { caller = 0; ordinal = 2; kind = Gather; nth = 1 } ∷ record { caller = 0; ordinal = 2; kind = Gather; nth = 2 } ∷ []
 
--- it was struck at the first; a finish struck at its third crossing is no first record
+-- it was struck twice before it had its entry, at both of them and at no third; a finish struck at its third crossing is no first
+-- record
 abbrev pub WorkedFaults : Type 0
-WorkedFaults = AreNear 0 struck × (is_struck_first struck 0 2 Gather ≡ true) × (is_near 0 Finish 3 ≡ false)
+WorkedFaults =
+    AreNear 0 struck × (strikes_inside struck 0 2 ≡ 2)
+    × (is_struck_at struck 0 2 Gather 2 ≡ true) × (is_struck_at struck 0 2 Gather 3 ≡ false)
+    × (is_near 0 Finish 3 ≡ false)
+
+-- the rule `1 enter 0 2`, which strikes a call where it enters for the first and the second time
+abbrev pub twice_entering : List Rule
+twice_entering = record { caller = 0; ordinal = 1; kind = Enter; skip = 0; times = 2; damage = [] } ∷ []
+
+abbrev pub entered_once : List FaultRecord
+entered_once = record { caller = 0; ordinal = 1; kind = Enter; nth = 1 } ∷ []
+
+abbrev pub entered_twice : List FaultRecord
+entered_twice = record { caller = 0; ordinal = 1; kind = Enter; nth = 1 } ∷ record { caller = 0; ordinal = 1; kind = Enter; nth = 2 } ∷ []
+
+-- a call that both faults ended took them; one with a plain reply behind the first passed the second over, and none has a plain reply
+-- behind both
+abbrev pub WorkedTaken : Type 0
+WorkedTaken =
+    TakesFaults (Some (fires twice_entering)) entered_twice 0 1 0
+    × (TakesFaults (Some (fires twice_entering)) entered_once 0 1 1 → ⊥)
+    × (TakesFaults None entered_twice 0 1 1 → ⊥)
 
 -- a call that ended after the first one of its caller, and a sync(2) that the failed volume answered
 abbrev pub ended : Entry

@@ -9,6 +9,7 @@ use Rattle.mb_run.specs.Events.{SameCalls, sealed}
 use Rattle.mb_run.specs.Firsts.{KeepsFirsts}
 use Rattle.mb_run.specs.Pages.{HasTablesFor, has}
 use Rattle.mb_run.specs.Timely.{IsTimely}
+use Rattle.mb_run.specs.Runs.{is_seal}
 use Rattle.mb_run.specs.Seals.{TrailGoesOn}
 use Rattle.mb_run.specs.Served.{IsBalanced, Nears, AllUnderWay, calls_of}
 use Rattle.mb_run.specs.Sights.{Sight}
@@ -77,6 +78,16 @@ abbrev pub asked_by : Option (List ℕ) → ℕ
 asked_by None = 0
 asked_by (Some order) = asked_in order
 
+-- how many checkpoints the trace has
+abbrev pub seals_in : Sight → ℕ
+seals_in sight = count_by is_seal sight.trail
+
+-- fault records only came; while none does a volume that runs goes on, and at least so many checkpoints are taken
+pub record TakesAsked (asked : ℕ) (old new : Sight) : Type 0 where
+  pub records : length old.records ≤ length new.records
+  pub runs : length new.records ≡ length old.records → old.stage ≡ stage.Running → new.stage ≡ stage.Running
+  pub takes : length new.records ≡ length old.records → old.stage ≡ stage.Running → seals_in old + asked ≤ seals_in new
+
 -- history and trace only grew
 pub record Lengthens (old new : Sight) : Type 0 where
   pub entries : List Entry
@@ -91,8 +102,9 @@ pub record IsWhole (calls : List JobCall) (test : Option (Crossing → Bool)) (a
   pub config : new.config ≡ old.config
   pub firsts : KeepsFirsts old new
   pub later : Lengthens old new
-  -- no more were taken where none was due, and none was left out behind a sync(2)
+  -- no more were taken where none was due, and none was left out behind a sync(2); without a fault those that were asked for were
   pub seals : IsTimely asked old new
+  pub takes : TakesAsked asked old new
 
 -- nobody's call did anything: calls, entries and records stay, and while the volume runs, so does what calls gathered
 pub record IsQuiet (old new : Sight) : Type 0 where

@@ -83,11 +83,11 @@ abbrev pub PassesPoint : Option (Crossing → Bool) → Kind → Option Crossing
 PassesPoint test kind (Some before) (Some now) = WentPast test kind before now
 PassesPoint test kind _ _ = Unit {0}
 
--- a fault came at the next crossing of its kind: where the file system is started anew, or elsewhere in the recovery
+-- a fault came at the next crossing of its kind: where the file system is started anew, or later in the recovery
 pub record IsStruckNext (before now : Crossings) (old : Stage) (fault : FaultRecord) : Type 0 where
   pub counts : now ≡ counted before fault.kind
   pub nth : fault.nth ≡ next_nth before.counts fault.kind
-  pub point : ((old ≡ stage.Dropped) × (fault.kind ≡ Remount)) ⊎ (fault.kind ≡ Replay)
+  pub point : ((old ≡ stage.Dropped) × (fault.kind ≡ Remount)) ⊎ ((awaits_remount old ≡ false) × (fault.kind ≡ Replay))
 
 -- the hook's fault
 pub record StrikesStep (test : Option (Crossing → Bool)) (before now : Crossings) (old new : Sight) : Type 0 where

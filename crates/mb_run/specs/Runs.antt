@@ -1,5 +1,5 @@
 -- What a run of a job over a core was: the clauses of the headline, over the readers of a core and the job alone.
-use Rattle.std.specs.Prelude.{ℕ, ◌+◌, ◌<◌, ◌≤◌, ◌≡◌, ◌≢◌, List, [], ◌∷◌, ◌++◌, length, filter, nat_eq, nat_lt, nat_le, ◌&&◌, ◌||◌, not, slice_get, Bool, true, false, cond, Option, Some, None, IfSome, count_by}
+use Rattle.std.specs.Prelude.{ℕ, ◌+◌, ◌-◌, ◌<◌, ◌≤◌, ◌≡◌, ◌≢◌, List, [], ◌∷◌, ◌++◌, length, filter, nat_eq, nat_lt, nat_le, ◌&&◌, ◌||◌, not, slice_get, Bool, true, false, cond, Option, Some, None, IfSome, count_by}
 use Rattle.std.specs.List.{AllByRecursion, list_any}
 use Rattle.mb_core_spec.specs.Faults.{IsTwice}
 use Rattle.mb_edge.specs.declared.crossings.Crossing.{Crossing}
@@ -13,6 +13,7 @@ use Rattle.mb_plan.specs.Fires.{fires, same_kind}
 use Rattle.mb_plan.specs.declared.rules.Rule.{Rule}
 use Rattle.mb_run.specs.Recovering.{crossing_of}
 pub use Rattle.mb_run.specs.Seals.{is_plain}
+use Rattle.mb_run.specs.Sights.{one_if}
 use Rattle.mb_jobs.specs.declared.jobs.JobCall.{JobCall}
 use Rattle.mb_core_spec.specs.declared.steps.Step.{Step}
 use Rattle.mb_core_spec.specs.declared.steps.Step.TheVariants as step
@@ -74,29 +75,41 @@ pub record HasRecords (plan : List Rule) (history : List Entry) (records : List 
 abbrev pub is_of : ℕ → ℕ → Kind → FaultRecord → Bool
 is_of caller ordinal kind fault = (nat_eq fault.caller caller && nat_eq fault.ordinal ordinal) && same_kind fault.kind kind
 
-abbrev pub is_struck_first : List FaultRecord → ℕ → ℕ → Kind → Bool
-is_struck_first records caller ordinal kind = list_any (λ (fault : FaultRecord). is_of caller ordinal kind fault && nat_eq fault.nth 1) records
+-- how many of the faults that struck a call came at fault points of a kind
+abbrev pub strikes_of : List FaultRecord → ℕ → ℕ → Kind → ℕ
+strikes_of records caller ordinal kind = count_by (is_of caller ordinal kind) records
 
-abbrev pub is_struck : List FaultRecord → ℕ → ℕ → Kind → Bool
-is_struck records caller ordinal kind = list_any (λ (fault : FaultRecord). is_of caller ordinal kind fault) records
+-- how many struck it before it had its entry, but in a recovery
+abbrev pub strikes_inside : List FaultRecord → ℕ → ℕ → ℕ
+strikes_inside records caller ordinal = strikes_of records caller ordinal Enter + (strikes_of records caller ordinal Gather + strikes_of records caller ordinal Finish)
 
--- a rule of that call and kind has SKIP 0
-abbrev pub has_rule : List Rule → ℕ → ℕ → Kind → Bool
-has_rule plan caller ordinal kind = list_any (λ (rule : Rule). ((nat_eq rule.caller caller && nat_eq rule.ordinal ordinal) && same_kind rule.kind kind) && nat_eq rule.skip 0) plan
+-- how many began a recovery that the call runs, or began it anew
+abbrev pub recoveries_of : List FaultRecord → ℕ → ℕ → ℕ
+recoveries_of records caller ordinal = strikes_inside records caller ordinal + (strikes_of records caller ordinal Remount + strikes_of records caller ordinal Replay)
 
-abbrev pub TakesFirst : List Rule → List FaultRecord → Entry → Kind → Type 0
-TakesFirst plan records entry kind = has_rule plan entry.caller entry.ordinal kind ≡ true → is_struck_first records entry.caller entry.ordinal kind ≡ true
+abbrev pub is_struck_at : List FaultRecord → ℕ → ℕ → Kind → ℕ → Bool
+is_struck_at records caller ordinal kind nth = list_any (λ (fault : FaultRecord). is_of caller ordinal kind fault && nat_eq fault.nth nth) records
 
--- a call was struck before it had its entry, but in a recovery
-abbrev pub is_struck_inside : List FaultRecord → ℕ → ℕ → Bool
-is_struck_inside records caller ordinal = is_struck records caller ordinal Enter || (is_struck records caller ordinal Gather || is_struck records caller ordinal Finish)
+-- a call was struck at each of its first so many fault points of a kind at which the test, if it is told, tells a fault
+abbrev pub TakesUpTo : Option (Crossing → Bool) → List FaultRecord → ℕ → ℕ → Kind → ℕ → Type 0
+TakesUpTo test records caller ordinal kind most = IfSome test (λ fires. (nth : ℕ) → 1 ≤ nth → nth ≤ most
+    → fires (record { caller = caller; ordinal = ordinal; kind = kind; nth = nth }) ≡ true → is_struck_at records caller ordinal kind nth ≡ true)
 
-pub record TakesFaults (plan : List Rule) (records : List FaultRecord) (entry : Entry) : Type 0 where
-  pub enters : TakesFirst plan records entry Enter
-  pub gathers : TakesFirst plan records entry Gather
-  pub finishes : TakesFirst plan records entry Finish
-  pub leaves : TakesFirst plan records entry Leave
-  pub remounts : is_struck_inside records entry.caller entry.ordinal ≡ true → TakesFirst plan records entry Remount
+-- a call took the faults of its fault points; `plain` is 1 where it came to a plain reply, and else 0. It entered anew after each
+-- fault before it had its entry; each time that it came to gather it gathered once at least, and to finish, once. A second such
+-- fault ended it, so that a call with a plain reply met one at most. After each of them, and after each fault of the recovery that
+-- it runs, but not after the last one of a call that was ended, the file system was started anew
+pub record TakesFaults (test : Option (Crossing → Bool)) (records : List FaultRecord) (caller ordinal plain : ℕ) : Type 0 where
+  pub twice : strikes_inside records caller ordinal + plain ≤ 2
+  pub enters : TakesUpTo test records caller ordinal Enter (strikes_inside records caller ordinal + plain)
+  pub gathers : TakesUpTo test records caller ordinal Gather (strikes_of records caller ordinal Gather + strikes_of records caller ordinal Finish + plain)
+  pub finishes : TakesUpTo test records caller ordinal Finish (strikes_of records caller ordinal Finish + plain)
+  pub leaves : TakesUpTo test records caller ordinal Leave plain
+  pub remounts : TakesUpTo test records caller ordinal Remount (recoveries_of records caller ordinal + plain - 1)
+
+-- the call of an entry
+abbrev pub EntryTakesFaults : Option (Crossing → Bool) → List FaultRecord → Entry → Type 0
+EntryTakesFaults test records entry = TakesFaults test records entry.caller entry.ordinal (one_if (is_plain entry.reply))
 
 -- a record after so many others has an nth that this allows
 abbrev pub is_near : ℕ → Kind → ℕ → Bool
@@ -109,32 +122,10 @@ abbrev pub AreNear : ℕ → List FaultRecord → Type 0
 AreNear before [] = Unit {0}
 AreNear before (fault ∷ later) = (is_near before fault.kind fault.nth ≡ true) × AreNear (before + 1) later
 
--- the same where a test, if it is told, tells at which fault points faults come
-abbrev pub IsTakenFirst : Option (Crossing → Bool) → List FaultRecord → ℕ → ℕ → Kind → Type 0
-IsTakenFirst test records caller ordinal kind = IfSome test (λ fires. fires (record { caller = caller; ordinal = ordinal; kind = kind; nth = 1 }) ≡ true → is_struck_first records caller ordinal kind ≡ true)
-
-pub record TakesTested (test : Option (Crossing → Bool)) (records : List FaultRecord) (entry : Entry) : Type 0 where
-  pub enters : IsTakenFirst test records entry.caller entry.ordinal Enter
-  pub gathers : IsTakenFirst test records entry.caller entry.ordinal Gather
-  pub finishes : IsTakenFirst test records entry.caller entry.ordinal Finish
-  pub leaves : IsTakenFirst test records entry.caller entry.ordinal Leave
-  pub remounts : is_struck_inside records entry.caller entry.ordinal ≡ true → IsTakenFirst test records entry.caller entry.ordinal Remount
-
-pub record HasTakenTested (test : Option (Crossing → Bool)) (history : List Entry) (records : List FaultRecord) : Type 0 where
-  pub taken : AllByRecursion (λ (entry : Entry). is_plain entry.reply ≡ true → TakesTested test records entry) history
+-- each call that has its entry took its faults
+pub record HasTakenFaults (test : Option (Crossing → Bool)) (history : List Entry) (records : List FaultRecord) : Type 0 where
+  pub taken : AllByRecursion (EntryTakesFaults test records) history
   pub near : AreNear 0 records
-
-pub record HasTakenFaults (plan : List Rule) (history : List Entry) (records : List FaultRecord) : Type 0 where
-  pub taken : AllByRecursion (λ (entry : Entry). is_plain entry.reply ≡ true → TakesFaults plan records entry) history
-  pub near : AreNear 0 records
-
--- each rule strikes at least once
-abbrev pub AllStrike : List Rule → Type 0
-AllStrike plan = AllByRecursion (λ (rule : Rule). 1 ≤ rule.times) plan
-
--- where the plan's test was answered, the faults of its rules were taken
-abbrev pub PlannedAreTaken : Type 0
-PlannedAreTaken = (plan : List Rule) (history : List Entry) (records : List FaultRecord) → AllStrike plan → HasTakenTested (Some (fires plan)) history records → HasTakenFaults plan history records
 
 -- ---- a disk that failed, a volume that failed
 

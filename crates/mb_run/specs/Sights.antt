@@ -67,6 +67,10 @@ undue_in sight = undue sight.config.threshold sight.history sight.trail
 abbrev pub omitted_in : Sight → ℕ
 omitted_in sight = omitted sight.history sight.trail
 
+-- how many checkpoints are amiss: taken where none was due, or left out behind a sync(2)
+abbrev pub amiss_in : Sight → ℕ
+amiss_in sight = undue_in sight + omitted_in sight
+
 abbrev pub one_if : Bool → ℕ
 one_if true = 1
 one_if false = 0

@@ -14,7 +14,7 @@ use Rattle.mb_kinds.specs.declared.faults.Kind.TheVariants.{Enter, Gather, Finis
 use Rattle.mb_kinds.specs.declared.faults.Ticket.{Ticket}
 use Rattle.mb_run.specs.Pages.{has}
 use Rattle.mb_run.specs.Recovering.{awaits_remount}
-use Rattle.mb_run.specs.Runs.{AreNear, TakesTested, IsTakenFirst, is_plain, is_struck_inside}
+use Rattle.mb_run.specs.Runs.{AreNear, EntryTakesFaults, TakesUpTo, recoveries_of, strikes_inside, strikes_of}
 use Rattle.mb_run.specs.Sights.{Sight, one_if}
 use Rattle.mb_run.specs.declared.progress.Went.{Went}
 use Rattle.mb_run.specs.declared.progress.Went.TheVariants as went
@@ -36,40 +36,40 @@ abbrev pub is_logged : At → ℕ
 is_logged (at.Logged ticket) = 1
 is_logged _ = 0
 
--- its ticket is of the present incarnation, and what it gathered is as it is seen
+-- its ticket is of the present incarnation, and what it gathered is as it is seen; the volume runs
 abbrev pub IsUpToDate : Sight → ℕ → At → Type 0
 IsUpToDate sight caller at.Outside = Unit {0}
 IsUpToDate sight caller (at.Inside ticket) = (ticket.incarnation ≡ sight.incarnation) × (sight.fresh caller ≡ true)
-IsUpToDate sight caller (at.Logged ticket) = ticket.incarnation ≡ sight.incarnation
+IsUpToDate sight caller (at.Logged ticket) = (ticket.incarnation ≡ sight.incarnation) × (sight.stage ≡ stage.Running)
 
--- the fault points of a call that has its entry, before it leaves
-pub record HasFinished (crossings : Crossings) : Type 0 where
-  pub enters : count_of crossings Enter ≢ 0
-  pub gathers : count_of crossings Gather ≢ 0
-  pub finishes : count_of crossings Finish ≢ 0
+-- how many fault points a call passed at least: it entered once for each fault before it had its entry, and gathered and finished
+-- once for each that came then or later; so many times more since the last one. Two such faults end it
+pub record HasPassedAtLeast (records : List FaultRecord) (crossings : Crossings) (entered gathered finished : ℕ) : Type 0 where
+  pub twice : strikes_inside records crossings.caller crossings.ordinal + entered ≤ 2
+  pub enters : strikes_inside records crossings.caller crossings.ordinal + entered ≤ count_of crossings Enter
+  pub gathers : strikes_of records crossings.caller crossings.ordinal Gather + strikes_of records crossings.caller crossings.ordinal Finish + gathered ≤ count_of crossings Gather
+  pub finishes : strikes_of records crossings.caller crossings.ordinal Finish + finished ≤ count_of crossings Finish
 
--- a call inside entered, and gathered where it has the tables
-pub record HasEntered (crossings : Crossings) (pages : PagesState) : Type 0 where
-  pub enters : count_of crossings Enter ≢ 0
-  pub gathers : has pages 0 ≡ true → count_of crossings Gather ≢ 0
-  pub leaves : count_of crossings Leave ≡ 0
+-- which fault points it passed: a call inside gathered where it has the tables, one that has its entry finished, and one that is
+-- outside with its entry was struck where it left
+abbrev pub HasPassedPoints : List FaultRecord → Crossings → PagesState → Bool → At → Type 0
+HasPassedPoints records crossings pages false at.Outside = HasPassedAtLeast records crossings 0 0 0 × (count_of crossings Leave ≡ 0)
+HasPassedPoints records crossings pages true at.Outside = HasPassedAtLeast records crossings 1 1 1 × (count_of crossings Leave ≢ 0)
+HasPassedPoints records crossings pages answered (at.Inside ticket) = HasPassedAtLeast records crossings 1 (one_if (has pages 0)) 0 × (count_of crossings Leave ≡ 0)
+HasPassedPoints records crossings pages answered (at.Logged ticket) = HasPassedAtLeast records crossings 1 1 1 × (count_of crossings Leave ≡ 0)
 
--- which fault points it passed: a call that is outside with its entry was struck where it left
-abbrev pub HasPassedPoints : Crossings → PagesState → Bool → At → Type 0
-HasPassedPoints crossings pages false at.Outside = count_of crossings Leave ≡ 0
-HasPassedPoints crossings pages true at.Outside = HasFinished crossings × (count_of crossings Leave ≢ 0)
-HasPassedPoints crossings pages answered (at.Inside ticket) = HasEntered crossings pages
-HasPassedPoints crossings pages answered (at.Logged ticket) = HasFinished crossings × (count_of crossings Leave ≡ 0)
-
--- a call that was struck inside: the file system is or was started anew by it, or the volume failed
-abbrev pub IsRestarted : Crossings → Stage → Bool → Type 0
-IsRestarted crossings now answered = (count_of crossings Remount ≢ 0) ⊎ ((answered ≡ false) × ((awaits_remount now ≡ true) ⊎ (now ≡ stage.Failed)))
+-- the file system was started anew after each fault but the last one, and after that too, where the call has its entry; else it is
+-- to be started anew, or the volume failed
+abbrev pub IsRestarted : List FaultRecord → Crossings → Stage → Bool → Type 0
+IsRestarted records crossings now answered =
+    (recoveries_of records crossings.caller crossings.ordinal ≤ count_of crossings Remount)
+    ⊎ ((answered ≡ false) × (recoveries_of records crossings.caller crossings.ordinal ≤ count_of crossings Remount + 1) × ((awaits_remount now ≡ true) ⊎ (now ≡ stage.Failed)))
 
 -- an entry is the call's own, or of an earlier call, which took its faults
 abbrev pub IsPast : Option (Crossing → Bool) → List FaultRecord → Crossings → Bool → Entry → Type 0
 IsPast test records crossings answered entry =
     ((entry.caller ≡ crossings.caller) × (entry.ordinal ≡ crossings.ordinal) × (answered ≡ true))
-    ⊎ ((entry.caller ≡ crossings.caller → entry.ordinal < crossings.ordinal) × (is_plain entry.reply ≡ true → TakesTested test records entry))
+    ⊎ ((entry.caller ≡ crossings.caller → entry.ordinal < crossings.ordinal) × EntryTakesFaults test records entry)
 
 -- of the records alone
 pub record AreTallied (records : List FaultRecord) : Type 0 where
@@ -84,9 +84,9 @@ pub record IsTallied (test : Option (Crossing → Bool)) (sight : Sight) (runner
   pub enters : count_of runner.crossings Enter ≤ length sight.records + is_in stand
   pub finishes : count_of runner.crossings Finish ≤ length sight.records + is_logged stand
   pub remounts : count_of runner.crossings Remount + one_if (awaits_remount sight.stage) ≤ length sight.records
-  pub passed : HasPassedPoints runner.crossings runner.pages runner.answered stand
-  pub taken : (kind : Kind) → count_of runner.crossings kind ≢ 0 → IsTakenFirst test sight.records runner.crossings.caller runner.crossings.ordinal kind
-  pub restarted : is_struck_inside sight.records runner.crossings.caller runner.crossings.ordinal ≡ true → IsRestarted runner.crossings sight.stage runner.answered
+  pub passed : HasPassedPoints sight.records runner.crossings runner.pages runner.answered stand
+  pub taken : (kind : Kind) → TakesUpTo test sight.records runner.crossings.caller runner.crossings.ordinal kind (count_of runner.crossings kind)
+  pub restarted : IsRestarted sight.records runner.crossings sight.stage runner.answered
   pub entries : AllByRecursion (IsPast test sight.records runner.crossings runner.answered) sight.history
 
 -- ---- between two calls
@@ -103,7 +103,7 @@ pub record IsRested (history : List Entry) (runner : Runner) : Type 0 where
 pub record HasTallied (test : Option (Crossing → Bool)) (sight : Sight) : Type 0 where
   pub records : AreTallied sight.records
   pub remounts : one_if (awaits_remount sight.stage) ≤ length sight.records
-  pub taken : AllByRecursion (λ (entry : Entry). is_plain entry.reply ≡ true → TakesTested test sight.records entry) sight.history
+  pub taken : AllByRecursion (EntryTakesFaults test sight.records) sight.history
 
 pub record AreRested (test : Option (Crossing → Bool)) (sight : Sight) (runners : List Runner) : Type 0 where
   pub tallied : HasTallied test sight
@@ -118,6 +118,7 @@ pub record IsEntering (test : Option (Crossing → Bool)) (sight : Sight) (runne
   pub fresh : sight.fresh runner.crossings.caller ≡ true
   pub lacks : runner.answered ≡ false
   pub empty : runner.pages ≡ no_pages
+  pub once : strikes_inside sight.records runner.crossings.caller runner.crossings.ordinal ≤ 1
 
 -- a call that was asked where it finishes
 pub record IsFinishing (test : Option (Crossing → Bool)) (sight : Sight) (runner : Runner) (ticket : Ticket) : Type 0 where

@@ -5,7 +5,7 @@ ghost use Rattle.mb_run.specs.Calm.{StartsCalm};
 ghost use Rattle.mb_run.specs.Drives.{AreNew, EndsDrive, EntersCalmly, IsBegun, IsComplete, IsDriven, IsRunnable};
 ghost use Rattle.mb_run.specs.Indexes.{IsIndexOf};
 ghost use Rattle.mb_run.specs.Letters.{AreLetters, HasBegunBy, letters_of};
-ghost use Rattle.mb_run.specs.Orders.{AreRunOut, ReachesCount, IsWhole, asked_in};
+ghost use Rattle.mb_run.specs.Orders.{AreRunOut, ReachesCount, IsWhole, TakesAsked, asked_in};
 ghost use Rattle.mb_run.specs.Runs.{FirstsRise};
 ghost use Rattle.mb_run.specs.Served.{IsBalanced, AllUnderWay};
 ghost use Rattle.mb_run.specs.Sights.{IsOrderlyInSight};
@@ -125,6 +125,7 @@ fn run_by_order<C: EventCore, H: Hook>(
         → EntersCalmly order.now callers.now calls.now (H.test hook.old) (C.sight core.new) }
     ensures config { result ≡ true → (C.sight core.new).config ≡ (C.sight core.old).config }
     ensures seals { result ≡ true → IsTimely (asked_in order.now) (C.sight core.old) (C.sight core.new) }
+    ensures asks { result ≡ true → TakesAsked (asked_in order.now) (C.sight core.old) (C.sight core.new) }
     ensures origin { C.origin core.new ≡ C.origin core.old }
     ensures right { IsOrderlyInSight (C.sight core.new) }
 {
@@ -212,9 +213,11 @@ fn drive_core<C: EventCore, H: Hook>(
 /// the callers' first calls rise as their letters first stand in it, and those of callers without a letter in it come
 /// last; where the injector faults nowhere and no call was given up, the event trace begins, but for its checkpoints, as the
 /// order tells it, with the callers' first calls that enter; and each fault record is at a crossing where the fault injector
-/// faults, no two at one whose `nth` is below 4294967295. In list order, over a core that runs at the beginning, a call with a plain reply has a record of each of its
-/// first crossings at Enter, Gather, Finish and Leave where the injector's test holds, and, where it was struck inside, at
-/// Remount; and a record of Enter, Finish or Remount has an `nth` of at most one more than the records before it.
+/// faults, no two at one whose `nth` is below 4294967295. Where no fault came, as many checkpoints were taken at least as an
+/// order asks for. In list order, over a core that runs at the beginning, no fault was passed over (`TakesFaults`): a call has
+/// a record of each crossing where the injector's test holds, as far as its records tell how often it entered, gathered,
+/// finished, left and started the file system anew; with a plain reply it met one fault of its own at most; and a record of
+/// Enter, Finish or Remount has an `nth` of at most one more than the records before it.
 pub fn drive<C: EventCore, H: Hook>(alloc: Global, core: C, job: &Job, hook: &mut H) -> Driven<C>
     requires runnable { IsRunnable job.now }
     requires begun { IsBegun job.now (C.sight core) }

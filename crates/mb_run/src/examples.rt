@@ -1,4 +1,4 @@
-ghost use Rattle.mb_run.specs.Examples.{WorkedCheckpoints, WorkedEntering, WorkedFaults, WorkedMoments, WorkedOmitted, WorkedOrders, WorkedStales, WorkedUndue};
+ghost use Rattle.mb_run.specs.Examples.{WorkedCheckpoints, WorkedEntering, WorkedFaults, WorkedMoments, WorkedOmitted, WorkedOrders, WorkedStales, WorkedTaken, WorkedUndue};
 
 /// Whose first moment is lower under an order.
 pub fn worked_moments()
@@ -18,6 +18,11 @@ pub fn worked_entering()
 /// The fault records of a call that is struck twice.
 pub fn worked_faults()
     ensures { WorkedFaults }
+{}
+
+/// Which faults of a plan a call took, and which it passed over.
+pub fn worked_taken()
+    ensures { WorkedTaken }
 {}
 
 /// When a checkpoint is due, and what stands behind one that was taken in time.

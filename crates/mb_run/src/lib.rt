@@ -36,9 +36,9 @@ pub use drives::{DriveEnd, Driven, drive};
 pub use event_core::EventCore;
 pub use examples::{
     worked_checkpoints, worked_entering, worked_faults, worked_moments, worked_omitted,
-    worked_orders, worked_stales, worked_undue,
+    worked_orders, worked_stales, worked_taken, worked_undue,
 };
-pub use laws::{planned_faults, recovers_soon, stands_on};
+pub use laws::{recovers_soon, stands_on};
 pub use orders::run_order;
 pub use progress::{Next, Turn, Went};
 pub use runner::{At, Runner};

@@ -5,7 +5,7 @@ ghost use Rattle.mb_run.specs.Indexes.{IsIndexOf};
 ghost use Rattle.mb_run.specs.Lengths.{GoesSince, WentForward};
 ghost use Rattle.mb_run.specs.Orders.{AnswersOneMore, IsWhole};
 ghost use Rattle.mb_run.specs.Recovering.{GoOn};
-ghost use Rattle.mb_run.specs.Runs.{HasTakenTested};
+ghost use Rattle.mb_run.specs.Runs.{HasTakenFaults};
 ghost use Rattle.mb_run.specs.Served.{IsAfter, IsFloorOf, IsResting, IsRunInOrder, CrossingsAreKept, MayGiveUp, MayStep, Ran, RunsRecovery, Rolled, Turns, AllUnderWay, calls_of};
 ghost use Rattle.mb_run.specs.Sights.{IsOrderlyInSight, IsWaiting, recovers};
 ghost use Rattle.mb_run.specs.Timely.{IsTimely};
@@ -292,7 +292,7 @@ pub fn run_in_order<C: EventCore, H: Hook>(
     requires callers { AllByRecursion (λ (made : JobCall). made.caller < length runners.old) calls.now }
     ensures done { result ≡ true → IsRunInOrder calls.now (length runners.old) (H.test hook.old) (C.sight core.new) }
     ensures taken { result ≡ true → AreRested (H.test hook.old) (C.sight core.old) runners.old
-        → HasTakenTested (H.test hook.old) (C.sight core.new).history (C.sight core.new).records }
+        → HasTakenFaults (H.test hook.old) (C.sight core.new).history (C.sight core.new).records }
     ensures config { result ≡ true → (C.sight core.new).config ≡ (C.sight core.old).config }
     ensures seals { result ≡ true → IsTimely 0 (C.sight core.old) (C.sight core.new) }
     ensures test { H.test hook.new ≡ H.test hook.old }

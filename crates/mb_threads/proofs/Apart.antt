@@ -17,11 +17,14 @@ use Rattle.mb_kinds.specs.declared.entries.Entry.{Entry}
 use Rattle.mb_kinds.specs.declared.faults.FaultRecord.{FaultRecord}
 use Rattle.mb_run.proofs.Completing.{each_moment}
 use Rattle.mb_run.proofs.Lists.{all_map}
+use Rattle.mb_run.proofs.Omitted.{none_omitted}
+use Rattle.mb_run.proofs.Sealings.{none_undue}
 use Rattle.mb_run.specs.CoreSight.{seat_of, sight_of}
 use Rattle.mb_run.specs.Drives.{HasEachMoment, IsBegun, IsDrivenApart}
 use Rattle.mb_run.specs.Recovering.{crossing_of}
 use Rattle.mb_run.specs.Served.{AreApart, AreSound, calls_of}
-use Rattle.mb_run.specs.Sights.{Limits, Seat, limits_of, undue_in}
+use Rattle.mb_run.specs.Seals.{omitted, undue}
+use Rattle.mb_run.specs.Sights.{Limits, Seat, amiss_in, limits_of, omitted_in, undue_in}
 use Rattle.mb_turn.specs.Passes.{known}
 use Rattle.mb_run.proofs.InTime.{InTime}
 use Rattle.mb_volume_core.proofs.Orderly.{orderly}
@@ -84,7 +87,14 @@ module _ {F D : Type 0} (told : D → Option Image) (faults : D → ℕ) (core o
     | inr past ↦ subst AreApart (sym (none_other core.journal.records (length job.callers) caller recorded (omega (arith, past.1)))) tt
   ]
 
-  pub driven_apart : undue_in (sight_of core) ≤ undue_in (sight_of old) → IsDrivenApart job 0 (test_of tests) (sight_of old) (sight_of core)
+  -- no checkpoint was taken or left out when it began
+  none_taken : undue_in (sight_of old) ≡ 0
+  none_taken = ap (undue (sight_of old).config.threshold (sight_of old).history) begun.trail ∙ none_undue (sight_of old).config.threshold (sight_of old).history
+
+  none_left_out : omitted_in (sight_of old) ≡ 0
+  none_left_out = ap (omitted (sight_of old).history) begun.trail ∙ none_omitted (sight_of old).history
+
+  pub driven_apart : amiss_in (sight_of core) ≤ amiss_in (sight_of old) → IsDrivenApart job 0 (test_of tests) (sight_of old) (sight_of core)
   driven_apart low = record {
     config = ap limits_of same;
     free = λ caller low. ap (λ (s : Seat). s.flight) (made caller (omega (arith, low, size))).seat;
@@ -97,5 +107,6 @@ module _ {F D : Type 0} (told : D → Option Image) (faults : D → ℕ) (core o
           (λ f is holds. subst (λ n. IfSome (test_of tests n) (λ fires. fires (crossing_of f) ≡ true)) (sym is) holds) (records_callers core.journal.records caller) (made caller low).sound.holds) recorded;
       apart = apart_by core.journal.records each_apart;
     };
-    seals = omega (arith, low);
+    seals = omega (arith, low, none_taken, none_left_out);
+    prompt = omega (arith, low, none_taken, none_left_out);
   }

@@ -23,7 +23,7 @@ use Rattle.mb_run.specs.CoreSight.{seat_of, sight_of}
 use Rattle.mb_run.specs.Drives.{HasEachMoment, IsBegun, IsDrivenApart}
 use Rattle.mb_run.specs.Recovering.{crossing_of}
 use Rattle.mb_run.specs.Served.{AreApart, AreSound, calls_in, calls_of}
-use Rattle.mb_run.specs.Sights.{IsOrderlyInSight, Limits, Seat, Sight, limits_of, undue_in}
+use Rattle.mb_run.specs.Sights.{IsOrderlyInSight, Limits, Seat, Sight, limits_of, amiss_in}
 use Rattle.mb_turn.specs.Passes.{IsIdle, Known, dealt, known}
 use Rattle.mb_volume.proofs.Changing.{part_follows}
 use Rattle.mb_volume.specs.Parts.{Part, part_of, stand_in}
@@ -107,7 +107,7 @@ module _ {F D W : Type 0} (pass : W → Known (Shared F D)) (test : W → Option
     pub record IsDone (d : W) : Type 0 where
       pub config : (pass d).value.core.core.config ≡ value.core.core.config
       pub first : (pass d).value.core.core.first ≡ value.core.core.first
-      pub seals : undue_in (seen_by (pass d)) ≤ undue_in (sight_of value.core.core)
+      pub seals : amiss_in (seen_by (pass d)) ≤ amiss_in (sight_of value.core.core)
       pub made : stopped d ≡ false → HasMadeCalls (calls_of job (pass d).caller) (test_of tests (pass d).caller) (part_in (pass d))
 
     all_done : AllByRecursion IsDone done
@@ -115,7 +115,7 @@ module _ {F D W : Type 0} (pass : W → Known (Shared F D)) (test : W → Option
         (λ w d its is. record {
           config = is.later.config ∙ ap (λ (p : Known (Shared F D)). p.value.core.core.config) its.0;
           first = is.later.first ∙ ap (λ (p : Known (Shared F D)). p.value.core.core.first) its.0;
-          seals = subst (λ (p : Known (Shared F D)). undue_in (seen_by (pass d)) ≤ undue_in (seen_by p)) its.0 is.later.seals;
+          seals = subst (λ (p : Known (Shared F D)). amiss_in (seen_by (pass d)) ≤ amiss_in (seen_by p)) its.0 is.later.seals;
           made = λ going. subst (λ n. HasMadeCalls (calls_of job n) (test_of tests n) (part_in (pass d))) (sym is.later.caller)
               (subst (λ (t : Option (Crossing → Bool)). HasMadeCalls (calls_of job (pass w).caller) t (part_in (pass d))) its.2 (subst (λ cs. HasMadeCalls (calls_of cs (pass w).caller) (test w) (part_in (pass d))) its.1 (is.made going)));
         }) zip
@@ -134,10 +134,10 @@ module _ {F D W : Type 0} (pass : W → Known (Shared F D)) (test : W → Option
           (all_and IsDone (λ d. core.config ≡ (pass d).value.core.core.config) (λ d. IsDone d × (core.config ≡ (pass d).value.core.core.config)) done (λ d one other. (one, other)) all_done (all_in (λ (p : Known (Shared F D)). core.config ≡ p.value.core.core.config) pass done configs)) in
           d.2.1 ∙ d.2.0.config
 
-      pub out_seals : AllByRecursion (λ (p : Known (Shared F D)). undue_in (sight_of core) ≤ undue_in (seen_by p)) (map pass done) → 1 ≤ count → undue_in (sight_of core) ≤ undue_in (sight_of value.core.core)
+      pub out_seals : AllByRecursion (λ (p : Known (Shared F D)). amiss_in (sight_of core) ≤ amiss_in (seen_by p)) (map pass done) → 1 ≤ count → amiss_in (sight_of core) ≤ amiss_in (sight_of value.core.core)
       out_seals fewer some =
-          let d = taken (λ d. (pass d).caller ≡ 0) (λ d. IsDone d × (undue_in (sight_of core) ≤ undue_in (seen_by (pass d)))) done (one_with (λ d. (pass d).caller) 0 count 0 done done_callers (omega arith) (omega (arith, some)))
-          (all_and IsDone (λ d. undue_in (sight_of core) ≤ undue_in (seen_by (pass d))) (λ d. IsDone d × (undue_in (sight_of core) ≤ undue_in (seen_by (pass d)))) done (λ d one other. (one, other)) all_done (all_in (λ (p : Known (Shared F D)). undue_in (sight_of core) ≤ undue_in (seen_by p)) pass done fewer)) in
+          let d = taken (λ d. (pass d).caller ≡ 0) (λ d. IsDone d × (amiss_in (sight_of core) ≤ amiss_in (seen_by (pass d)))) done (one_with (λ d. (pass d).caller) 0 count 0 done done_callers (omega arith) (omega (arith, some)))
+          (all_and IsDone (λ d. amiss_in (sight_of core) ≤ amiss_in (seen_by (pass d))) (λ d. IsDone d × (amiss_in (sight_of core) ≤ amiss_in (seen_by (pass d)))) done (λ d one other. (one, other)) all_done (all_in (λ (p : Known (Shared F D)). amiss_in (sight_of core) ≤ amiss_in (seen_by p)) pass done fewer)) in
           let low = d.2.1 in
           let more = d.2.0.seals in
           omega (arith, low, more)

@@ -13,7 +13,7 @@ use Rattle.mb_kinds.specs.declared.faults.FaultRecord.{FaultRecord}
 use Rattle.mb_core_spec.specs.State.{records_of}
 use Rattle.mb_run.proofs.Lists.{neq}
 use Rattle.mb_run.specs.Events.{LeavesOthersAlone}
-use Rattle.mb_run.specs.Sights.{Limits, Seat, Sight, undue_in}
+use Rattle.mb_run.specs.Sights.{Limits, Seat, Sight, amiss_in}
 use Rattle.mb_volume.specs.Parts.{MovesPart, Part, part_of, stand_if, stand_in}
 
 -- ---- fault records
@@ -86,7 +86,7 @@ moves_same caller s = record {
   seals = omega arith;
 }
 
-pub moves_stays : (caller : ℕ) (old new : Sight) → LeavesOthersAlone caller old new → new.history ≡ old.history → undue_in new ≤ undue_in old → MovesPart caller old new
+pub moves_stays : (caller : ℕ) (old new : Sight) → LeavesOthersAlone caller old new → new.history ≡ old.history → amiss_in new ≤ amiss_in old → MovesPart caller old new
 moves_stays caller old new stays history seals = record {
   config = stays.config;
   seats = stays.seats;
@@ -97,7 +97,7 @@ moves_stays caller old new stays history seals = record {
   seals = seals;
 }
 
-pub moves_entry : (caller : ℕ) (old new : Sight) (entry : Entry) → LeavesOthersAlone caller old new → entry.caller ≡ caller → new.history ≡ old.history ++ entry ∷ [] → undue_in new ≤ undue_in old → MovesPart caller old new
+pub moves_entry : (caller : ℕ) (old new : Sight) (entry : Entry) → LeavesOthersAlone caller old new → entry.caller ≡ caller → new.history ≡ old.history ++ entry ∷ [] → amiss_in new ≤ amiss_in old → MovesPart caller old new
 moves_entry caller old new entry stays mine history seals = record {
   config = stays.config;
   seats = stays.seats;
@@ -109,7 +109,7 @@ moves_entry caller old new entry stays mine history seals = record {
 }
 
 pub moves_records : (caller : ℕ) (old new : Sight) (more : List FaultRecord) → new.config ≡ old.config → ((other : ℕ) → new.seats other ≡ old.seats other) → new.history ≡ old.history → new.records ≡ old.records ++ more
-    → AllByRecursion (λ (fault : FaultRecord). fault.caller ≡ caller) more → undue_in new ≤ undue_in old → MovesPart caller old new
+    → AllByRecursion (λ (fault : FaultRecord). fault.caller ≡ caller) more → amiss_in new ≤ amiss_in old → MovesPart caller old new
 moves_records caller old new more config seats history records theirs seals = record {
   config = config;
   seats = λ other apart. seats other;

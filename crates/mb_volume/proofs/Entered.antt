@@ -11,7 +11,7 @@ use Rattle.mb_kinds.specs.declared.faults.Ticket.{Ticket}
 use Rattle.mb_kinds.specs.declared.replies.Reply.{Reply}
 use Rattle.mb_core_spec.specs.State.{records_of}
 use Rattle.mb_run.proofs.Lists.{own_mine}
-use Rattle.mb_run.proofs.Undue.{enters_undue, still_undue}
+use Rattle.mb_run.proofs.Amiss.{enters_amiss, still_amiss}
 use Rattle.mb_run.specs.Events.{Answers, BeginsFlight, EntersInSight, EndsFlight, entry_of}
 use Rattle.mb_run.specs.Pages.{HasTablesFor}
 use Rattle.mb_run.specs.Sights.{Limits, Seat, Sight, flight_of}
@@ -141,12 +141,12 @@ module _ (call : Call) (test : Option (Crossing → Bool)) (from : Part) (old : 
 
 pub moves_done : (old new : Sight) (caller : ℕ) (call : Call) (answer : Reply) → EntersInSight old new caller call (enter.Done answer) → MovesPart caller old new
 moves_done old new caller call answer enters = elim enters [
-  | inl left ↦ moves_stays caller old new left.1.stays left.1.counts.history (enters_undue old new caller call (enter.Done answer) (inl left))
-  | inr made ↦ moves_entry caller old new (entry_of caller (flight_of old caller call (old.seats caller).flight) None answer) made.2.stays refl made.2.history (enters_undue old new caller call (enter.Done answer) (inr made))
+  | inl left ↦ moves_stays caller old new left.1.stays left.1.counts.history (enters_amiss old new caller call (enter.Done answer) (inl left))
+  | inr made ↦ moves_entry caller old new (entry_of caller (flight_of old caller call (old.seats caller).flight) None answer) made.2.stays refl made.2.history (enters_amiss old new caller call (enter.Done answer) (inr made))
 ]
 
 pub moves_begins : (old new : Sight) (caller : ℕ) (flight : Flight) → BeginsFlight caller flight old new → MovesPart caller old new
-moves_begins old new caller flight begins = moves_stays caller old new begins.stays begins.history (still_undue old new begins.stays.config begins.log begins.history)
+moves_begins old new caller flight begins = moves_stays caller old new begins.stays begins.history (still_amiss old new begins.stays.config begins.log begins.history)
 
 pub moves_nothing : (old new : Sight) (caller : ℕ) → new ≡ old → MovesPart caller old new
 moves_nothing old new caller same = subst (MovesPart caller old) (sym same) (moves_same caller old)

@@ -24,7 +24,7 @@ use Rattle.mb_volume.specs.Parts.{MovesPart, Part, part_of}
 use Rattle.mb_volume.specs.Underway.{AddsEntryIf, Comes, PlaceHoldsTicket, IsBegunIf, FlightIsCall, IsMetNext, StruckSoFar, IsCallUnderway, PlaceStands}
 use Rattle.mb_volume.specs.declared.attempt.Attempt.{Attempt}
 use Rattle.mb_volume.specs.declared.events.Came.TheVariants as came
-use Rattle.mb_run.proofs.Undue.{faults_undue}
+use Rattle.mb_run.proofs.Amiss.{faults_amiss}
 use Rattle.mb_volume.proofs.Changing.{moves_records, records_push}
 use Rattle.mb_volume.proofs.Entered.{moves_nothing}
 use Rattle.mb_volume.proofs.Standing.{flying}
@@ -121,7 +121,7 @@ module _ (call : Call) (test : Option (Crossing → Bool)) (from : Part) (old : 
       pub moves_faults : (new : Sight) (answer : Fault) → FaultsWith old new ticket crossing.kind crossing.nth answer → MovesPart attempt.crossings.caller old new
       moves_faults new (fault.Skip mine was) faults = moves_nothing old new attempt.crossings.caller faults.1
       moves_faults new (fault.Struck number) faults = moves_records attempt.crossings.caller old new (taken ∷ []) faults.1.config faults.1.seats faults.1.counts.history faults.1.records (stood.mine, tt)
-          (faults_undue old new ticket crossing.kind crossing.nth (fault.Struck number) faults)
+          (faults_amiss old new ticket crossing.kind crossing.nth (fault.Struck number) faults)
 
   module _ (ticket : Ticket) (holds : PlaceHoldsTicket attempt.at ticket) (struck : Option Crossing) (crossing : Crossing) (passed : Crossings) (met : IsMetNext test struck attempt crossing passed) where
     was_taken : FaultIsTaken test attempt.crossings passed (record { caller = ticket.caller; ordinal = ticket.ordinal; kind = crossing.kind; nth = crossing.nth })

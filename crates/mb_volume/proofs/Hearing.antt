@@ -14,11 +14,11 @@ use Rattle.mb_run.proofs.TallyRecords.{counted_some, counted_there, next_first}
 use Rattle.mb_run.specs.Recovering.{next_of}
 use Rattle.mb_run.specs.Served.{AreSixCounts, counted}
 use Rattle.mb_run.specs.Sights.{Seat}
-use Rattle.mb_run.specs.Tallies.{HasFinished, count_of, is_logged}
+use Rattle.mb_run.specs.Tallies.{count_of, is_logged}
 use Rattle.mb_run.specs.declared.runner.At.TheVariants as at
 use Rattle.mb_volume.specs.Attempts.{new_attempt}
 use Rattle.mb_volume.specs.Called.{RisesAtFirst, TakesFirsts, is_on_way}
-use Rattle.mb_volume.specs.Passed.{EnteredBy, FlightHasEntry, HasHeard, HasPassed, HasPassedAt, HeardBy, Hears, HearsAt, HearsFault, IsCalm, IsHeard, IsPastEnter, IsPastLeave, KeepsOwn, PassedBy}
+use Rattle.mb_volume.specs.Passed.{EnteredBy, FlightHasEntry, HasFinished, HasHeard, HasPassed, HasPassedAt, HeardBy, Hears, HearsAt, HearsFault, IsCalm, IsHeard, IsPastEnter, IsPastLeave, KeepsOwn, PassedBy}
 use Rattle.mb_volume.specs.declared.attempt.Attempt.{Attempt}
 use Rattle.mb_volume.specs.declared.events.Came.{Came}
 use Rattle.mb_volume.specs.declared.events.Came.TheVariants as came

@@ -14,7 +14,7 @@ use Rattle.mb_kinds.specs.declared.faults.Ticket.{Ticket}
 use Rattle.mb_run.specs.declared.runner.At.{At}
 use Rattle.mb_run.specs.declared.runner.At.TheVariants as at
 use Rattle.mb_run.specs.Served.{counted}
-use Rattle.mb_run.specs.Sights.{Limits, Sight, limits_of, undue_in}
+use Rattle.mb_run.specs.Sights.{Limits, Sight, limits_of, amiss_in}
 use Rattle.mb_turn.proofs.Lists.{prefix_trans}
 use Rattle.mb_turn.specs.Passes.{Continues, IsIdle, Known, known}
 use Rattle.mb_volume_core.proofs.Origins.{origin_of}
@@ -150,7 +150,7 @@ others_held now new mine caller same moves other apart = others_stand now new mi
 
 pub later_held : {F D : Type 0} (table : TableId) (old : Known (Shared F D)) (now new : Shared F D) → IsIdle table old → origin_of now.core.core ≡ origin_of old.value.core.core → origin_of new.core.core ≡ origin_of now.core.core
     → IsPrefix (seen_by old).history (sight_of now.core.core).history → (mine : ℕ) → Continues mine (sight_of now.core.core).history (sight_of new.core.core).history
-    → undue_in (sight_of now.core.core) ≤ undue_in (seen_by old) → undue_in (sight_of new.core.core) ≤ undue_in (sight_of now.core.core) → IsLater table old (known old.table old.caller new false)
+    → amiss_in (sight_of now.core.core) ≤ amiss_in (seen_by old) → amiss_in (sight_of new.core.core) ≤ amiss_in (sight_of now.core.core) → IsLater table old (known old.table old.caller new false)
 later_held {F} {D} table old now new idle one other saw mine more fewer low = record {
   idle = (idle.0, refl);
   caller = refl;

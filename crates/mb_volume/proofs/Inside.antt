@@ -12,16 +12,17 @@ use Rattle.mb_edge.specs.declared.crossings.Crossing.{Crossing}
 use Rattle.mb_iface.specs.declared.replies.Need.{Need}
 use Rattle.mb_kinds.specs.Own.{own}
 use Rattle.mb_kinds.specs.declared.calls.Call.{Call}
+use Rattle.mb_kinds.specs.declared.entries.Entry.{Entry}
 use Rattle.mb_kinds.specs.declared.entries.Flight.{Flight}
 use Rattle.mb_kinds.specs.declared.faults.Ticket.{Ticket}
 use Rattle.mb_kinds.specs.declared.replies.Reply.{Reply}
 use Rattle.mb_kinds.specs.declared.replies.Reply.TheVariants as reply
 use Rattle.mb_run.proofs.Lists.{own_mine}
-use Rattle.mb_run.proofs.Undue.{gathers_undue, leaves_undue, logs_undue}
-use Rattle.mb_run.specs.Events.{Answers, FinishesInSight, Gains, GathersInSight, IsCallOf, IsReadyAt, IsStale, EndsFlight, LeavesWith, Logs, SealsIf, entry_of}
+use Rattle.mb_run.proofs.Amiss.{gathers_amiss, leaves_amiss}
+use Rattle.mb_run.specs.Events.{Answers, FinishesInSight, Gains, GathersInSight, IsCallOf, IsReadyAt, IsStale, EndsFlight, LeavesOthersAlone, LeavesWith, Logs, SealsIf, entry_of, sealed}
 use Rattle.mb_run.specs.Pages.{HasTablesFor, PerformsOver}
 use Rattle.mb_run.specs.Seals.{is_due}
-use Rattle.mb_run.specs.Sights.{SeatHasTicket, Limits, Seat, Sight, undue_in}
+use Rattle.mb_run.specs.Sights.{SeatHasTicket, Limits, Seat, Sight, amiss_in}
 use Rattle.mb_run.specs.declared.runner.At.TheVariants as at
 use Rattle.mb_volume.specs.Attempts.{back_out, going_in}
 use Rattle.mb_volume.specs.Parts.{MovesPart, Part, part_of}
@@ -44,11 +45,14 @@ sealed_part : (b : Bool) (caller : ℕ) (old new : Sight) → SealsIf b old new 
 sealed_part true caller old new seals = ap (λ (s : Sight). part_of s caller) seals
 sealed_part false caller old new seals = ap (λ (s : Sight). part_of s caller) seals
 
-sealed_moves : (b : Bool) (caller : ℕ) (old mid new : Sight) → SealsIf b mid new → undue_in new ≤ undue_in old → MovesPart caller old mid → MovesPart caller old new
-sealed_moves true caller old mid new seals low moves =
+sealed_moves : (b : Bool) (caller : ℕ) (old mid new : Sight) (entry : Entry) → SealsIf b mid new → amiss_in new ≤ amiss_in old → LeavesOthersAlone caller old mid → entry.caller ≡ caller → mid.history ≡ old.history ++ entry ∷ [] → MovesPart caller old new
+sealed_moves true caller old mid new entry seals low stays mine history =
     subst (MovesPart caller old) (sym seals)
-    (record { config = moves.config; seats = moves.seats; entries = moves.entries; more = moves.more; records = moves.records; theirs = moves.theirs; seals = (let same = ap undue_in seals in omega (arith, same, low)) })
-sealed_moves false caller old mid new seals low moves = subst (MovesPart caller old) (sym seals) moves
+    (moves_entry caller old (sealed mid new) entry
+    (record { config = stays.config; records = stays.records; stage = stays.stage; incarnation = stays.incarnation; seats = stays.seats; copies = stays.copies; stales = stays.stales })
+    mine history (let same = ap amiss_in seals in omega (arith, same, low)))
+sealed_moves false caller old mid new entry seals low stays mine history =
+    subst (MovesPart caller old) (sym seals) (moves_entry caller old mid entry stays mine history (let same = ap amiss_in seals in omega (arith, same, low)))
 
 module _ (call : Call) (test : Option (Crossing → Bool)) (from : Part) (old : Sight) (attempt : Attempt) (u : IsCallUnderway call test from (part_of old attempt.crossings.caller) attempt) where
   -- the call has to enter again
@@ -188,11 +192,11 @@ module _ (old new : Sight) (ticket : Ticket) (caller : ℕ) (mine : ticket.calle
   moves_gathers need before now (gathered.Skip was is) has gathers = moves_nothing old new caller gathers.1
   moves_gathers need before now gathered.Device has gathers =
       let made : Answers caller has.flight reply.Device old new = subst (λ n. Answers n has.flight reply.Device old new) mine (gathers.1 has.flight has.here) in
-      moves_entry caller old new (entry_of caller has.flight None reply.Device) made.stays refl made.history (gathers_undue old new ticket need before now gathered.Device has gathers)
+      moves_entry caller old new (entry_of caller has.flight None reply.Device) made.stays refl made.history (gathers_amiss old new ticket need before now gathered.Device has gathers)
   moves_gathers need before now gathered.NoMemory has gathers = moves_nothing old new caller gathers.0
-  moves_gathers need before now gathered.Done has gathers = let gains = subst (λ n. Gains n old new need before now) mine gathers.1 in moves_stays caller old new gains.stays gains.counts.history (gathers_undue old new ticket need before now gathered.Done has gathers)
+  moves_gathers need before now gathered.Done has gathers = let gains = subst (λ n. Gains n old new need before now) mine gathers.1 in moves_stays caller old new gains.stays gains.counts.history (gathers_amiss old new ticket need before now gathered.Done has gathers)
 
-  pub moves_finishes : (pages : PagesState) (made : Call) (answer : Finished) → undue_in new ≤ undue_in old → FinishesInSight old new ticket pages made answer → MovesPart caller old new
+  pub moves_finishes : (pages : PagesState) (made : Call) (answer : Finished) → amiss_in new ≤ amiss_in old → FinishesInSight old new ticket pages made answer → MovesPart caller old new
   moves_finishes pages made (finished.Skip was is) seals finishes = moves_nothing old new caller finishes.1
   moves_finishes pages made (finished.Busy holder) seals finishes = moves_nothing old new caller finishes.3
   moves_finishes pages made (finished.Stale block) seals finishes = let stale = subst (λ n. IsStale n old new pages) mine finishes.1 in moves_stays caller old new stale.stays stale.counts.history seals
@@ -200,10 +204,9 @@ module _ (old new : Sight) (ticket : Ticket) (caller : ℕ) (mine : ticket.calle
   moves_finishes pages made finished.Logged seals finishes =
       let of = finishes.2 in
       let logs = subst (λ n. Logs n old of.logged ticket) mine of.logs in
-      sealed_moves (is_due of.logged.config.threshold of.logged.ops made) caller old of.logged new of.seals seals
-      (moves_entry caller old of.logged (entry_of caller logs.flight logs.pick logs.answer) logs.stays refl logs.history (logs_undue caller old of.logged ticket logs))
+      sealed_moves (is_due of.logged.config.threshold of.logged.ops made) caller old of.logged new (entry_of caller logs.flight logs.pick logs.answer) of.seals seals logs.stays refl logs.history
 
   pub moves_left : (answer : Reply) → LeavesWith old new ticket (left.Left answer) → MovesPart caller old new
   moves_left answer leaves =
       let gone = subst (λ n. EndsFlight n leaves.1.0 old new) mine leaves.1.1 in
-      moves_stays caller old new gone.stays gone.counts.history (leaves_undue old new ticket (left.Left answer) leaves)
+      moves_stays caller old new gone.stays gone.counts.history (leaves_amiss old new ticket (left.Left answer) leaves)

@@ -20,7 +20,7 @@ use Rattle.mb_run.specs.Recovering.{GoOn, Steps, StrikesStep}
 use Rattle.mb_run.specs.Seals.{is_plain}
 use Rattle.mb_run.specs.Served.{AreSixCounts, counted}
 use Rattle.mb_run.specs.Sights.{Seat, Sight}
-use Rattle.mb_run.specs.Tallies.{HasFinished, count_of, is_logged}
+use Rattle.mb_run.specs.Tallies.{count_of, is_logged}
 use Rattle.mb_run.specs.declared.answers.Enter.TheVariants as enter
 use Rattle.mb_run.specs.declared.answers.Stepped.{Stepped}
 use Rattle.mb_run.specs.declared.answers.Stepped.TheVariants as stepped
@@ -28,7 +28,7 @@ use Rattle.mb_run.specs.declared.runner.At.{At}
 use Rattle.mb_run.specs.declared.runner.At.TheVariants as at
 use Rattle.mb_volume.specs.Attempts.{KeepsCrossings, back_out, going_in}
 use Rattle.mb_volume.specs.Called.{is_on_way}
-use Rattle.mb_volume.specs.Passed.{FlightHasEntry, HasPassed, HasPassedAt, IsCalm, IsPastEnter, IsPastLeave, KeepsOwn, MarksPoints, PassedBy}
+use Rattle.mb_volume.specs.Passed.{FlightHasEntry, HasFinished, HasPassed, HasPassedAt, IsCalm, IsPastEnter, IsPastLeave, KeepsOwn, MarksPoints, PassedBy}
 use Rattle.mb_volume.specs.Underway.{PlaceHoldsTicket, FlightLacksEntry, PlaceStands, rolled}
 use Rattle.mb_volume.specs.declared.attempt.Attempt.{Attempt}
 use Rattle.mb_volume.specs.declared.events.Came.TheVariants as came
@@ -163,7 +163,7 @@ module _ (test : Option (Crossing → Bool)) (old new : Sight) (attempt : Attemp
   struck_keeps : (crossings : Crossings) → StrikesStep test attempt.crossings crossings old new → KeepsOwn attempt.crossings crossings
   struck_keeps crossings strikes = keeps_counted attempt.crossings crossings strikes.fault.kind are (elim strikes.next.point [
     | inl remount ↦ (let is = ap place_of remount.1 in omega (arith, is))
-    | inr replay ↦ (let is = ap place_of replay in omega (arith, is))
+    | inr replay ↦ (let is = ap place_of replay.1 in omega (arith, is))
   ]) strikes.next.counts
 
   step_keeps : (crossings : Crossings) (answer : Stepped) → answer ≢ stepped.Idle → Steps test (Some attempt.crossings) (Some crossings) old new answer → IsCalm (rolled answer) → KeepsOwn attempt.crossings crossings

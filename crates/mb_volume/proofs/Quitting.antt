@@ -10,7 +10,7 @@ use Rattle.mb_kinds.specs.declared.entries.Stand.{Stand}
 use Rattle.mb_run.specs.CoreSight.{seat_of, sight_of}
 use Rattle.mb_run.specs.Events.{Quits}
 use Rattle.mb_run.specs.Sights.{IsWaiting, Seat, Sight}
-use Rattle.mb_run.proofs.Undue.{quits_undue}
+use Rattle.mb_run.proofs.Amiss.{quits_amiss}
 use Rattle.mb_turn.specs.Passes.{Begins}
 use Rattle.mb_volume_core.proofs.Leaving.{gone, has_open_call, quit_origin, quits_by}
 use Rattle.mb_volume_core.proofs.Origins.{origin_of}
@@ -55,7 +55,7 @@ module _ {F D : Type 0} (saw now : CoreState F D) (caller mine begun ordinal : â
     quit_from = quit_origin now mine quit_open.0.mine quit_open.0.here new made
 
     pub quit_moves : MovesPart mine (sight_of now) (sight_of new)
-    quit_moves = moves_stays mine (sight_of now) (sight_of new) quits.stays quits.history (quits_undue mine (sight_of now) (sight_of new) quits)
+    quit_moves = moves_stays mine (sight_of now) (sight_of new) quits.stays quits.history (quits_amiss mine (sight_of now) (sight_of new) quits)
 
     begun_still : ((sight_of new).seats mine).begun â‰¡ ((sight_of now).seats mine).begun
     begun_still =

@@ -16,7 +16,7 @@ use Rattle.mb_volume.specs.Parts.{MovesPart, Part, part_of}
 use Rattle.mb_volume.specs.Underway.{AddsEntryIf, Comes, FlightIsCall, IsCallUnderway, FlightLacksEntry, rolled}
 use Rattle.mb_volume.specs.declared.attempt.Attempt.{Attempt}
 use Rattle.mb_volume.specs.declared.events.Came.TheVariants as came
-use Rattle.mb_run.proofs.Undue.{entry_undue, waits_undue}
+use Rattle.mb_run.proofs.Amiss.{entry_amiss, waits_amiss}
 use Rattle.mb_volume.proofs.Changing.{moves_entry, moves_records}
 use Rattle.mb_volume.proofs.Entered.{answered_by, moves_nothing}
 use Rattle.mb_volume.proofs.Faulted.{underway_on, underway_struck}
@@ -80,10 +80,10 @@ module _ (call : Call) (test : Option (Crossing → Bool)) (from : Part) (old : 
 module _ (test : Option (Crossing → Bool)) (old : Sight) (attempt : Attempt) (waiting : IsWaiting (old.seats attempt.crossings.caller)) where
   module _ (crossings : Crossings) (on : CrossingsGoOn attempt.crossings crossings) where
     moves_strikes : (new : Sight) → StrikesStep test attempt.crossings crossings old new → MovesPart attempt.crossings.caller old new
-    moves_strikes new strikes = moves_records attempt.crossings.caller old new (strikes.fault ∷ []) strikes.waits.config strikes.waits.seats strikes.waits.counts.history strikes.records (strikes.taken.caller, tt) (waits_undue old new strikes.waits)
+    moves_strikes new strikes = moves_records attempt.crossings.caller old new (strikes.fault ∷ []) strikes.waits.config strikes.waits.seats strikes.waits.counts.history strikes.records (strikes.taken.caller, tt) (waits_amiss old new strikes.waits)
 
     moves_waits : (new : Sight) → Waits old new → new.records ≡ old.records → MovesPart attempt.crossings.caller old new
-    moves_waits new waits records = moves_records attempt.crossings.caller old new [] waits.config waits.seats waits.counts.history (records ∙ sym (append-nil old.records)) tt (waits_undue old new waits)
+    moves_waits new waits records = moves_records attempt.crossings.caller old new [] waits.config waits.seats waits.counts.history (records ∙ sym (append-nil old.records)) tt (waits_amiss old new waits)
 
     moves_rolled : (new : Sight) (answer : Stepped) → Steps test (Some attempt.crossings) (Some crossings) old new answer → MovesPart attempt.crossings.caller old new
     moves_rolled new stepped.Idle steps = moves_nothing old new attempt.crossings.caller steps.1
@@ -98,7 +98,7 @@ module _ (test : Option (Crossing → Bool)) (old : Sight) (attempt : Attempt) (
     moves_rolled new stepped.Device steps =
         let made : Answers attempt.crossings.caller waiting.0 reply.Device old new = steps.1 waiting.0 waiting.1 in
         moves_entry attempt.crossings.caller old new (entry_of attempt.crossings.caller waiting.0 None reply.Device) made.stays refl made.history
-        (entry_undue old new made.stays.config (entry_of attempt.crossings.caller waiting.0 None reply.Device) made.log made.history)
+        (entry_amiss old new made.stays.config made.log (entry_of attempt.crossings.caller waiting.0 None reply.Device) made.history)
     moves_rolled new stepped.NoMemory steps = moves_nothing old new attempt.crossings.caller steps
 
   pub same_caller : (by : Option Crossings) (now : Attempt) → GoOn (Some attempt.crossings) by → KeepsCrossings attempt by now → now.crossings.caller ≡ attempt.crossings.caller

@@ -6,7 +6,7 @@ use Rattle.mb_kinds.specs.declared.entries.Entry.{Entry}
 use Rattle.mb_kinds.specs.declared.entries.Stand.{Stand}
 use Rattle.mb_kinds.specs.declared.faults.FaultRecord.{FaultRecord}
 use Rattle.mb_core_spec.specs.State.{records_of}
-use Rattle.mb_run.specs.Sights.{Limits, Seat, Sight, undue_in}
+use Rattle.mb_run.specs.Sights.{Limits, Seat, Sight, amiss_in}
 use Rattle.mb_turn.specs.Passes.{Continues}
 
 -- its entries and its fault records, in order, its calls, and what the core was begun with
@@ -27,8 +27,8 @@ stand_if false seat struck = None
 abbrev pub stand_in : Sight → ℕ → Option Stand
 stand_in sight caller = stand_if (nat_lt caller sight.config.callers) (sight.seats caller) (records_of sight.records caller)
 
--- what one caller's event changes: entries and fault records of that caller come, no other caller's call changes, and no checkpoint is
--- taken but where one is due
+-- what one caller's event changes: entries and fault records of that caller come, no other caller's call changes, no checkpoint is taken
+-- but where one is due, and none is left out behind a sync(2)
 pub record MovesPart (caller : ℕ) (old new : Sight) : Type 0 where
   pub config : new.config ≡ old.config
   pub seats : (other : ℕ) → other ≢ caller → new.seats other ≡ old.seats other
@@ -36,4 +36,4 @@ pub record MovesPart (caller : ℕ) (old new : Sight) : Type 0 where
   pub more : List FaultRecord
   pub records : new.records ≡ old.records ++ more
   pub theirs : AllByRecursion (λ (fault : FaultRecord). fault.caller ≡ caller) more
-  pub seals : undue_in new ≤ undue_in old
+  pub seals : amiss_in new ≤ amiss_in old

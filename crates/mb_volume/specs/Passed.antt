@@ -10,7 +10,7 @@ use Rattle.mb_run.specs.Pages.{has}
 use Rattle.mb_run.specs.Served.{counted}
 use Rattle.mb_run.specs.Sights.{Seat, Sight}
 use Rattle.mb_run.specs.Seals.{is_plain}
-use Rattle.mb_run.specs.Tallies.{HasFinished, count_of, is_logged}
+use Rattle.mb_run.specs.Tallies.{count_of, is_logged}
 use Rattle.mb_run.specs.declared.runner.At.{At}
 use Rattle.mb_run.specs.declared.runner.At.TheVariants as at
 use Rattle.mb_volume.specs.Called.{RisesAtFirst, TakesFirsts, is_on_way}
@@ -31,6 +31,12 @@ pub record IsPastEnter (attempt : Attempt) : Type 0 where
   pub enters : count_of attempt.crossings Enter ≢ 0
   pub gathers : has attempt.pages 0 ≡ true → count_of attempt.crossings Gather ≢ 0
   pub finishes : attempt.asked ≡ true → count_of attempt.crossings Finish ≢ 0
+
+-- the fault points of a call that has its entry, before it leaves
+pub record HasFinished (crossings : Crossings) : Type 0 where
+  pub enters : count_of crossings Enter ≢ 0
+  pub gathers : count_of crossings Gather ≢ 0
+  pub finishes : count_of crossings Finish ≢ 0
 
 -- it was at a fault point of each kind on its way
 pub record IsPastLeave (crossings : Crossings) : Type 0 where

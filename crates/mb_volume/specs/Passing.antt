@@ -5,7 +5,7 @@ use Rattle.atomic_table.specs.Seated.{TableId}
 use Rattle.mb_edge.specs.declared.crossings.Crossing.{Crossing}
 use Rattle.mb_kinds.specs.declared.calls.Call.{Call}
 use Rattle.mb_run.specs.CoreSight.{sight_of}
-use Rattle.mb_run.specs.Sights.{IsWaiting, Sight, undue_in}
+use Rattle.mb_run.specs.Sights.{IsWaiting, Sight, amiss_in}
 use Rattle.mb_turn.specs.Passes.{IsIdle, Known}
 use Rattle.mb_volume.specs.Parts.{Part, part_of}
 use Rattle.mb_volume.specs.Underway.{IsCallUnderway}
@@ -27,8 +27,8 @@ module _ {F D : Type 0} where
     pub first : new.value.core.core.first ≡ old.value.core.core.first
     pub config : new.value.core.core.config ≡ old.value.core.core.config
     pub seen : IsPrefix (seen_by old).history (seen_by new).history
-    -- no checkpoint was taken but where one was due, by whomever
-    pub seals : undue_in (seen_by new) ≤ undue_in (seen_by old)
+    -- no checkpoint was taken but where one was due, and none was left out behind a sync(2), by whomever
+    pub seals : amiss_in (seen_by new) ≤ amiss_in (seen_by old)
 
   -- a call of the pass's caller is under way, and waits for a recovery where that is said
   pub record IsMaking (call : Call) (test : Option (Crossing → Bool)) (pass : Known (Shared F D)) (attempt : Attempt) (shut : Bool) : Type 0 where

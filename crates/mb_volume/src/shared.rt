@@ -6,7 +6,7 @@ ghost use Rattle.mb_core_spec.specs.Right.{Right};
 ghost use Rattle.mb_core_spec.specs.State.{CallerState};
 ghost use Rattle.mb_run.specs.CoreSight.{sight_of};
 ghost use Rattle.mb_run.specs.Seals.{AreInTime};
-ghost use Rattle.mb_run.specs.Sights.{IsOrderlyInSight, undue_in};
+ghost use Rattle.mb_run.specs.Sights.{IsOrderlyInSight, amiss_in};
 ghost use Rattle.mb_volume.specs.Attempts.{without_pages};
 ghost use Rattle.mb_volume.specs.Parts.{MovesPart, part_of, stand_in};
 ghost use Rattle.mb_volume.specs.Passed.{MarksSeen};
@@ -182,7 +182,7 @@ impl<F: FileSys, D: Disk> Booked for SharedCore<F, D> {
     // the number of a caller's call has 32 bits
     ghost always = { λ s. s.core.core.config.most < 4294967296 };
 
-    ghost tally = { λ s. undue_in (sight_of s.core.core) };
+    ghost tally = { λ s. amiss_in (sight_of s.core.core) };
 
     fn entries(&self) -> u64 {
         self.kept.core.core.history().len() as u64

@@ -5,7 +5,7 @@ ghost use Rattle.mb_kinds.specs.Own.{own};
 ghost use Rattle.mb_run.specs.CoreSight.{sight_of};
 ghost use Rattle.mb_run.specs.Rising.{RisesWith};
 ghost use Rattle.mb_run.specs.Seals.{AreInTime};
-ghost use Rattle.mb_run.specs.Sights.{IsOrderlyInSight, undue_in};
+ghost use Rattle.mb_run.specs.Sights.{IsOrderlyInSight, amiss_in};
 ghost use Rattle.mb_turn.specs.Passes.{IsIdle, dealt};
 ghost use Rattle.mb_volume.specs.Called.{IsAnsweredWith, CallIsGivenUp, TakesPlannedFaults};
 ghost use Rattle.mb_volume.specs.Parts.{stand_in};
@@ -128,7 +128,7 @@ impl<F: FileSys, D: Disk> Volume<F, D> {
             own (sight_of result.core).history pass.caller ≡ (part_in pass).entries) passes.items }
         ensures stand { AllByRecursion (λ pass.
             stand_in (sight_of result.core) pass.caller ≡ stand_in (seen_by pass) pass.caller) passes.items }
-        ensures seals { AllByRecursion (λ pass. undue_in (sight_of result.core) ≤ undue_in (seen_by pass)) passes.items }
+        ensures seals { AllByRecursion (λ pass. amiss_in (sight_of result.core) ≤ amiss_in (seen_by pass)) passes.items }
         ensures right { IsOrderlyInSight (sight_of result.core) }
     {
         let Volume { turn } = self;

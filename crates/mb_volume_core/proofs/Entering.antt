@@ -9,6 +9,7 @@ use Rattle.mb_kinds.specs.declared.replies.Reply.TheVariants as reply
 use Rattle.mb_core_spec.specs.Callers.{begun, one_if}
 use Rattle.mb_core_spec.specs.Copies.{PagesState, no_pages}
 use Rattle.mb_core_spec.specs.Events.{answered_by, beginning, ended, entering, goes_in, with_room}
+use Rattle.mb_core_spec.specs.Faults.{IsTwice}
 use Rattle.mb_core_spec.specs.Flights.{HasTicket, IsFlying, IsTicket, runs}
 use Rattle.mb_core_spec.specs.Numbers.{is_open, open_flight}
 use Rattle.mb_core_spec.specs.Right.{Right}
@@ -86,6 +87,13 @@ module _ {F D : Type 0} (told : D → Option Image) (faults : D → ℕ) (core :
 
   lacks_here : LacksEntry mine.flight → (flight_of (sight_of core) caller given ((sight_of core).seats caller).flight).answered ≡ false
   lacks_here lacks = ap (λ (f : Flight). f.answered) flight_same ∙ lacks_is mine.flight lacks
+
+  -- the call met no two faults of its own
+  abbrev NeverTwice : Type 0
+  NeverTwice = (first second : ℕ) → IsTwice core.journal.records caller (the_flight mine.flight).ordinal first second → ⊥
+
+  once_here : NeverTwice → (first second : ℕ) → IsTwice core.journal.records caller (flight_of (sight_of core) caller given ((sight_of core).seats caller).flight).ordinal first second → ⊥
+  once_here never first second twice = never first second (subst (λ (f : Flight). IsTwice core.journal.records caller f.ordinal first second) flight_same twice)
 
   -- ---- numbers
 
@@ -191,8 +199,8 @@ module _ {F D : Type 0} (told : D → Option Image) (faults : D → ℕ) (core :
       (begins_at made mine stored (Some flight) flies lacks refl (stays_at core made caller mine stored refl refl refl refl) flight flies refl lacks refl (keeps_log core made refl refl (marks_none core.journal.trail core.journal.trail refl)) refl)
 
   -- the call is inside already
-  stays_inside : (ticket : Ticket) → core.stage ≡ stage.Running → LacksEntry mine.flight → HasTicketNow core.incarnation mine.flight ticket → EntersInside (sight_of core) (sight_of core) caller given ticket
-  stays_inside ticket running lacks now =
+  stays_inside : (ticket : Ticket) → core.stage ≡ stage.Running → LacksEntry mine.flight → NeverTwice → HasTicketNow core.incarnation mine.flight ticket → EntersInside (sight_of core) (sight_of core) caller given ticket
+  stays_inside ticket running lacks never_twice now =
       let flight : Flight = now.flight in
       let flying : IsFlying caller mine.inside (runs core.stage) core.incarnation mine.answer (Some flight) = subst (IsFlying caller mine.inside (runs core.stage) core.incarnation mine.answer) now.flies (r.orderly.flying caller mine here) in
       let is : IsTicket caller flight mine.inside (runs core.stage) core.incarnation ticket = subst (HasTicket caller flight mine.inside (runs core.stage) core.incarnation) now.held flying.ticket in
@@ -216,6 +224,7 @@ module _ {F D : Type 0} (told : D → Option Image) (faults : D → ℕ) (core :
         moment = is.moment ∙ sym (ap (λ (f : Flight). f.moment) same);
         present = now.present;
         lacks = lacks_here lacks;
+        once = once_here never_twice;
         empty = λ old. absurd (never old);
         never = λ old. absurd (never old);
         fresh = λ old. absurd (never old);
@@ -240,9 +249,9 @@ module _ {F D : Type 0} (told : D → Option Image) (faults : D → ℕ) (core :
       let with_tables : Option _ → PagesState = λ t. record { blocks = []; tables = t } in
       ap with_blocks blocks ∙ ap with_tables tables
 
-  goes_inside : (new : CoreState F D) (ticket : Ticket) → core.stage ≡ stage.Running → LacksEntry mine.flight → LacksTicket core.incarnation mine.flight → GoesIn core new caller mine given ticket
+  goes_inside : (new : CoreState F D) (ticket : Ticket) → core.stage ≡ stage.Running → LacksEntry mine.flight → NeverTwice → LacksTicket core.incarnation mine.flight → GoesIn core new caller mine given ticket
       → EntersInside (sight_of core) (sight_of new) caller given ticket
-  goes_inside new ticket running lacks without anew =
+  goes_inside new ticket running lacks never_twice without anew =
       let flight : Flight = the_flight mine.flight in
       let reserved : Option ℕ = reserved_by core.tables.sessions caller given in
       let now : CallerState = goes_in (state mine.flight) flight ticket reserved in
@@ -263,6 +272,7 @@ module _ {F D : Type 0} (told : D → Option Image) (faults : D → ℕ) (core :
         moment = ap (λ (t : Ticket). t.moment) is ∙ sym (ap (λ (f : Flight). f.moment) flight_same);
         present = ap (λ (t : Ticket). t.incarnation) is;
         lacks = lacks_here lacks;
+        once = once_here never_twice;
         empty = λ old. empty;
         never = λ old. ap stales_of (own_now core made caller now refl mine here);
         fresh = λ old. ap (λ (pages : PagesState). is_fresh core.cache.stamps core.tables pages) empty;
@@ -284,8 +294,8 @@ module _ {F D : Type 0} (told : D → Option Image) (faults : D → ℕ) (core :
     subst (λ (f : Flight). BeginsFlight caller f (sight_of core) (sight_of new)) (sym flight_same) (shut_if new mine.flight refl by.0 by.2),
   )
   enters_by new (entered.Inside ticket) by = elim by.3 [
-    | inl again ↦ subst (λ (c : CoreState F D). EntersInside (sight_of core) (sight_of c) caller given ticket) (sym again.1) (stays_inside ticket by.1 by.0 again.0)
-    | inr anew ↦ goes_inside new ticket by.1 by.0 anew.0 anew.1
+    | inl again ↦ subst (λ (c : CoreState F D). EntersInside (sight_of core) (sight_of c) caller given ticket) (sym again.1) (stays_inside ticket by.1 by.0 by.2 again.0)
+    | inr anew ↦ goes_inside new ticket by.1 by.0 by.2 anew.0 anew.1
   ]
   enters_by new entered.NoMemory by = (ap (λ (c : CoreState F D). sight_of c) by.1, lacks_here by.0)
 

@@ -80,15 +80,15 @@ goes_on phase.Reopen by after are is = subst (GoOn by) (sym is) (goes_nowhere by
 goes_on phase.Resume by after are is = subst (GoOn by) (sym is) (goes_nowhere by are)
 
 -- the fault point of the step is what was counted
-counted_point : (now : Phase) (on : Stage) (kind : Kind) (by after : Option Crossings) → (now ≡ phase.Remount → on ≡ stage.Dropped) → IsPointOf now kind → CountsAt now by after
-    → (after ≡ counted_if kind by) × (((on ≡ stage.Dropped) × (kind ≡ Remount)) ⊎ (kind ≡ Replay))
-counted_point phase.Remount on kind by after dropped point is = (is ∙ ap (λ k. counted_if k by) (sym point), inl (dropped refl, point))
-counted_point (phase.Replay number) on kind by after dropped point is = (is ∙ ap (λ k. counted_if k by) (sym point), inr point)
-counted_point phase.Idle on kind by after dropped point is = absurd point
-counted_point phase.Unwind on kind by after dropped point is = absurd point
-counted_point phase.Drop on kind by after dropped point is = absurd point
-counted_point phase.Reopen on kind by after dropped point is = absurd point
-counted_point phase.Resume on kind by after dropped point is = absurd point
+counted_point : (now : Phase) (on : Stage) (kind : Kind) (by after : Option Crossings) → (now ≡ phase.Remount → on ≡ stage.Dropped) → ((number : ℕ) → now ≡ phase.Replay number → awaits_remount on ≡ false) → IsPointOf now kind → CountsAt now by after
+    → (after ≡ counted_if kind by) × (((on ≡ stage.Dropped) × (kind ≡ Remount)) ⊎ ((awaits_remount on ≡ false) × (kind ≡ Replay)))
+counted_point phase.Remount on kind by after dropped restored point is = (is ∙ ap (λ k. counted_if k by) (sym point), inl (dropped refl, point))
+counted_point (phase.Replay number) on kind by after dropped restored point is = (is ∙ ap (λ k. counted_if k by) (sym point), inr (restored number refl, point))
+counted_point phase.Idle on kind by after dropped restored point is = absurd point
+counted_point phase.Unwind on kind by after dropped restored point is = absurd point
+counted_point phase.Drop on kind by after dropped restored point is = absurd point
+counted_point phase.Reopen on kind by after dropped restored point is = absurd point
+counted_point phase.Resume on kind by after dropped restored point is = absurd point
 
 -- a step that is no fault point
 at_none : (by after : Option Crossings) → after ≡ by → IsAtNone by after
@@ -376,7 +376,7 @@ module _ {F D : Type 0} (told : D → Option Image) (faults : D → ℕ) (core :
         strikes event is waited at records point None six next tested counting = absurd (let wrong : None ≡ Some at = next in cc)
         strikes event is waited at records point (Some crossings) six next tested counting =
             let same : next_of at.kind crossings ≡ at = same_Some (next_of at.kind crossings) at next in
-            let was = counted_point (phase_now core) core.stage at.kind (Some crossings) after (λ is. remounts_at core.stage _ _ is) point counting in
+            let was = counted_point (phase_now core) core.stage at.kind (Some crossings) after (λ is. remounts_at core.stage _ _ is) (λ number is. ap awaits_remount (replays_at core.stage _ _ number is).1) point counting in
             subst (λ (o : Option Crossings). StrikesBy test (Some crossings) o (sight_of core) (sight_of new)) (sym was.0) (record {
               waits = waited;
               recovered = point_recovers core.stage _ _ at.kind point;

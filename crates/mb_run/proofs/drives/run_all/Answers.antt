@@ -19,4 +19,4 @@ pub run_by_order-requires-clause-named : goal.run_by_order-requires-clause-named
 run_by_order-requires-clause-named g c = rw c.as_slice-calls.ensures (named_below _ _ c.requires.runnable c.requires.runners)
 
 pub returns-in-Some-clause-driven : goal.returns-in-Some-clause-driven
-returns-in-Some-clause-driven g c = λ so. ordered _ _ _ _ _ _ c.requires.begun c.in-Some.is c.requires.runners.size (rw c.as_slice-calls.ensures at c.run_by_order.ensures.complete so) (c.run_by_order.ensures.config so) c.run_by_order.ensures.right (λ letters. (rw (c.as_slice-callers.ensures, c.as_slice-steps.ensures, c.as_slice-calls.ensures) at c.run_by_order.ensures.firsts so) letters (begins_firsts _ _ _ c.requires.begun)) (λ runs trail. (rw (c.as_slice-callers.ensures, c.as_slice-steps.ensures, c.as_slice-calls.ensures) at c.run_by_order.ensures.enters so) (first_calm _ _ _ _ runs trail c.requires.begun.seats c.requires.runners.each)) (rw c.as_slice-steps.ensures at c.run_by_order.ensures.seals so)
+returns-in-Some-clause-driven g c = λ so. ordered _ _ _ _ _ _ c.requires.begun c.in-Some.is c.requires.runners.size (rw c.as_slice-calls.ensures at c.run_by_order.ensures.complete so) (c.run_by_order.ensures.config so) c.run_by_order.ensures.right (λ letters. (rw (c.as_slice-callers.ensures, c.as_slice-steps.ensures, c.as_slice-calls.ensures) at c.run_by_order.ensures.firsts so) letters (begins_firsts _ _ _ c.requires.begun)) (λ runs trail. (rw (c.as_slice-callers.ensures, c.as_slice-steps.ensures, c.as_slice-calls.ensures) at c.run_by_order.ensures.enters so) (first_calm _ _ _ _ runs trail c.requires.begun.seats c.requires.runners.each)) (rw c.as_slice-steps.ensures at c.run_by_order.ensures.seals so) (rw c.as_slice-steps.ensures at c.run_by_order.ensures.asks so)

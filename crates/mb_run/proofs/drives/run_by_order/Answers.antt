@@ -1,8 +1,10 @@
-use Rattle.std.proofs.Common.{◌∙◌, arith, refl, subst, sym}
+use Rattle.std.proofs.Common.{◌∙◌, add-zero, arith, refl, subst, sym}
 use Rattle.mb_run.specs.Drives.{IsComplete}
 use Rattle.mb_run.proofs.Completing.{complete}
 use Rattle.mb_run.proofs.Letters.{order_rises}
+use Rattle.mb_run.proofs.Taking.{takes_then}
 use Rattle.mb_run.proofs.Timely.{timely_more, timely_then}
+use Rattle.mb_run.specs.Orders.{TakesAsked}
 use Rattle.mb_run.proofs.drives.run_by_order.Goals as goal
 use Rattle.mb_run.specs.Letters.{letters_of}
 use Rattle.mb_run.proofs.Calm.{enters_on}
@@ -30,6 +32,12 @@ returns-clause-seals g c = λ so.
     let one = (c.if-not-run_order.ensures.whole refl).seals in
     let two = (c.run_out.ensures.whole so).seals in
     timely_more _ _ _ _ (omega arith) (timely_then _ _ _ _ 0 one two)
+
+pub returns-clause-asks : goal.returns-clause-asks
+returns-clause-asks g c = λ so.
+    let one = (c.if-not-run_order.ensures.whole refl).takes in
+    let two = (c.run_out.ensures.whole so).takes in
+    subst (λ n. TakesAsked n (g.C.EventCore.sight c.args.core.now) (g.C.EventCore.sight c.run_out.new.core)) (add-zero _) (takes_then _ _ _ _ 0 one two)
 
 pub returns-clause-enters : goal.returns-clause-enters
 returns-clause-enters g c = λ so calm nowhere letters plain.

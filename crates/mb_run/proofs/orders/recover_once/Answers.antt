@@ -1,7 +1,8 @@
-use Rattle.std.proofs.Common.{Bool, true, false, ◌≡◌, ◌<◌, ◌∙◌, ap, sym, arith, length, slice_set}
+use Rattle.std.proofs.Common.{Bool, true, false, ◌≡◌, ◌<◌, ◌∙◌, ap, sym, refl, arith, length, slice_set}
 use Rattle.std.proofs.Math.ListN.{length-set}
 use Rattle.mb_run.proofs.Moving.{moved_whole}
 use Rattle.mb_run.proofs.Quiet.{quiet_whole}
+use Rattle.mb_run.proofs.Taking.{takes_none}
 use Rattle.mb_run.proofs.Waiting.{letter_may, open_has, open_low, open_rests, open_waits, rolled_gives_up, rolled_move}
 use Rattle.mb_run.specs.Sights.{recovers}
 use Rattle.mb_run.proofs.Starting.{open_rolls, quiet_alone}
@@ -14,7 +15,7 @@ pub returns-in_default-clause-alone : goal.returns-in_default-clause-alone
 returns-in_default-clause-alone g c = λ so. quiet_alone _ _ c.recover_alone.ensures.quiet
 
 pub returns-in_default-clause-whole : goal.returns-in_default-clause-whole
-returns-in_default-clause-whole g c = λ so. quiet_whole _ _ 0 _ _ _ c.requires.underway c.recover_alone.ensures.quiet c.recover_alone.ensures.seals c.recover_alone.ensures.right
+returns-in_default-clause-whole g c = λ so. quiet_whole _ _ 0 _ _ _ c.requires.underway c.recover_alone.ensures.quiet c.recover_alone.ensures.seals (takes_none 0 _ _ refl c.recover_alone.ensures.quiet) c.recover_alone.ensures.right
 
 pub bounds-runners-caller : goal.bounds-runners-caller
 bounds-runners-caller g c = open_low _ _ _ _ _ c.requires.underway c.in-Some.ensures

@@ -3,7 +3,7 @@ use Rattle.mb_edge.specs.Hooks.{nowhere}
 use Rattle.mb_run.specs.declared.answers.Stepped.TheVariants as stepped
 use Rattle.mb_run.proofs.Ending.{alone_keeps}
 use Rattle.mb_run.proofs.Lengthening.{no_step, one_step, stands_still}
-use Rattle.mb_run.proofs.Undue.{alone_undue}
+use Rattle.mb_run.proofs.Timely.{alone_undue}
 use Rattle.mb_run.proofs.settles.calm_step.Goals as goal
 
 pub returns-in-Idle-clause-keeps : goal.returns-in-Idle-clause-keeps

@@ -25,7 +25,7 @@ pub finish_now-requires-2-clause-there : goal.finish_now-requires-2-clause-there
 finish_now-requires-2-clause-there g c = asked_there (g.H.Hook.test c.args.hook.now) _ _ _ _ c.args.ticket.now kind.Finish c.if-is_struck.ensures.asks c.requires.there
 
 pub returns-then-is_struck-clause-tallied : goal.returns-then-is_struck-clause-tallied
-returns-then-is_struck-clause-tallied g c = finishing_struck _ _ _ _ _ c.requires.may c.args.ticket.now c.requires.inside _ _ c.if-is_struck.ensures.asks
+returns-then-is_struck-clause-tallied g c = finishing_struck _ _ _ _ _ c.requires.may c.args.ticket.now c.requires.inside _ _ c.if-is_struck.ensures.asks c.requires.there
 
 pub returns-clause-tallied : goal.returns-clause-tallied
 returns-clause-tallied g c = λ tally. (rw c.is_struck.ensures.test at c.finish_now-2.ensures.tallied) (finishing_go _ _ _ _ _ c.requires.may c.args.ticket.now c.requires.inside _ _ c.if-is_struck.ensures.asks c.requires.there tally)

@@ -4,7 +4,7 @@ use Rattle.std.proofs.Crossing.{crosses}
 use Rattle.std.specs.List.{AllByRecursion}
 use Rattle.mb_kinds.specs.Own.{own}
 use Rattle.mb_run.specs.CoreSight.{sight_of}
-use Rattle.mb_run.specs.Sights.{undue_in}
+use Rattle.mb_run.specs.Sights.{amiss_in}
 use Rattle.mb_turn.specs.Passes.{IsIdle, Known}
 use Rattle.mb_volume.specs.Parts.{stand_in}
 use Rattle.mb_volume.specs.Passing.{part_in, seen_by}
@@ -121,4 +121,4 @@ returns-clause-driven g c =
     c.each-workers.result.items c.each-workers.ensures.gives
     c.close-core.result.core (subst (AllByRecursion (λ (p : Known (Shared g.row.F.Denot g.row.D.Denot)). c.close-core.result.core.first ≡ p.value.core.core.first)) c.dismiss-passes.ensures.passes c.close-core.ensures.first)
     (subst (AllByRecursion (λ (p : Known (Shared g.row.F.Denot g.row.D.Denot)). c.close-core.result.core.config ≡ p.value.core.core.config)) c.dismiss-passes.ensures.passes c.close-core.ensures.config)
-    (subst (AllByRecursion (λ (p : Known (Shared g.row.F.Denot g.row.D.Denot)). undue_in (sight_of c.close-core.result.core) ≤ undue_in (seen_by p))) c.dismiss-passes.ensures.passes c.close-core.ensures.seals) c.in_order.ensures.orderly.bounds.some)
+    (subst (AllByRecursion (λ (p : Known (Shared g.row.F.Denot g.row.D.Denot)). amiss_in (sight_of c.close-core.result.core) ≤ amiss_in (seen_by p))) c.dismiss-passes.ensures.passes c.close-core.ensures.seals) c.in_order.ensures.orderly.bounds.some)

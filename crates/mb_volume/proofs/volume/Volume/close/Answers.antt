@@ -3,7 +3,7 @@ use Rattle.std.specs.List.{AllByRecursion}
 use mathlib.Core.List.{IsPrefix}
 use Rattle.mb_kinds.specs.Own.{own}
 use Rattle.mb_run.specs.CoreSight.{sight_of}
-use Rattle.mb_run.specs.Sights.{undue_in}
+use Rattle.mb_run.specs.Sights.{amiss_in}
 use Rattle.mb_turn.specs.Passes.{Known}
 use Rattle.mb_volume_core.specs.declared.volume_core.VolumeCore.{VolumeCore}
 use Rattle.mb_volume.specs.Parts.{stand_in}
@@ -28,5 +28,5 @@ returns-clause-stand g c =
 
 pub returns-clause-seals : goal.returns-clause-seals
 returns-clause-seals g c =
-    subst (λ (core : VolumeCore g.row.F.Denot g.row.D.Denot). AllByRecursion (λ (pass : Known (Shared g.row.F.Denot g.row.D.Denot)). undue_in (sight_of core.core) ≤ undue_in (seen_by pass)) c.args.passes.items)
+    subst (λ (core : VolumeCore g.row.F.Denot g.row.D.Denot). AllByRecursion (λ (pass : Known (Shared g.row.F.Denot g.row.D.Denot)). amiss_in (sight_of core.core) ≤ amiss_in (seen_by pass)) c.args.passes.items)
     (sym c.into_core.ensures.core) c.close.ensures.tally

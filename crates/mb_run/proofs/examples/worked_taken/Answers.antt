@@ -1,0 +1,34 @@
+use Rattle.std.proofs.Common.{◌≡◌, ℕ, zero, suc, ◌≤◌, true, false, refl, arith}
+use Rattle.mb_kinds.specs.declared.faults.Kind.TheVariants.{Enter}
+use Rattle.mb_run.specs.Examples.{entered_once, entered_twice}
+use Rattle.mb_run.specs.Runs.{is_struck_at, recoveries_of, strikes_inside}
+use Rattle.mb_run.proofs.examples.worked_taken.Goals as goal
+
+two : strikes_inside entered_twice 0 1 ≡ 2
+two = refl
+
+one : strikes_inside entered_once 0 1 ≡ 1
+one = refl
+
+struck : (nth : ℕ) → 1 ≤ nth → nth ≤ 2 → is_struck_at entered_twice 0 1 Enter nth ≡ true
+struck zero low high = absurd (omega (arith, low))
+struck (suc zero) low high = refl
+struck (suc (suc zero)) low high = refl
+struck (suc (suc (suc n))) low high = absurd (omega (arith, high))
+
+no_both : false ≡ true → ⊥
+no_both same = cc
+
+pub returns : goal.returns
+returns c = (
+  record {
+    twice = omega (arith, two);
+    enters = λ nth low high holds. struck nth low (omega (arith, high, two));
+    gathers = λ nth low high holds. absurd (omega (arith, low, high));
+    finishes = λ nth low high holds. absurd (omega (arith, low, high));
+    leaves = λ nth low high holds. absurd (omega (arith, low, high));
+    remounts = λ nth low high holds. absurd (no_both holds);
+  },
+  (λ takes. no_both (takes.enters 2 (omega arith) (omega (arith, one)) refl)),
+  (λ takes. let many = takes.twice in omega (arith, many, two)),
+)
