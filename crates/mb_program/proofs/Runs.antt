@@ -28,7 +28,7 @@ use Rattle.mb_run.specs.Settling.{IsCutShort, IsSettled, KeepsHistory, SealsAtEn
 use Rattle.mb_run.specs.Sights.{IsOrderlyInSight}
 use Rattle.mb_volume_core.proofs.Origins.{origin_of}
 use Rattle.mb_volume_core.specs.declared.volume_core.Origin.{Origin}
-use Rattle.mb_program.specs.Held.{HoldsCore, held_disk}
+use Rattle.mb_program.specs.Held.{HoldsCore, IsOver, KeepsImage, held_disk}
 use Rattle.mb_program.specs.declared.finish.Held.{Held}
 use Rattle.mb_program.specs.declared.finish.Held.TheVariants as held
 use Rattle.mb_program.specs.declared.manners.Manner.{Manner}
@@ -42,7 +42,7 @@ comes_done : {D : Type 0} (told : D → Option Image) (faults : D → ℕ) (mann
 comes_done told faults manner job disk core outcome run order all left said =
     elim said [
       | inl is ↦ subst (ComesOfCore told faults manner job disk core) (sym is) (record { run = run; order = order; done = all; left = left; printed = refl })
-      | inr none ↦ subst (ComesOfCore told faults manner job disk core) (sym none) tt
+      | inr none ↦ subst (ComesOfCore told faults manner job disk core) (sym none) (run.first, run.right)
     ]
 
 comes_given_up : {D : Type 0} (told : D → Option Image) (faults : D → ℕ) (manner : Manner) (job : Job) (disk : D) (core : CoreState V7 D) (outcome : Outcome)
@@ -50,7 +50,7 @@ comes_given_up : {D : Type 0} (told : D → Option Image) (faults : D → ℕ) (
 comes_given_up told faults manner job disk core outcome run order failed left said =
     elim said [
       | inl is ↦ subst (ComesOfCore told faults manner job disk core) (sym is) (record { run = run; order = order; given_up = failed; left = left; printed = refl })
-      | inr none ↦ subst (ComesOfCore told faults manner job disk core) (sym none) tt
+      | inr none ↦ subst (ComesOfCore told faults manner job disk core) (sym none) (run.first, run.right)
     ]
 
 abbrev is_failed : Stage → Type 0
@@ -76,7 +76,7 @@ pub unsettled : {D : Type 0} (told : D → Option Image) (faults : D → ℕ) (m
 unsettled told faults manner job disk core outcome run order fewer rose cut said =
     elim said [
       | inl is ↦ subst (ComesOfCore told faults manner job disk core) (sym is) (record { run = run; order = order; fewer = fewer; rose = rose; cut = cut; printed = refl })
-      | inr none ↦ subst (ComesOfCore told faults manner job disk core) (sym none) tt
+      | inr none ↦ subst (ComesOfCore told faults manner job disk core) (sym none) (run.first, run.right)
     ]
 
 -- ---- the path of a run
@@ -191,13 +191,18 @@ pub nobody : {D : Type 0} (given : Held D) → HoldsCore given (λ (core : CoreS
 nobody (held.Disk disk) is = is
 nobody (held.Core core) is = is
 
+-- a core that keeps the image
+pub core_keeps : {D : Type 0} (told : D → Option Image) (faults : D → ℕ) (disk : D) (given : Held D) → HoldsCore given (IsOver told faults disk) → KeepsImage told faults disk given
+core_keeps told faults disk (held.Disk back) is = absurd is
+core_keeps told faults disk (held.Core core) is = is
+
 pub of_core : {D : Type 0} (told : D → Option Image) (faults : D → ℕ) (manner : Manner) (job : Job) (disk : D) (given : Held D) (outcome : Outcome)
     → TellsVolume (told disk) → HoldsCore given (λ core. ComesOfCore told faults manner job disk core outcome) → ComesOfJob told faults manner job disk given outcome
 of_core told faults manner job disk given WordsRefused volume is = (volume, is)
 of_core told faults manner job disk given InputFault volume is = (volume, is)
 of_core told faults manner job disk given (JobRefused line) volume is = (volume, is)
 of_core told faults manner job disk given DiskFault volume is = absurd (nobody given is)
-of_core told faults manner job disk given OutOfMemory volume is = tt
+of_core told faults manner job disk given OutOfMemory volume is = core_keeps told faults disk given is
 of_core told faults manner job disk given (Made line) volume is = (volume, is)
 of_core told faults manner job disk given (Checked line) volume is = (volume, is)
 of_core told faults manner job disk given (Unsound line) volume is = absurd (nobody given is)

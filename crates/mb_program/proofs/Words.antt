@@ -7,7 +7,7 @@ use Rattle.mb_commands.specs.declared.commands.Command.{Command}
 use Rattle.mb_commands.specs.declared.commands.Command.TheVariants.{Check, Mkfs, Run, Soak}
 use Rattle.mb_kinds.specs.Image.{Image}
 use Rattle.mb_program.proofs.Runs.{nobody}
-use Rattle.mb_program.specs.Outcomes.{ComesOfCommand, ComesOfRunWords, IsJobRun, OfBytes}
+use Rattle.mb_program.specs.Outcomes.{ComesOfCommand, ComesOfRunWords, IsJobRun, OfBytes, reads_job}
 use Rattle.mb_program.specs.declared.finish.Held.{Held}
 use Rattle.mb_program.specs.declared.manners.Manner.{Manner}
 use Rattle.mb_program.specs.declared.manners.Manner.TheVariants as manners
@@ -20,7 +20,7 @@ of_job told faults manner left disk given WordsRefused is = absurd (nobody given
 of_job told faults manner left disk given InputFault is = absurd (nobody given is.fact.over.1)
 of_job told faults manner left disk given (JobRefused line) is = absurd (nobody given is.fact.over.1)
 of_job told faults manner left disk given DiskFault is = is
-of_job told faults manner left disk given OutOfMemory is = tt
+of_job told faults manner left disk given OutOfMemory is = is.fact.over
 of_job told faults manner left disk given (Made line) is = absurd (nobody given is.fact.over.1)
 of_job told faults manner left disk given (Checked line) is = absurd (nobody given is.fact.over.1)
 of_job told faults manner left disk given (Unsound line) is = is
@@ -30,6 +30,14 @@ of_job told faults manner left disk given (Ran text) is = is
 
 no_threads : false ≡ true → ⊥
 no_threads asked = cc
+
+-- a command that asks for threads reads a job
+pub threads_read : (command : Option Command) → is_threaded command ≡ true → reads_job command ≡ false → ⊥
+threads_read None asked unread = no_threads asked
+threads_read (Some (Mkfs blocks inodes)) asked unread = no_threads asked
+threads_read (Some Check) asked unread = no_threads asked
+threads_read (Some (Run threads)) asked unread = no_threads (sym unread)
+threads_read (Some (Soak number calls faulty)) asked unread = no_threads asked
 
 -- words that ask for threads are a `run`
 pub of_threads : {D : Type 0} (told : D → Option Image) (faults : D → ℕ) (command : Option Command) (left : Option (List ℕ)) (disk : D) (given : Held D) (outcome : Outcome)

@@ -30,7 +30,7 @@ use Rattle.mb_run.specs.CoreSight.{sight_of}
 use Rattle.mb_run.specs.Drives.{IsDrivenApart}
 use Rattle.mb_run.specs.Orders.{asked_by}
 use Rattle.mb_run.specs.Settling.{IsCutShort}
-use Rattle.mb_program.specs.Held.{HoldsCore, HoldsDisk, IsGivenBack, held_disk}
+use Rattle.mb_program.specs.Held.{HoldsCore, HoldsDisk, IsGivenBack, IsOver, IsUntouched, KeepsImage, held_disk}
 use Rattle.mb_program.specs.declared.finish.Held.{Held}
 use Rattle.mb_program.specs.declared.manners.Manner.{Manner}
 use Rattle.mb_program.specs.declared.manners.Manner.TheVariants as manners
@@ -122,12 +122,12 @@ pub record IsRunShort {D : Type 0} (told : D → Option Image) (faults : D → �
   pub cut : IsCutShort (sight_of core)
   pub printed : text ≡ unsettled_text manner job core
 
--- what comes of a core that was begun over a disk for a job, by the core at the end
+-- what comes of a core that was begun over a disk for a job, by the core at the end; for want of memory it is still in order
 abbrev pub ComesOfCore : {D : Type 0} → (D → Option Image) → (D → ℕ) → Manner → Job → D → CoreState V7 D → Outcome → Type 0
 ComesOfCore told faults manner job disk core (Ran text) = IsRunToEnd told faults manner job disk text core
 ComesOfCore told faults manner job disk core (GivenUp text) = IsRunToFailure told faults manner job disk text core
 ComesOfCore told faults manner job disk core (Unsettled text) = IsRunShort told faults manner job disk text core
-ComesOfCore told faults manner job disk core OutOfMemory = Unit {0}
+ComesOfCore told faults manner job disk core OutOfMemory = IsOver told faults disk core
 ComesOfCore told faults manner job disk core _ = ⊥
 
 -- a core that a driver left of one that was begun over a disk for a job, at its end but for want of memory: each caller's calls
@@ -160,11 +160,12 @@ IsFaulty told faults disk held = IsGivenBack told disk held × Rose (faults disk
 abbrev pub IsDrivenTo : {D : Type 0} → (D → Option Image) → (D → ℕ) → Manner → Job → D → Held D → Outcome → Type 0
 IsDrivenTo told faults manner job disk held outcome = TellsVolume (told disk) × HoldsCore held (λ core. ComesOfCore told faults manner job disk core outcome)
 
--- what comes of a job that is to be run: the image is refused, or the disk fails, or the job is run
+-- what comes of a job that is to be run: the image is refused, or the disk fails, or the job is run; for want of memory the image is
+-- kept, or a core that keeps it
 abbrev pub ComesOfJob : {D : Type 0} → (D → Option Image) → (D → ℕ) → Manner → Job → D → Held D → Outcome → Type 0
 ComesOfJob told faults manner job disk held (Unsound line) = IsGivenBack told disk held × IsUnsoundBy (told disk) line
 ComesOfJob told faults manner job disk held DiskFault = IsFaulty told faults disk held
-ComesOfJob told faults manner job disk held OutOfMemory = Unit {0}
+ComesOfJob told faults manner job disk held OutOfMemory = KeepsImage told faults disk held
 ComesOfJob told faults manner job disk held outcome = IsDrivenTo told faults manner job disk held outcome
 
 -- a text of a run is this one, or there was no memory
@@ -209,17 +210,17 @@ abbrev pub ComesOfRunWords : {D : Type 0} → (D → Option Image) → (D → �
 ComesOfRunWords told faults manner left disk held WordsRefused = ⊥
 ComesOfRunWords told faults manner left disk held (Made line) = ⊥
 ComesOfRunWords told faults manner left disk held (Checked line) = ⊥
-ComesOfRunWords told faults manner left disk held InputFault = IsGivenBack told disk held
-ComesOfRunWords told faults manner left disk held OutOfMemory = Unit {0}
-ComesOfRunWords told faults manner left disk held (JobRefused line) = IsGivenBack told disk held × OfBytes left (λ bytes. SaysWhy (job_in bytes) line)
+ComesOfRunWords told faults manner left disk held InputFault = IsUntouched disk held
+ComesOfRunWords told faults manner left disk held OutOfMemory = KeepsImage told faults disk held
+ComesOfRunWords told faults manner left disk held (JobRefused line) = IsUntouched disk held × OfBytes left (λ bytes. SaysWhy (job_in bytes) line)
 ComesOfRunWords told faults manner left disk held outcome = OfBytes left (λ bytes. IsJobRun told faults manner bytes disk held outcome)
 
 -- ---- the other commands
 
--- what comes of a `mkfs`: the words are refused where no volume has these sizes, and then the disk is as it was
+-- what comes of a `mkfs`: the words are refused where no volume has these sizes, and then the disk was not asked
 abbrev pub ComesOfMkfs : {D : Type 0} → (D → Option Image) → (D → ℕ) → D → ℕ → ℕ → Held D → Outcome → Type 0
 ComesOfMkfs told faults disk blocks inodes held (Made line) = HoldsDisk held (λ new. HasMade (told disk) (told new) blocks inodes line)
-ComesOfMkfs told faults disk blocks inodes held WordsRefused = (AreSizes blocks inodes → ⊥) × IsGivenBack told disk held
+ComesOfMkfs told faults disk blocks inodes held WordsRefused = (AreSizes blocks inodes → ⊥) × IsUntouched disk held
 ComesOfMkfs told faults disk blocks inodes held DiskFault = AreSizes blocks inodes × HoldsDisk held (λ new. Rose (faults disk) (faults new))
 ComesOfMkfs told faults disk blocks inodes held OutOfMemory = AreSizes blocks inodes × HoldsDisk held (λ new. Unit {0})
 ComesOfMkfs told faults disk blocks inodes held _ = ⊥
@@ -254,6 +255,11 @@ IsToldAs (Err fault) outcome = IsRefusedAs fault outcome
 
 -- ---- the whole
 
+-- whether a command reads a job
+abbrev pub reads_job : Option Command → Bool
+reads_job (Some (Run threads)) = true
+reads_job _ = false
+
 -- how the callers of a `run` are run
 abbrev pub manner_of : Bool → Manner
 manner_of true = manners.Threads
@@ -261,7 +267,7 @@ manner_of false = manners.Alone
 
 -- what comes of a command, or of words that are none; a `soak` runs the job of its numbers
 abbrev pub ComesOfCommand : {D : Type 0} → (D → Option Image) → (D → ℕ) → Option Command → Option (List ℕ) → D → Held D → Outcome → Type 0
-ComesOfCommand told faults None left disk held outcome = (outcome ≡ WordsRefused) × IsGivenBack told disk held
+ComesOfCommand told faults None left disk held outcome = (outcome ≡ WordsRefused) × IsUntouched disk held
 ComesOfCommand told faults (Some (Mkfs blocks inodes)) left disk held outcome = ComesOfMkfs told faults disk blocks inodes held outcome
 ComesOfCommand told faults (Some Check) left disk held outcome = ComesOfCheck told faults disk held outcome
 ComesOfCommand told faults (Some (Run threads)) left disk held outcome = ComesOfRunWords told faults (manner_of threads) left disk held outcome
@@ -277,11 +283,11 @@ IsDiskFailure DiskFault = Unit {0}
 IsDiskFailure (Unsettled text) = Unit {0}
 IsDiskFailure _ = ⊥
 
--- the program printed its text and ended with its status, or the output failed after a front of the text; want of memory stays so
+-- the program printed a front of its text and ended with its status, all of it but where the output failed; want of memory stays so
 pub record IsPrinted (outcome : Outcome) (old new : Option (List ℕ)) (status : ℕ) : Type 0 where
   pub ended : (status ≡ status_of outcome) ⊎ ((status ≡ 7) × (outcome ≢ OutOfMemory))
   pub whole : status ≢ 7 → outcome ≢ OutOfMemory → Appends old new (text_of outcome)
-  pub front : status ≡ 7 → TakesFront old new (text_of outcome)
+  pub front : TakesFront old new (text_of outcome)
 
 -- how the program ended
 pub record HasEnded {D : Type 0} (told : D → Option Image) (faults : D → ℕ) (words : List (List ℕ)) (left : Option (List ℕ)) (disk : D) (held : Held D) (old new : Option (List ℕ)) (status : ℕ) : Type 0 where

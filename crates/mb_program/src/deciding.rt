@@ -7,7 +7,7 @@ ghost use Rattle.mb_jobs.specs.declared.jobs.Job.{Job};
 ghost use Rattle.mb_jobs.specs.declared.jobs.JobFault.{JobFault};
 ghost use Rattle.mb_program.specs.Held.{held_disk};
 ghost use Rattle.mb_program.specs.declared.manners.Manner.TheVariants as manners;
-ghost use Rattle.mb_program.specs.Outcomes.{ComesOfCheck, ComesOfJob, ComesOfMkfs, ComesOfRunWords, IsDiskFailure, IsJobRefused, IsOutcome, IsRefusal, IsRefusedAs, IsToldAs, OfBytes};
+ghost use Rattle.mb_program.specs.Outcomes.{ComesOfCheck, ComesOfJob, ComesOfMkfs, ComesOfRunWords, IsDiskFailure, IsJobRefused, IsOutcome, IsRefusal, IsRefusedAs, IsToldAs, OfBytes, reads_job};
 
 use crate::finish::Held;
 use crate::manners::Manner;
@@ -35,6 +35,7 @@ pub struct Decided<D: Disk> {
 pub fn decide<S: Source, D: Disk>(alloc: Global, words: &Words, job: &mut S, disk: D) -> Decided<D>
     requires { is_threaded (command_of words.now) ≡ false }
     ensures outcome { IsOutcome D.told D.faults words.now (S.left job.old) disk result.held result.outcome }
+    ensures unread { reads_job (command_of words.now) ≡ false → job.new ≡ job.old }
     ensures input { result.outcome ≡ Outcome.InputFault → Rose (S.faults job.old) (S.faults job.new) }
     ensures device { IsDiskFailure result.outcome → Rose (D.faults disk) (D.faults (held_disk result.held)) }
     ensures later { D.faults disk ≤ D.faults (held_disk result.held) }

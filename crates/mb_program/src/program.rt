@@ -2,7 +2,7 @@ ghost use Rattle.std.specs.Prelude.{◌≡◌, ◌≤◌, false};
 ghost use Rattle.mb_commands.specs.Words.{command_of, is_threaded};
 ghost use Rattle.mb_edge.specs.Causes.{Rose};
 ghost use Rattle.mb_program.specs.Held.{held_disk};
-ghost use Rattle.mb_program.specs.Outcomes.{HasEnded, IsPrinted, status_of, text_of};
+ghost use Rattle.mb_program.specs.Outcomes.{HasEnded, IsPrinted, reads_job, status_of, text_of};
 
 use crate::deciding::{Decided, decide, decide_by_threads};
 use crate::finish::Finish;
@@ -25,8 +25,8 @@ use std::thread::Threads;
 /// `check`, or in the end of the run; 6 want of memory; 7 the output failed; 8 the input failed. `specs/Outcomes.antt`
 /// says when each comes.
 ///
-/// With `--threads` a caller may wait for another, so the promise is kept if the call returns. All else is
-/// `membrane_alone`, which always returns.
+/// Only a `run` reads from the source. With `--threads` a caller may wait for another, so the promise is kept if the call
+/// returns. All else is `membrane_alone`, which always returns.
 pub fn membrane<S: Source, D: Disk + Send, K: Sink, R: Threads + Wait + Sync>(
     rt: &R,
     alloc: Global,
@@ -36,6 +36,7 @@ pub fn membrane<S: Source, D: Disk + Send, K: Sink, R: Threads + Wait + Sync>(
     out: &mut K,
 ) -> Finish<D>
     ensures ended { HasEnded D.told D.faults words.now (S.left job.old) disk result.held (K.taken out.old) (K.taken out.new) result.status }
+    ensures unread { reads_job (command_of words.now) ≡ false → job.new ≡ job.old }
     ensures input { result.status ≡ 8 → Rose (S.faults job.old) (S.faults job.new) }
     ensures device { result.status ≡ 5 → Rose (D.faults disk) (D.faults (held_disk result.held)) }
     ensures output { result.status ≡ 7 → Rose (K.faults out.old) (K.faults out.new) }
@@ -59,6 +60,7 @@ pub fn membrane_alone<S: Source, D: Disk, K: Sink>(
 ) -> Finish<D>
     requires { is_threaded (command_of words.now) ≡ false }
     ensures ended { HasEnded D.told D.faults words.now (S.left job.old) disk result.held (K.taken out.old) (K.taken out.new) result.status }
+    ensures unread { reads_job (command_of words.now) ≡ false → job.new ≡ job.old }
     ensures input { result.status ≡ 8 → Rose (S.faults job.old) (S.faults job.new) }
     ensures device { result.status ≡ 5 → Rose (D.faults disk) (D.faults (held_disk result.held)) }
     ensures output { result.status ≡ 7 → Rose (K.faults out.old) (K.faults out.new) }

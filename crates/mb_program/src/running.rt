@@ -111,6 +111,7 @@ fn run_begun_by_threads<D: Disk + Send, R: Threads + Wait + Sync>(
         ComesOfCore D.told D.faults manners.Threads job.now disk held result.outcome) }
     ensures later { D.faults core.first ≤ D.faults (held_disk result.held) }
 {
+    in_order(&core);
     let core = VolumeCore { core };
     let Ok(hooks) = injectors_for(alloc, job) else {
         return held(core, Outcome::OutOfMemory);
@@ -130,7 +131,7 @@ fn end_run<D: Disk>(
 ) -> Decided<D>
     requires fit { IsFitJob job.now }
     requires right { IsOrderlyInSight (sight_of core.core) }
-    ensures core { (disk : D) (fs : V7)
+    ensures core { (disk : D) (fs : V7) → D.told core.core.first ≡ D.told disk
         → (end ≢ DriveEnd.NoMemory → IsDrivenFor D.told D.faults manner fs job.now disk core.core)
         → HoldsCore result.held (λ held.
         ComesOfCore D.told D.faults manner job.now disk held result.outcome) }

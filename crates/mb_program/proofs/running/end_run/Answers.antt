@@ -5,7 +5,7 @@ use Rattle.mb_program.proofs.Runs.{comes_settled, comes_unsettled, holds}
 use Rattle.mb_program.proofs.running.end_run.Goals as goal
 
 pub returns-in-Clean-clause-core : goal.returns-in-Clean-clause-core
-returns-in-Clean-clause-core g c = λ disk fs driven.
+returns-in-Clean-clause-core g c = λ disk fs tells driven.
     let going : c.args.end ≢ end.NoMemory = λ same. (let clash : false ≡ true = rw same at c.if-eq.ensures in cc) in
     holds g.D.Disk.told g.D.Disk.faults c.args.manner c.args.job.now disk c.settle-core.result.core.core c.held-in-Clean.result.held c.ended-outcome.result c.held-in-Clean.result.outcome c.held-in-Clean.ensures.held c.held-in-Clean.ensures.outcome
     (comes_settled g.D.Disk.told g.D.Disk.faults c.args.manner c.args.job.now disk fs c.args.core.core c.settle-core.result.core.core (driven going) c.settle-core.ensures.origin c.settle-core.ensures.keeps
@@ -13,7 +13,7 @@ returns-in-Clean-clause-core g c = λ disk fs driven.
     c.ended-outcome.result c.paths_are_runs.ensures c.paths_end.ensures c.requires.fit (c.settle-core.ensures.settled c.in-Clean.is) c.ended-outcome.ensures.failed c.ended-outcome.ensures.runs)
 
 pub returns-in-Device-clause-core : goal.returns-in-Device-clause-core
-returns-in-Device-clause-core g c = λ disk fs driven.
+returns-in-Device-clause-core g c = λ disk fs tells driven.
     let going : c.args.end ≢ end.NoMemory = λ same. (let clash : false ≡ true = rw same at c.if-eq.ensures in cc) in
     holds g.D.Disk.told g.D.Disk.faults c.args.manner c.args.job.now disk c.settle-core.result.core.core c.held-in-Device.result.held c.unsettled-outcome.result c.held-in-Device.result.outcome c.held-in-Device.ensures.held c.held-in-Device.ensures.outcome
     (comes_unsettled g.D.Disk.told g.D.Disk.faults c.args.manner c.args.job.now disk fs c.args.core.core c.settle-core.result.core.core (driven going) c.settle-core.ensures.origin c.settle-core.ensures.keeps
