@@ -140,6 +140,7 @@ driven_apart job test old new drives = record {
   begun = drives.begun;
   moments = drives.moments;
   sound = sound_by_all test new.records drives.sound;
+  once = drives.once;
   seals = drives.seals.undue;
   prompt = drives.seals.prompt;
 }

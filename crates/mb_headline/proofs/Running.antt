@@ -5,6 +5,7 @@ use Rattle.std.specs.List.{AllByRecursion}
 use Rattle.mb_core_order.proofs.Readings.{in_places}
 use Rattle.mb_core_spec.specs.Callers.{total}
 use Rattle.mb_core_spec.specs.Faults.{FewDevices, MayNumber, Says}
+use Rattle.mb_core_spec.specs.Numbers.{IsEntry}
 use Rattle.mb_core_spec.specs.State.{CallerState, CoreState}
 use Rattle.mb_core_spec.specs.declared.stages.Stage.{Stage}
 use Rattle.mb_jobs.specs.declared.jobs.Caller.{Caller}
@@ -20,9 +21,9 @@ use Rattle.mb_run.specs.CoreSight.{seat_of, sight_of}
 use Rattle.mb_run.specs.Drives.{HasEachMoment}
 use Rattle.mb_run.specs.Sights.{Seat, omitted_in, undue_in}
 use Rattle.mb_run.specs.Recovering.{crossing_of}
-use Rattle.mb_run.specs.Runs.{AreDistinct, AnswersFailed, HasRecords, NamesTwo}
+use Rattle.mb_run.specs.Runs.{AreDistinct, AnswersFailed, HasRecords, IsStruckOnceIfPlain, NamesTwo}
 use Rattle.mb_run.specs.Seals.{AreAskedFor, AreInTime, omitted}
-use Rattle.mb_run.specs.Served.{AreApart, AreSoundBy, IsApart, calls_in}
+use Rattle.mb_run.specs.Served.{AreApart, AreSoundBy, AreStruckOnce, IsApart, calls_in}
 use Rattle.mb_tree.specs.History.{Legal}
 use Rattle.mb_tree.specs.Opening.{opening}
 use Rattle.mb_tree.specs.declared.trees.Tree.{Tree}
@@ -107,6 +108,14 @@ same_begun (mine ∷ now) (one ∷ old) each =
     let rest = same_begun now old (λ caller. each (suc caller)) in
     omega (arith, first, rest)
 
+-- each entry is of a declared caller
+of_declared : (records : List FaultRecord) (start bound callers named : ℕ) (history : List Entry) → callers ≡ named → AllByRecursion (IsEntry start bound callers) history → AreStruckOnce named history records → AllByRecursion (IsStruckOnceIfPlain records) history
+of_declared records start bound callers named [] same are once = tt
+of_declared records start bound callers named (entry ∷ history) same are once = (
+  let low = are.0.caller in once.0 (omega (arith, low, same)),
+  of_declared records start bound callers named history same are.1 once.1,
+)
+
 -- ---- the path
 
 module _ {F D : Type 0} (fs : F) (told : D → Option Image) (faults : D → ℕ) (asked : ℕ) (job : Job) (disk : D) (begun driven ended : CoreState F D) (path : IsPath fs told faults asked job disk begun driven ended) where
@@ -150,6 +159,13 @@ module _ {F D : Type 0} (fs : F) (told : D → Option Image) (faults : D → ℕ
   path_sound : AreSoundBy (λ (caller : ℕ). Some (fires job.plan)) ended.journal.records
   path_sound = subst (AreSoundBy (λ (caller : ℕ). Some (fires job.plan))) (sym path_records) path.drives.sound
 
+  -- a call that was struck twice before it had its entry has no plain reply
+  path_once : AllByRecursion (IsStruckOnceIfPlain ended.journal.records) ended.journal.history
+  path_once =
+      let declared : length ended.config.callers ≡ length job.callers = ap length path_config.callers ∙ length-map job.callers (λ (one : Caller). one.cred) in
+      of_declared ended.journal.records _ _ (length ended.config.callers) (length job.callers) ended.journal.history declared path.right.orderly.numbered.entries
+      (rw (path_history, path_records) path.drives.once)
+
   path_says : AllByRecursion (λ (entry : Entry). Says ended.journal.records job.limit ended.stage entry.caller entry.ordinal entry.reply) ended.journal.history
   path_says = subst (λ n. AllByRecursion (λ (entry : Entry). Says ended.journal.records n ended.stage entry.caller entry.ordinal entry.reply) ended.journal.history) path_config.limit path.right.orderly.numbered.says
 
@@ -161,6 +177,7 @@ module _ {F D : Type 0} (fs : F) (told : D → Option Image) (faults : D → ℕ
     planned = path_sound.holds;
     distinct = distinct job.plan ended.journal.records early path_sound.holds path_sound.apart;
     twice = all_twice ended.journal.records job.limit ended.stage ended.journal.history path_says;
+    once = path_once;
   }
 
   path_devices : FewDevices (faults disk) (faults ended.cache.disk) ended.journal.history

@@ -53,6 +53,7 @@ by_plan job asked tests count old new same low drives = record {
   begun = drives.begun;
   moments = drives.moments;
   sound = record { holds = holds_by_plan tests (Some (fires job.plan)) count new.records same low drives.sound.holds; apart = drives.sound.apart };
+  once = drives.once;
   seals = drives.seals;
   prompt = drives.prompt;
 }

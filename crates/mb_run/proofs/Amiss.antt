@@ -1,5 +1,5 @@
 -- No event takes a checkpoint but where one is due, and none leaves one out behind a sync(2).
-use Rattle.std.proofs.Common.{◌≡◌, inl, inr, [], ◌∷◌, ◌++◌, ℕ, ◌+◌, ◌≤◌, false, None, ap, arith}
+use Rattle.std.proofs.Common.{◌≡◌, inl, inr, [], ◌∷◌, ◌++◌, ℕ, ◌≤◌, false, None, ap, arith}
 use Rattle.mb_core_spec.specs.Copies.{PagesState}
 use Rattle.mb_core_state.specs.declared.answers.Fault.{Fault}
 use Rattle.mb_core_state.specs.declared.answers.Fault.TheVariants as fault

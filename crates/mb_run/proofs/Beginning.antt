@@ -12,7 +12,7 @@ use Rattle.mb_run.specs.Drives.{EntersByOrder, EntersCalmly, TakesByOrder, AreNe
 use Rattle.mb_run.specs.Firsts.{HasFirst}
 use Rattle.mb_run.specs.Letters.{AreLetters, HasBegunBy, letters_of}
 use Rattle.mb_run.specs.Runs.{FirstsRise, HasTakenFaults}
-use Rattle.mb_run.specs.Served.{AreSixCounts, IsAfter, IsRunInOrder, IsServedSoFar, AllUnderWay, calls_of, moments_in}
+use Rattle.mb_run.specs.Served.{AreSixCounts, AreStruckOnce, IsAfter, IsRunInOrder, IsServedSoFar, AllUnderWay, calls_of, moments_in}
 use Rattle.mb_run.specs.Orders.{TakesAsked, asked_by, asked_in}
 use Rattle.mb_run.specs.Timely.{IsTimely}
 use Rattle.mb_run.specs.Sights.{IsOrderlyInSight, Limits, Seat, Sight}
@@ -29,6 +29,8 @@ first_served job sight caller begun = record {
   stands = rw (begun.seats caller) tt;
   marked = rw (begun.seats caller) refl;
   counted = rw begun.records tt;
+  past = rw begun.history tt;
+  once = tt;
 }
 
 pub begins_underway : (job : Job) (test : Option (Crossing → Bool)) (sight : Sight) (runners : List Runner) → IsRunnable job → IsBegun job sight → AreNew runners (length job.callers) → AllUnderWay job.calls test sight runners
@@ -96,6 +98,7 @@ listed job test old new callers begun none same ran config right taken seals =
       firsts = subst (λ order. RisesByOrder order job.callers new.history) (sym none) tt;
       enters = λ runs trail. subst (λ order. EntersByOrder order job.callers job.calls test new) (sym none) tt;
       sound = ran.sound;
+      once = subst (λ n. AreStruckOnce n new.history new.records) same ran.once;
       taken = λ runs. subst (λ order. TakesByOrder order test new) (sym none) (taken runs);
       seals = subst (λ order. IsTimely (asked_by order) old new) (sym none) seals;
       asks = subst (λ order. SealsByOrder order old new) (sym none) tt;
@@ -116,6 +119,7 @@ ordered job test old new callers order begun some same done config right rises e
       firsts = subst (λ given. RisesByOrder given job.callers new.history) (sym some) rises;
       enters = λ runs trail. subst (λ given. EntersByOrder given job.callers job.calls test new) (sym some) (enters runs trail);
       sound = done.sound;
+      once = subst (λ n. AreStruckOnce n new.history new.records) same done.once;
       taken = λ runs. subst (λ given. TakesByOrder given test new) (sym some) tt;
       seals = subst (λ given. IsTimely (asked_by given) old new) (sym some) seals;
       asks = subst (λ given. SealsByOrder given old new) (sym some) asks;

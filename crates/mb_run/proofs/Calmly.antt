@@ -25,6 +25,7 @@ use Rattle.mb_run.specs.declared.runner.At.{At}
 use Rattle.mb_run.specs.declared.runner.At.TheVariants as at
 use Rattle.mb_run.specs.declared.runner.Runner.{Runner}
 use Rattle.mb_run.proofs.Inside.{has_ticket}
+use Rattle.mb_run.proofs.Once.{unplain_is}
 use Rattle.mb_run.proofs.Rolling.{not_running}
 
 -- ---- entries
@@ -47,13 +48,7 @@ pub plain_before : (old new : Sight) (entries : List Entry) → new.history ≡ 
 plain_before old new entries grown plain = plain_front old.history entries (subst AreAllPlain grown plain)
 
 never_plain : (answer : Reply) → IsUnplain answer → is_plain answer ≡ true → ⊥
-never_plain (reply.Restart first second) unplain plain = no_both (sym plain)
-never_plain reply.Device unplain plain = no_both (sym plain)
-never_plain (reply.Failed faults) unplain plain = no_both (sym plain)
-never_plain (reply.Num n) unplain plain = absurd unplain
-never_plain (reply.Got bytes) unplain plain = absurd unplain
-never_plain (reply.Info stat) unplain plain = absurd unplain
-never_plain (reply.Refused error) unplain plain = absurd unplain
+never_plain answer unplain plain = no_both (sym plain ∙ unplain_is answer unplain)
 
 -- a call that was given up has an entry that is not plain
 answers_unplain : (caller : ℕ) (flight : Flight) (answer : Reply) (old new : Sight) → Answers caller flight answer old new → IsUnplain answer → AreAllPlain new.history → ⊥

@@ -16,7 +16,8 @@ use Rattle.mb_core_spec.specs.Copies.{PagesState, no_pages}
 use Rattle.mb_run.specs.Pages.{has}
 use Rattle.mb_run.specs.Events.{Answers, BeginsFlight, EntersInSight, EntersInside, EndsFlight, entry_of}
 use Rattle.mb_run.specs.Firsts.{KeepsFirsts}
-use Rattle.mb_run.specs.Served.{ActsAlone, AreSixCounts, Did, AsksAtEntry, IsAtBy, IsCounted, InLine, IsBalanced, IsStanding, LineBy, MayStep, Nears, advanced, busy, calls_in, calls_of, missing, rank, work}
+use Rattle.mb_run.specs.Runs.{is_plain}
+use Rattle.mb_run.specs.Served.{ActsAlone, AreSixCounts, Did, AsksAtEntry, IsAtBy, IsCounted, InLine, IsBalanced, IsPastOnce, IsStanding, LineBy, MayStep, Nears, advanced, busy, calls_in, calls_of, missing, rank, work}
 use Rattle.mb_run.specs.Sights.{IsOld, IsOrderlyInSight, Limits, Seat, Sight, flight_of, one_if, recovers}
 use Rattle.mb_run.specs.declared.runner.At.{At}
 use Rattle.mb_run.specs.declared.runner.At.TheVariants as at
@@ -30,10 +31,12 @@ use Rattle.mb_run.proofs.Balance.{balanced_answers, balanced_begins, balanced_sa
 use Rattle.mb_run.proofs.Firsts.{CameFrom, came_from, counted_from, firsts_answers, firsts_begins, firsts_leaves}
 use Rattle.mb_run.proofs.Lines.{line_enters, line_leaves}
 use Rattle.mb_run.proofs.Openings.{line_answers, line_made}
-use Rattle.mb_run.proofs.Lists.{all_map, calls_push}
+use Rattle.mb_run.proofs.Lists.{all_both, all_map, calls_push}
 use Rattle.mb_run.proofs.Missing.{missing_most}
+use Rattle.mb_run.proofs.Once.{one_most, past_moves, unplain_is}
 use Rattle.mb_run.proofs.Places.{at_begins, at_ends, at_leaves}
 use Rattle.mb_run.proofs.Trails.{trail_marks}
+use Rattle.mb_run.proofs.Twice.{once_at_most}
 use Rattle.mb_run.specs.Timely.{IsTimely}
 use Rattle.mb_run.proofs.Timely.{timely_answers, timely_inside, timely_leaves, timely_refl, timely_then, timely_waits_outside}
 
@@ -62,11 +65,15 @@ rank_outside : (incarnation stales : ℕ) (pages : PagesState) (a : At) → a �
 rank_outside incarnation stales pages a outside = ap (rank incarnation stales pages) outside
 
 module _ (calls : List JobCall) (test : Option (Crossing → Bool)) (old : Sight) (runner : Runner) (call : Call) (may : MayStep calls test old runner call) where
+  -- the entries so far are of calls before the next one
+  ended : AllByRecursion (IsPastOnce old.records (advanced runner).crossings false) old.history
+  ended = let most = one_most runner.answered in past_moves old.records old.records runner.crossings (advanced runner).crossings refl runner.answered false old.history (omega (arith, most)) (λ entry low mine. refl) may.served.past
+
   -- the call has its entry and its flight ends
-  pub did_end : (new : Sight) → ActsAlone runner.crossings.caller old new → (InLine runner.crossings.caller old → InLine runner.crossings.caller new) → (IsBalanced old → IsBalanced new) → IsTimely 0 old new → new.records ≡ old.records
+  pub did_end : (new : Sight) → ActsAlone runner.crossings.caller old new → (InLine runner.crossings.caller old → InLine runner.crossings.caller new) → (IsBalanced old → IsBalanced new) → IsTimely 0 old new → new.records ≡ old.records → AllByRecursion (IsPastOnce old.records (advanced runner).crossings false) new.history
       → IsAtBy (calls_of calls runner.crossings.caller) (calls_in new.history runner.crossings.caller) (runner.done + 1) (new.seats runner.crossings.caller).begun (new.seats runner.crossings.caller).flight
       → (new.seats runner.crossings.caller).flight ≡ None → Did calls test old new runner (advanced runner) went.Ended
-  did_end new acts lined balanced seals records here gone = record {
+  did_end new acts lined balanced seals records past here gone = record {
     nears = record {
       same = refl;
       counts = no_counts (advanced runner).crossings;
@@ -80,6 +87,8 @@ module _ (calls : List JobCall) (test : Option (Crossing → Bool)) (old : Sight
         stands = rw gone tt;
         marked = rw gone refl;
         counted = rw records (counted_next runner.crossings (advanced runner).crossings old.records refl refl may.served.counted);
+        past = rw records past;
+        once = tt;
       };
       sound = rw records may.sound;
       seals = seals;
@@ -90,18 +99,19 @@ module _ (calls : List JobCall) (test : Option (Crossing → Bool)) (old : Sight
   pub did_leave : (new : Sight) (flight : Flight) → EndsFlight runner.crossings.caller flight old new → Did calls test old new runner (advanced runner) went.Ended
   did_leave new flight leaves =
       let was = subst (IsAtBy (calls_of calls runner.crossings.caller) (calls_in old.history runner.crossings.caller) runner.done (old.seats runner.crossings.caller).begun) leaves.was may.served.calls in
-      did_end new (acts_stays runner.crossings.caller old new leaves.stays leaves.counts.history (elim leaves.floor [ inl none ↦ inl none | inr same ↦ inr (inr same) ]) (firsts_leaves old new runner.crossings.caller flight may.within (counted_from flight.ordinal runner.done was.1) (was.0 ∙ sym was.1) leaves) (trail_marks old.trail new.trail leaves.log.trail)) (line_leaves runner.crossings.caller flight old new leaves) (balanced_same old new leaves.counts) (timely_leaves runner.crossings.caller flight old new leaves) leaves.stays.records
+      did_end new (acts_stays runner.crossings.caller old new leaves.stays leaves.counts.history (elim leaves.floor [ inl none ↦ inl none | inr same ↦ inr (inr same) ]) (firsts_leaves old new runner.crossings.caller flight may.within (counted_from flight.ordinal runner.done was.1) (was.0 ∙ sym was.1) leaves) (trail_marks old.trail new.trail leaves.log.trail)) (line_leaves runner.crossings.caller flight old new leaves) (balanced_same old new leaves.counts) (timely_leaves runner.crossings.caller flight old new leaves) leaves.stays.records (rw leaves.counts.history ended)
       (rw (leaves.mine, leaves.counts.history) (at_leaves (calls_of calls runner.crossings.caller) (calls_in old.history runner.crossings.caller) runner.done (old.seats runner.crossings.caller).begun flight leaves.answered was))
       (ap (λ (s : Seat). s.flight) leaves.mine)
 
   -- an entry that changes nothing: the call begins, if it had not, and ends
-  pub did_answer : (new : Sight) (flight : Flight) (answer : Reply) → Answers runner.crossings.caller flight answer old new → flight.answered ≡ false
+  pub did_answer : (new : Sight) (flight : Flight) (answer : Reply) → Answers runner.crossings.caller flight answer old new → is_plain answer ≡ false → flight.answered ≡ false
       → IsAtBy (calls_of calls runner.crossings.caller) (calls_in old.history runner.crossings.caller) runner.done flight.ordinal (Some flight)
       → (Answers runner.crossings.caller flight answer old new → InLine runner.crossings.caller old → LineBy old.config.start old.history new.begun (Some flight))
       → (Answers runner.crossings.caller flight answer old new → CameFrom old new runner.crossings.caller flight) → Did calls test old new runner (advanced runner) went.Ended
-  did_answer new flight answer answers lacks here line came =
+  did_answer new flight answer answers unplain lacks here line came =
       let entry = entry_of runner.crossings.caller flight None answer in
       did_end new (acts_entry runner.crossings.caller old new entry answers.stays refl answers.history (elim answers.floor [ inl none ↦ inl none | inr same ↦ inr (inr same) ]) (firsts_answers old new runner.crossings.caller flight answer may.within (counted_from flight.ordinal runner.done here.1) (came answers) answers) (trail_marks old.trail new.trail answers.log.trail)) (λ lined. line_answers runner.crossings.caller flight answer old new answers lacks (line answers lined)) (balanced_answers runner.crossings.caller flight answer old new answers) (timely_answers runner.crossings.caller flight answer old new answers) answers.stays.records
+      (rw answers.history (all_both (IsPastOnce old.records (advanced runner).crossings false) old.history (entry ∷ []) ended (λ mine. (omega (arith, here.1, may.served.ordinal), λ plain. cc), tt)))
       (rw (answers.mine, answers.history, calls_push old.history entry runner.crossings.caller refl)
       (at_ends (calls_of calls runner.crossings.caller) (calls_in old.history runner.crossings.caller) runner.done flight.ordinal flight lacks here))
       (ap (λ (s : Seat). s.flight) answers.mine)
@@ -125,7 +135,7 @@ module _ (calls : List JobCall) (test : Option (Crossing → Bool)) (old : Sight
   pub did_done : (new : Sight) (answer : Reply) → EntersInSight old new runner.crossings.caller call (enter.Done answer) → Did calls test old new runner (advanced runner) went.Ended
   did_done new answer enters = elim enters [
     | inl left ↦ did_leave new left.0 left.1
-    | inr made ↦ did_answer new (flight_of old runner.crossings.caller call (old.seats runner.crossings.caller).flight) answer made.2 made.0 (begun (flight_of old runner.crossings.caller call (old.seats runner.crossings.caller).flight) refl refl refl)
+    | inr made ↦ did_answer new (flight_of old runner.crossings.caller call (old.seats runner.crossings.caller).flight) answer made.2 (unplain_is answer made.1) made.0 (begun (flight_of old runner.crossings.caller call (old.seats runner.crossings.caller).flight) refl refl refl)
         (λ answers line. line_made runner.crossings.caller call answer old new answers line)
         (λ answers. came_from old new runner.crossings.caller call (old.seats runner.crossings.caller).flight (flight_of old runner.crossings.caller call (old.seats runner.crossings.caller).flight) refl refl refl answers.begun)
   ]
@@ -157,6 +167,8 @@ module _ (calls : List JobCall) (test : Option (Crossing → Bool)) (old : Sight
               stands = subst (IsStanding new runner.crossings.caller runner.pages) (sym outside)
                   (rw (begins.mine, begins.stays.incarnation) (old_begins old runner.crossings.caller call old.incarnation (old.seats runner.crossings.caller).flight was_old));
               counted = rw begins.stays.records may.served.counted;
+              past = rw (begins.history, begins.stays.records) may.served.past;
+              once = rw begins.stays.records may.served.once;
             };
             sound = rw begins.stays.records may.sound;
             seals = timely_waits_outside runner.crossings.caller (flight_of old runner.crossings.caller call (old.seats runner.crossings.caller).flight) old new begins
@@ -195,6 +207,10 @@ module _ (calls : List JobCall) (test : Option (Crossing → Bool)) (old : Sight
             );
             marked = rw begins.mine (marked_begins runner.answered old runner.crossings.caller call (old.seats runner.crossings.caller).flight may.served.marked);
             counted = rw begins.stays.records may.served.counted;
+            past = rw (begins.history, begins.stays.records) may.served.past;
+            once = (
+                let same : (flight_of old runner.crossings.caller call (old.seats runner.crossings.caller).flight).ordinal ≡ runner.crossings.ordinal = (begun (flight_of old runner.crossings.caller call (old.seats runner.crossings.caller).flight) refl refl refl).1 ∙ sym may.served.ordinal in
+                rw (begins.stays.records, sym same) (once_at_most old.records runner.crossings.caller (flight_of old runner.crossings.caller call (old.seats runner.crossings.caller).flight).ordinal enters.once));
           };
           sound = rw begins.stays.records may.sound;
           within = rw begins.stays.config may.within;

@@ -16,7 +16,8 @@ use Rattle.mb_run.specs.declared.progress.Turn.TheVariants as turn
 use Rattle.mb_run.proofs.Counting.{same_or_not}
 use Rattle.mb_run.proofs.Lists.{neq}
 use Rattle.mb_run.proofs.Rolling.{other_served}
-use Rattle.mb_run.proofs.Struck.{one_most, rank_most}
+use Rattle.mb_run.proofs.Once.{one_most}
+use Rattle.mb_run.proofs.Struck.{rank_most}
 
 -- what one caller of the list may do
 pub may_of : (calls : List JobCall) (test : Option (Crossing → Bool)) (sight : Sight) (runners : List Runner) (caller : ℕ) (runner : Runner) (call : Call) → AllUnderWay calls test sight runners → slice_get runners caller ≡ Some runner

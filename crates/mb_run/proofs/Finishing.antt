@@ -1,5 +1,5 @@
 -- What a call that finishes was performed over, and a call that is given up.
-use Rattle.std.proofs.Common.{◌≡◌, List, ℕ, ◌<◌, Bool, true, false, if◌then◌else◌, is_some, refl, ap, sym, subst, ◌∙◌, arith, Option, None, Some, option_map}
+use Rattle.std.proofs.Common.{◌≡◌, List, ◌<◌, Bool, true, false, if◌then◌else◌, is_some, refl, ap, sym, subst, ◌∙◌, arith, Option, None, Some, option_map}
 use Rattle.std.proofs.lemmas.Option.{same_Some}
 use Rattle.mb_edge.specs.declared.crossings.Crossing.{Crossing}
 use Rattle.mb_calls.specs.declared.performing.Performed.TheVariants as performed

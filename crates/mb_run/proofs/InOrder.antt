@@ -10,13 +10,15 @@ use Rattle.mb_kinds.specs.declared.entries.Flight.{Flight}
 use Rattle.mb_run.proofs.Listing.{listed_next}
 use Rattle.mb_kinds.specs.declared.entries.Entry.{Entry}
 use Rattle.std.specs.List.{AllByRecursion}
-use Rattle.mb_run.specs.Served.{EntriesAreCalls, IsServedSoFar, HasRun, InLine, IsAfter, IsFloorOf, IsRunInOrder, LineBy, MayStep, calls_of}
+use Rattle.mb_run.specs.Runs.{IsStruckOnceIfPlain}
+use Rattle.mb_run.specs.Served.{AllUnderWay, AreStruckOnce, EntriesAreCalls, IsServedSoFar, HasRun, InLine, IsAfter, IsFloorOf, IsPastOnce, IsRunInOrder, LineBy, MayStep, calls_of}
 use Rattle.mb_run.specs.Sights.{IsOrderlyInSight, Limits, Seat, Sight}
 use Rattle.mb_jobs.specs.declared.jobs.JobCall.{JobCall}
 use Rattle.mb_run.specs.declared.runner.Runner.{Runner}
 use Rattle.mb_run.proofs.Everybody.{find_here, got, may_of, own_calls, put_get, put_underway}
 use Rattle.mb_run.proofs.Counting.{same_or_not}
-use Rattle.mb_run.proofs.Lists.{neq}
+use Rattle.mb_run.proofs.Lists.{all_map, neq}
+use Rattle.mb_run.proofs.Once.{once_all}
 
 abbrev pub as_one : Bool → ℕ
 as_one b = cond b 1 0
@@ -97,6 +99,13 @@ runner_at [] place low = absurd (omega arith)
 runner_at (first ∷ runners) zero low = (first, refl)
 runner_at (first ∷ runners) (suc place) low = runner_at runners place (omega arith)
 
+-- of everybody's calls, with plain replies, each was struck once at most
+pub once_underway : (calls : List JobCall) (test : Option (Crossing → Bool)) (sight : Sight) (runners : List Runner) → AllUnderWay calls test sight runners → AreStruckOnce (length runners) sight.history sight.records
+once_underway calls test sight runners underway = once_all sight.records sight.history (length runners) (λ caller low. (
+    let there = runner_at runners caller low in
+    let served = underway.served caller there.0 there.1 in
+    all_map (IsPastOnce sight.records there.0.crossings there.0.answered) (λ (entry : Entry). entry.caller ≡ caller → IsStruckOnceIfPlain sight.records entry) sight.history (λ entry is mine. (is (mine ∙ sym served.caller_is)).1) served.past))
+
 pub order_over : (calls : List JobCall) (test : Option (Crossing → Bool)) (sight : Sight) (runners : List Runner) (index : ℕ) → length calls ≤ index → IsAfter calls test sight runners index → IsRunInOrder calls (length runners) test sight
 order_over calls test sight runners index past after = record {
   free = λ caller low. (let few : caller < sight.config.callers = omega (arith, low, after.underway.callers) in after.free caller few);
@@ -109,4 +118,5 @@ order_over calls test sight runners index past after = record {
   moments = after.lined.1;
   begun = after.lined.0;
   sound = after.underway.sound;
+  once = once_underway calls test sight runners after.underway;
 }

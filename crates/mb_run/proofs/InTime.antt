@@ -32,6 +32,7 @@ use Rattle.mb_run.specs.declared.answers.Enter.{Enter}
 use Rattle.mb_run.specs.declared.answers.Enter.TheVariants as enter
 use Rattle.mb_run.specs.declared.answers.Stepped.{Stepped}
 use Rattle.mb_run.specs.declared.answers.Stepped.TheVariants as stepped
+use Rattle.mb_run.proofs.Once.{unplain_is}
 
 -- checkpoints are in time as a driver sees it
 abbrev pub InTime : Sight → Type 0
@@ -92,19 +93,10 @@ and_false : (b : Bool) → (b && false) ≡ false
 and_false true = refl
 and_false false = refl
 
-unplain : (answer : Reply) → IsUnplain answer → is_plain answer ≡ false
-unplain (reply.Restart first second) is = refl
-unplain reply.Device is = refl
-unplain (reply.Failed faults) is = refl
-unplain (reply.Num number) is = absurd is
-unplain (reply.Got bytes) is = absurd is
-unplain (reply.Info stat) is = absurd is
-unplain (reply.Refused error) is = absurd is
-
 answered_time : (caller : ℕ) (flight : Flight) (answer : Reply) (old new : Sight) → IsUnplain answer → Answers caller flight answer old new → InTime old → InTime new
 answered_time caller flight answer old new is answers was =
     entry_time old new answers.stays.config was answers.log.ops answers.log.sealed_at (entry_of caller flight None answer) answers.history
-    (ap (λ b. is_sync flight.call && b) (unplain answer is) ∙ and_false (is_sync flight.call))
+    (ap (λ b. is_sync flight.call && b) (unplain_is answer is) ∙ and_false (is_sync flight.call))
 
 -- ---- the events
 

@@ -13,7 +13,8 @@ use Rattle.mb_kinds.specs.declared.replies.Reply.TheVariants as reply
 use Rattle.mb_core_spec.specs.Copies.{PagesState, no_pages}
 use Rattle.mb_run.specs.Pages.{has}
 use Rattle.mb_run.specs.Events.{Answers, FinishesInSight, Gains, GathersInSight, IsStale, LeavesWith, EndsFlight, entry_of}
-use Rattle.mb_run.specs.Served.{Asks, Did, StepComesTo, AsksAtEntry, IsAtBy, IsHeld, IsStanding, MayStep, advanced, backed, busy, calls_in, calls_of, counted, missing, rank}
+use Rattle.mb_run.specs.Runs.{strikes_inside}
+use Rattle.mb_run.specs.Served.{IsInsideOnce, IsPastOnce, Asks, Did, StepComesTo, AsksAtEntry, IsAtBy, IsHeld, IsStanding, MayStep, advanced, backed, busy, calls_in, calls_of, counted, missing, rank}
 use Rattle.mb_run.specs.Sights.{SeatHasTicket, IsOrderlyInSight, Limits, Sight, one_if, recovers}
 use Rattle.mb_run.specs.declared.runner.At.{At}
 use Rattle.mb_run.specs.declared.runner.At.TheVariants as at
@@ -30,14 +31,16 @@ use Rattle.mb_run.proofs.Acting.{acts_same, acts_stays, acts_entry}
 use Rattle.mb_run.proofs.Balance.{LogsCall, balanced_logs, balanced_same, marked_here}
 use Rattle.mb_run.proofs.Firsts.{counted_from, firsts_logs, firsts_stays}
 use Rattle.mb_run.proofs.Lines.{line_logs, line_same}
-use Rattle.mb_run.proofs.Lists.{calls_push}
+use Rattle.mb_run.proofs.Lists.{all_both, calls_push}
 use Rattle.mb_run.proofs.Missing.{missing_less, missing_most}
+use Rattle.mb_run.proofs.Once.{one_most, past_moves}
 use Rattle.mb_run.proofs.Places.{at_logs}
 use Rattle.mb_run.proofs.Entered.{did_answer, did_leave}
 use Rattle.mb_run.proofs.Openings.{line_open}
 use Rattle.mb_run.proofs.Struck.{IsIn, Stands, did_asked, did_back, may_counted}
 use Rattle.mb_run.proofs.Trails.{trail_marks, trail_put}
 use Rattle.mb_run.proofs.Timely.{timely_gains, timely_refl, timely_stale}
+use Rattle.mb_run.proofs.Twice.{is_own_kind}
 use Rattle.mb_run.specs.Timely.{IsTimely}
 
 -- ---- the hook let the call go on
@@ -93,7 +96,7 @@ module _ (calls : List JobCall) (test : Option (Crossing → Bool)) (old : Sight
     inside_back older = did_back calls test old runner call may ticket stands_inside older
 
     pub inside_asked : (new : Sight) (now : Runner) (kind : Kind) → IsOrderlyInSight new → Asks test old new runner now ticket kind true → Did calls test old new runner now went.Back
-    inside_asked new now kind right asks = did_asked calls test old runner call may new now ticket kind stands_inside own_ticket own_ordinal right asks
+    inside_asked new now kind right asks = did_asked calls test old runner call may new now ticket kind (λ has. (let lacks = marked_here runner.answered (old.seats runner.crossings.caller).flight stood.0.flight stood.0.here stood.0.answered may.served.marked in cc)) stands_inside own_ticket own_ordinal right asks
 
     rank_now : (incarnation stales : ℕ) (pages : PagesState) → ticket.incarnation ≡ incarnation → rank incarnation stales pages (at.Inside ticket) ≡ 2 * ((4 - stales) * 262146 + missing (has pages) 262144 + 1)
     rank_now incarnation stales pages present = ap (λ b. cond b (2 * ((4 - stales) * 262146 + missing (has pages) 262144 + 1)) 8388608) (eq-eqb ticket.incarnation incarnation present)
@@ -142,6 +145,8 @@ module _ (calls : List JobCall) (test : Option (Crossing → Bool)) (old : Sight
                 },
               );
               counted = rw gains.stays.records may.served.counted;
+              past = rw (gains.counts.history, gains.stays.records) may.served.past;
+              once = rw gains.stays.records may.served.once;
             };
             sound = rw gains.stays.records may.sound;
             seals = timely_gains runner.crossings.caller old new need runner.pages now gains;
@@ -153,7 +158,7 @@ module _ (calls : List JobCall) (test : Option (Crossing → Bool)) (old : Sight
     did_device new given =
         let here = subst (IsAtBy (calls_of calls runner.crossings.caller) (calls_in old.history runner.crossings.caller) runner.done (old.seats runner.crossings.caller).begun) stood.0.here may.served.calls in
         let made : Answers runner.crossings.caller stood.0.flight reply.Device old new = subst (λ n. Answers n stood.0.flight reply.Device old new) own_ticket (given stood.0.flight (ap (λ n. (old.seats n).flight) own_ticket ∙ stood.0.here)) in
-        did_answer calls test old runner call may new stood.0.flight reply.Device made stood.0.answered (here.1, here.1, here.2, here.3)
+        did_answer calls test old runner call may new stood.0.flight reply.Device made refl stood.0.answered (here.1, here.1, here.2, here.3)
         (λ made line. line_open runner.crossings.caller stood.0.flight reply.Device old new made stood.0.here line)
         (λ made. inl (record { was = stood.0.flight; here = stood.0.here; ordinal = refl; moment = refl }))
 
@@ -165,7 +170,7 @@ module _ (calls : List JobCall) (test : Option (Crossing → Bool)) (old : Sight
         acts = acts_same runner.crossings.caller old;
         lined = λ line. line;
         balanced = λ even. even;
-        served = record { caller_is = refl; ordinal = may.served.ordinal; calls = may.served.calls; marked = may.served.marked; stands = may.served.stands; counted = may.served.counted };
+        served = record { caller_is = refl; ordinal = may.served.ordinal; calls = may.served.calls; marked = may.served.marked; stands = may.served.stands; counted = may.served.counted; past = may.served.past; once = may.served.once };
         sound = may.sound;
         seals = timely_refl old;
       };
@@ -206,6 +211,8 @@ module _ (calls : List JobCall) (test : Option (Crossing → Bool)) (old : Sight
                 },
               );
               counted = rw stale.stays.records may.served.counted;
+              past = rw (stale.counts.history, stale.stays.records) may.served.past;
+              once = rw stale.stays.records may.served.once;
             };
             sound = rw stale.stays.records may.sound;
             seals = timely_stale runner.crossings.caller old new runner.pages ticket stale stood.0 present few;
@@ -250,6 +257,14 @@ module _ (calls : List JobCall) (test : Option (Crossing → Bool)) (old : Sight
                 omega (arith, stood.1.past, logs.stays.incarnation),
               );
               counted = rw logs.stays.records may.served.counted;
+              past = (
+                  let most = one_most runner.answered in
+                  let own : logs.flight.ordinal ≡ runner.crossings.ordinal = here.1 ∙ sym may.served.ordinal in
+                  let few : strikes_inside old.records runner.crossings.caller runner.crossings.ordinal ≤ 1 = subst (IsInsideOnce old.records runner.crossings) inside may.served.once in
+                  rw (logs.history, logs.stays.records) (all_both (IsPastOnce old.records runner.crossings true) old.history (entry ∷ [])
+                  (past_moves old.records old.records runner.crossings runner.crossings refl runner.answered true old.history (omega (arith, most)) (λ other low mine. refl) may.served.past)
+                  (λ mine. (omega (arith, own), λ plain. rw own few), tt)));
+              once = tt;
             };
             sound = rw logs.stays.records may.sound;
             seals = timely;
@@ -280,8 +295,8 @@ module _ (calls : List JobCall) (test : Option (Crossing → Bool)) (old : Sight
     pub logged_back : ticket.incarnation ≢ old.incarnation → Did calls test old old runner (backed runner) went.Back
     logged_back older = did_back calls test old runner call may ticket stands_logged older
 
-    pub logged_asked : (new : Sight) (now : Runner) (kind : Kind) → IsOrderlyInSight new → Asks test old new runner now ticket kind true → Did calls test old new runner now went.Back
-    logged_asked new now kind right asks = did_asked calls test old runner call may new now ticket kind stands_logged own_logged ordinal_logged right asks
+    pub logged_asked : (new : Sight) (now : Runner) (kind : Kind) → is_own_kind kind ≡ false → IsOrderlyInSight new → Asks test old new runner now ticket kind true → Did calls test old new runner now went.Back
+    logged_asked new now kind fits right asks = did_asked calls test old runner call may new now ticket kind (λ has. fits) stands_logged own_logged ordinal_logged right asks
 
     pub did_left : (new : Sight) (answer : Reply) → LeavesWith old new ticket (left.Left answer) → Did calls test old new runner (advanced runner) went.Ended
     did_left new answer leaves = let made = subst (λ n. EndsFlight n leaves.1.0 old new) own_logged leaves.1.1 in did_leave calls test old runner call may new leaves.1.0 made

@@ -2,6 +2,7 @@ pub mod Lists
 pub mod Counting
 pub mod TallyRecords
 pub mod Twice
+pub mod Once
 pub mod Tallying
 pub mod TallySteps
 pub mod TallyRolls

@@ -6,12 +6,14 @@ use Rattle.mb_edge.specs.declared.crossings.Crossing.{Crossing}
 use Rattle.mb_edge.specs.declared.crossings.Crossings.{Crossings}
 use Rattle.mb_kinds.specs.Own.{own}
 use Rattle.mb_kinds.specs.declared.calls.Call.{Call}
+use Rattle.mb_kinds.specs.declared.entries.Entry.{Entry}
 use Rattle.mb_kinds.specs.declared.entries.Flight.{Flight}
 use Rattle.mb_kinds.specs.declared.faults.FaultRecord.{FaultRecord}
 use Rattle.mb_kinds.specs.declared.faults.Ticket.{Ticket}
 use Rattle.mb_kinds.specs.declared.replies.Reply.TheVariants as reply
 use Rattle.mb_run.specs.Recovering.{StepEndsByDevice, GoOn, CrossingsGoOn, Rolls, RunsForFlight, Steps, StrikesStep, Waits}
-use Rattle.mb_run.specs.Served.{ActsAlone, AreSixCounts, AreSound, Did, IsAtBy, IsCounted, IsResting, IsServedSoFar, IsStanding, CrossingsAreKept, MayStep, Nears, Rolled, advanced, with_crossings, busy, calls_in, calls_of, rank}
+use Rattle.mb_run.specs.Runs.{strikes_inside}
+use Rattle.mb_run.specs.Served.{ActsAlone, AreSixCounts, AreSound, Did, IsAtBy, IsCounted, IsPastOnce, IsResting, IsServedSoFar, IsStanding, CrossingsAreKept, MayStep, Nears, Rolled, advanced, with_crossings, busy, calls_in, calls_of, rank}
 use Rattle.mb_run.specs.Sights.{IsOld, IsOrderlyInSight, IsWaiting, Limits, Sight, one_if, recovers}
 use Rattle.mb_core_spec.specs.Copies.{PagesState}
 use Rattle.mb_run.specs.declared.runner.At.{At}
@@ -31,9 +33,11 @@ use Rattle.mb_run.proofs.Balance.{balanced_same, marked_here}
 use Rattle.mb_run.proofs.Lines.{line_same}
 use Rattle.mb_run.proofs.Firsts.{firsts_still}
 use Rattle.mb_run.proofs.Lists.{all_map, all_both}
-use Rattle.mb_run.proofs.Struck.{one_most, rank_old}
+use Rattle.mb_run.proofs.Once.{inside_moves, one_apart, one_most, others_fault, past_moves, recovery_apart, strikes_apart}
+use Rattle.mb_run.proofs.Struck.{rank_old}
 use Rattle.mb_run.proofs.Trails.{trail_marks}
 use Rattle.mb_run.proofs.Timely.{timely_refl, timely_waits}
+use Rattle.mb_run.proofs.Twice.{is_inside}
 
 pub not_running : (s : Sight) → recovers s.stage ≡ true → s.stage ≡ stage.Running → ⊥
 not_running s recovered runs = let stopped : recovers s.stage ≡ false = ap recovers runs in let both : true ≡ false = sym recovered ∙ stopped in cc
@@ -80,14 +84,17 @@ rank_rests incarnation one other pages (at.Inside ticket) rests = rank_old incar
 rank_rests incarnation one other pages (at.Logged ticket) rests = refl
 
 module _ (calls : List JobCall) (test : Option (Crossing → Bool)) (old : Sight) (runner : Runner) (call : Call) (may : MayStep calls test old runner call) (rests : IsResting old.incarnation runner.at) where
-  waited : (new : Sight) (crossings : Crossings) → CrossingsGoOn runner.crossings crossings → Waits old new → AllByRecursion (IsCounted crossings) new.records → IsServedSoFar (calls_of calls runner.crossings.caller) new runner.crossings.caller (with_crossings runner crossings)
-  waited new crossings on waits all = record {
+  waited : (new : Sight) (crossings : Crossings) → CrossingsGoOn runner.crossings crossings → Waits old new → AllByRecursion (IsCounted crossings) new.records
+      → ((caller ordinal : ℕ) → strikes_inside new.records caller ordinal ≡ strikes_inside old.records caller ordinal) → IsServedSoFar (calls_of calls runner.crossings.caller) new runner.crossings.caller (with_crossings runner crossings)
+  waited new crossings on waits all kept = record {
     caller_is = on.caller;
     ordinal = on.ordinal ∙ may.served.ordinal;
     calls = rw (waits.counts.history, waits.seats runner.crossings.caller) may.served.calls;
     stands = stands_waits old new runner.crossings.caller runner.pages runner.at waits rests may.served.stands;
     marked = rw (waits.seats runner.crossings.caller) may.served.marked;
     counted = all;
+    past = rw waits.counts.history (past_moves old.records new.records runner.crossings crossings on.caller runner.answered runner.answered old.history (omega (arith, on.ordinal)) (λ entry low mine. kept entry.caller entry.ordinal) may.served.past);
+    once = inside_moves old.records new.records runner.crossings crossings on.caller runner.at on.ordinal (kept runner.crossings.caller runner.crossings.ordinal) may.served.once;
   }
 
   -- the crossings are those of its call in flight
@@ -107,7 +114,7 @@ module _ (calls : List JobCall) (test : Option (Crossing → Bool)) (old : Sight
     acts = acts_waits runner.crossings.caller old new [] rolls.waits rolls.recovered (rolls.records ∙ sym (append-nil old.records)) tt;
     lined = line_same runner.crossings.caller old new rolls.waits.config rolls.waits.counts (rolls.waits.seats runner.crossings.caller);
     balanced = balanced_same old new rolls.waits.counts;
-    served = waited new crossings on rolls.waits (rw rolls.records (counted_on runner.crossings crossings old.records on may.served.counted));
+    served = waited new crossings on rolls.waits (rw rolls.records (counted_on runner.crossings crossings old.records on may.served.counted)) (λ caller ordinal. ap (λ rs. strikes_inside rs caller ordinal) rolls.records);
     sound = rw rolls.records may.sound;
     seals = timely_waits old new rolls.waits rolls.recovered;
   }
@@ -121,7 +128,9 @@ module _ (calls : List JobCall) (test : Option (Crossing → Bool)) (old : Sight
     lined = line_same runner.crossings.caller old new strikes.waits.config strikes.waits.counts (strikes.waits.seats runner.crossings.caller);
     balanced = balanced_same old new strikes.waits.counts;
     served = waited new crossings on strikes.waits (subst (AllByRecursion (IsCounted crossings)) (sym strikes.records)
-        (counted_push test runner.crossings crossings old.records strikes.fault on strikes.taken may.served.counted));
+        (counted_push test runner.crossings crossings old.records strikes.fault on strikes.taken may.served.counted))
+        (λ caller ordinal. ap (λ rs. strikes_inside rs caller ordinal) strikes.records
+        ∙ strikes_apart old.records (strikes.fault ∷ []) caller ordinal (one_apart caller ordinal strikes.fault (λ same. recovery_apart runner.crossings crossings old.stage strikes.fault strikes.next), tt));
     sound = subst (AreSound test) (sym strikes.records) (sound_push test runner.crossings crossings old.records strikes.fault strikes.taken may.served.counted may.sound);
     seals = timely_waits old new strikes.waits strikes.recovered;
   }
@@ -192,7 +201,7 @@ module _ (calls : List JobCall) (test : Option (Crossing → Bool)) (old : Sight
           acts = acts_waits runner.crossings.caller old new [] waits recovered (records ∙ sym (append-nil old.records)) tt;
           lined = line_same runner.crossings.caller old new waits.config waits.counts (waits.seats runner.crossings.caller);
           balanced = balanced_same old new waits.counts;
-          served = waited new crossings on waits (rw records (counted_on runner.crossings crossings old.records on may.served.counted));
+          served = waited new crossings on waits (rw records (counted_on runner.crossings crossings old.records on may.served.counted)) (λ caller ordinal. ap (λ rs. strikes_inside rs caller ordinal) records);
           sound = rw records may.sound;
           seals = timely_waits old new waits recovered;
         };
@@ -212,7 +221,7 @@ module _ (calls : List JobCall) (test : Option (Crossing → Bool)) (old : Sight
       → Did calls test old new runner (advanced runner) went.Ended
   device_ends new crossings on ends flight here lacks =
       let at_it = subst (IsAtBy (calls_of calls runner.crossings.caller) (calls_in old.history runner.crossings.caller) runner.done (old.seats runner.crossings.caller).begun) here may.served.calls in
-      did_answer calls test old runner call may new flight reply.Device (ends flight here) lacks (at_it.1, at_it.1, at_it.2, at_it.3)
+      did_answer calls test old runner call may new flight reply.Device (ends flight here) refl lacks (at_it.1, at_it.1, at_it.2, at_it.3)
       (λ made line. line_open runner.crossings.caller flight reply.Device old new made here line)
       (λ made. inl (record { was = flight; here = here; ordinal = refl; moment = refl }))
 
@@ -248,7 +257,14 @@ other_served list caller other old new runner apart acts served = record {
   ] served.stands;
   counted = subst (AllByRecursion (IsCounted runner.crossings)) (sym acts.records) (all_both (IsCounted runner.crossings) old.records acts.more served.counted
       (all_map (λ (fault : FaultRecord). fault.caller ≡ caller) (IsCounted runner.crossings) acts.more (λ fault theirs mine. absurd (apart (sym served.caller_is ∙ sym mine ∙ theirs))) acts.mine));
-}
+  past = rw (acts.grown, acts.records) (all_both (IsPastOnce (old.records ++ acts.more) runner.crossings runner.answered) old.history acts.entries
+      (past_moves old.records (old.records ++ acts.more) runner.crossings runner.crossings refl runner.answered runner.answered old.history (omega arith) (λ entry low mine. apart_from entry.caller entry.ordinal (λ theirs. apart (sym served.caller_is ∙ sym mine ∙ theirs))) served.past)
+      (all_map (λ (entry : Entry). entry.caller ≡ caller) (IsPastOnce (old.records ++ acts.more) runner.crossings runner.answered) acts.entries (λ entry theirs mine. absurd (apart (sym served.caller_is ∙ sym mine ∙ theirs))) acts.theirs));
+  once = rw acts.records (inside_moves old.records (old.records ++ acts.more) runner.crossings runner.crossings refl runner.at refl (apart_from runner.crossings.caller runner.crossings.ordinal (λ theirs. apart (sym served.caller_is ∙ theirs))) served.once);
+} where
+  apart_from : (mine ordinal : ℕ) → mine ≢ caller → strikes_inside (old.records ++ acts.more) mine ordinal ≡ strikes_inside old.records mine ordinal
+  apart_from mine ordinal distinct = strikes_apart old.records acts.more mine ordinal (all_map (λ (fault : FaultRecord). fault.caller ≡ caller) (λ (fault : FaultRecord). is_inside mine ordinal fault ≡ false) acts.more
+      (λ fault theirs. others_fault mine ordinal fault (λ same. distinct (sym same ∙ theirs))) acts.mine)
 
 -- ---- by the answers of a step
 

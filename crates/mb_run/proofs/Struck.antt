@@ -23,13 +23,11 @@ use Rattle.mb_run.proofs.Balance.{balanced_same}
 use Rattle.mb_run.proofs.Lines.{line_same}
 use Rattle.mb_run.proofs.Lists.{neq}
 use Rattle.mb_run.proofs.Missing.{missing_most}
+use Rattle.mb_run.proofs.Once.{one_apart, one_most, past_moves, strikes_apart}
 use Rattle.mb_run.proofs.Timely.{timely_refl, timely_strikes}
+use Rattle.mb_run.proofs.Twice.{is_own_kind}
 
 -- ---- numbers
-
-pub one_most : (b : Bool) → one_if b ≤ 1
-one_most true = omega arith
-one_most false = omega arith
 
 pub busy_most : (caller : ℕ) (floor : Option ℕ) → busy caller floor ≤ 1
 busy_most caller None = omega arith
@@ -58,6 +56,11 @@ rank_old incarnation stales pages (at.Logged mine) ticket is old = ap (λ b. con
 abbrev strike_at : Ticket → Kind → ℕ → FaultRecord
 strike_at ticket kind nth = record { caller = ticket.caller; ordinal = ticket.ordinal; kind = kind; nth = nth }
 
+-- an entry with this ordinal is of this call, which has it then
+answered_by : (answered : Bool) (one ordinal : ℕ) → one < ordinal + one_if answered → ordinal ≡ one → answered ≡ true
+answered_by true one ordinal low same = refl
+answered_by false one ordinal low same = absurd (omega (arith, low, same))
+
 -- ---- the ticket of a call that stands inside
 
 pub record Stands (sight : Sight) (caller : ℕ) (runner : Runner) (ticket : Ticket) : Type 0 where
@@ -80,6 +83,8 @@ module _ (calls : List JobCall) (test : Option (Crossing → Bool)) (old : Sight
       stands = may.served.stands;
       marked = may.served.marked;
       counted = counted_on runner.crossings (counted runner.crossings kind) old.records (counted_goes runner.crossings kind may.counts) may.served.counted;
+      past = may.served.past;
+      once = may.served.once;
     };
     sound = may.sound;
     within = may.within;
@@ -105,6 +110,8 @@ module _ (calls : List JobCall) (test : Option (Crossing → Bool)) (old : Sight
       marked = may.served.marked;
       stands = old_flight old.incarnation (old.seats runner.crossings.caller) stands.done ticket stands.has (omega (arith, stands.past));
       counted = (may_counted kind).served.counted;
+      past = may.served.past;
+      once = tt;
     };
     sound = may.sound;
     seals = timely_refl old;
@@ -124,6 +131,8 @@ module _ (calls : List JobCall) (test : Option (Crossing → Bool)) (old : Sight
       marked = may.served.marked;
       stands = old_flight old.incarnation (old.seats runner.crossings.caller) stands.done ticket stands.has (omega (arith, stands.past));
       counted = may.served.counted;
+      past = may.served.past;
+      once = tt;
     };
     sound = may.sound;
     seals = timely_refl old;
@@ -136,11 +145,11 @@ module _ (calls : List JobCall) (test : Option (Crossing → Bool)) (old : Sight
   did_back ticket stands older = record { nears = back_same ticket stands older; goes = (refl, back_less ticket stands older) }
 
   -- the call is struck
-  pub struck_near : (new : Sight) (ticket : Ticket) (kind : Kind) → Stands old runner.crossings.caller runner ticket → ticket.caller ≡ runner.crossings.caller → ticket.ordinal ≡ runner.crossings.ordinal
+  pub struck_near : (new : Sight) (ticket : Ticket) (kind : Kind) → (runner.answered ≡ true → is_own_kind kind ≡ false) → Stands old runner.crossings.caller runner ticket → ticket.caller ≡ runner.crossings.caller → ticket.ordinal ≡ runner.crossings.ordinal
       → IfSome test (λ fires. fires (record { caller = runner.crossings.caller; ordinal = runner.crossings.ordinal; kind = kind; nth = next_nth runner.crossings.counts kind }) ≡ true)
       → StrikesCall old new ticket kind (next_nth runner.crossings.counts kind)
       → Nears calls test old new runner (backed (record runner { crossings = counted runner.crossings kind }))
-  struck_near new ticket kind stands own ordinal holds strikes =
+  struck_near new ticket kind fits stands own ordinal holds strikes =
       let fault : FaultRecord = record { caller = runner.crossings.caller; ordinal = runner.crossings.ordinal; kind = kind; nth = next_nth runner.crossings.counts kind } in
       let same : strike_at ticket kind (next_nth runner.crossings.counts kind) ≡ fault = ap (λ n. record { caller = n; ordinal = ticket.ordinal; kind = kind; nth = next_nth runner.crossings.counts kind }) own ∙ ap (λ n. record { caller = runner.crossings.caller; ordinal = n; kind = kind; nth = next_nth runner.crossings.counts kind }) ordinal in
       let more : new.records ≡ old.records ++ fault ∷ [] = strikes.records ∙ ap (λ (r : FaultRecord). old.records ++ r ∷ []) same in
@@ -159,6 +168,9 @@ module _ (calls : List JobCall) (test : Option (Crossing → Bool)) (old : Sight
           stands = rw (strikes.seats runner.crossings.caller) (old_flight new.incarnation (old.seats runner.crossings.caller) stands.done ticket stands.has (omega (arith, stands.past, strikes.incarnation)));
           counted = subst (λ rs. AllByRecursion (IsCounted (counted runner.crossings kind)) rs) (sym more)
               (counted_push test runner.crossings (counted runner.crossings kind) old.records fault (counted_goes runner.crossings kind may.counts) taken may.served.counted);
+          past = rw (strikes.counts.history, more) (past_moves old.records (old.records ++ fault ∷ []) runner.crossings (counted runner.crossings kind) refl runner.answered runner.answered old.history (omega arith)
+              (λ entry low mine. strikes_apart old.records (fault ∷ []) entry.caller entry.ordinal (one_apart entry.caller entry.ordinal fault (λ here. fits (answered_by runner.answered entry.ordinal runner.crossings.ordinal low here)), tt)) may.served.past);
+          once = tt;
         };
         sound = subst (AreSound test) (sym more) (sound_push test runner.crossings (counted runner.crossings kind) old.records fault taken may.served.counted may.sound);
         seals = timely_strikes old new ticket kind (next_nth runner.crossings.counts kind) strikes;
@@ -171,15 +183,15 @@ module _ (calls : List JobCall) (test : Option (Crossing → Bool)) (old : Sight
       omega (arith, more, limit, right.records, one_most (recovers new.stage), rank_most new.incarnation (new.stales runner.crossings.caller) now.pages now.at, busy_most runner.crossings.caller new.floor)
 
   -- where the hook was asked: the call is back
-  pub did_asked : (new : Sight) (now : Runner) (ticket : Ticket) (kind : Kind) → Stands old runner.crossings.caller runner ticket → ticket.caller ≡ runner.crossings.caller → ticket.ordinal ≡ runner.crossings.ordinal
+  pub did_asked : (new : Sight) (now : Runner) (ticket : Ticket) (kind : Kind) → (runner.answered ≡ true → is_own_kind kind ≡ false) → Stands old runner.crossings.caller runner ticket → ticket.caller ≡ runner.crossings.caller → ticket.ordinal ≡ runner.crossings.ordinal
       → IsOrderlyInSight new → Asks test old new runner now ticket kind true → Did calls test old new runner now went.Back
-  did_asked new now ticket kind stands own ordinal right asks = elim asks.2 [
+  did_asked new now ticket kind fits stands own ordinal right asks = elim asks.2 [
     | inl skipped ↦ subst (λ (s : Sight). Did calls test old s runner now went.Back) (sym skipped.1) (subst (λ (r : Runner). Did calls test old old runner r went.Back) (sym asks.0) (record {
       nears = back_counted ticket kind stands skipped.0;
       goes = (refl, back_less ticket stands skipped.0);
     }))
     | inr struck ↦ subst (λ (r : Runner). Did calls test old new runner r went.Back) (sym asks.0) (record {
-      nears = struck_near new ticket kind stands own ordinal asks.1 struck.1;
+      nears = struck_near new ticket kind fits stands own ordinal asks.1 struck.1;
       goes = (refl, struck_less new ticket kind (next_nth runner.crossings.counts kind) (backed (record runner { crossings = counted runner.crossings kind })) right struck.1);
     })
   ]

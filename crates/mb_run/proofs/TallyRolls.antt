@@ -28,7 +28,7 @@ use Rattle.mb_run.specs.declared.runner.Runner.{Runner}
 use Rattle.mb_run.proofs.Balance.{marked_here}
 use Rattle.mb_run.proofs.Lists.{all_map}
 use Rattle.mb_run.proofs.Rolling.{Ends, rolled_went}
-use Rattle.mb_run.proofs.Struck.{one_most}
+use Rattle.mb_run.proofs.Once.{one_most}
 use Rattle.mb_run.proofs.Tallying.{ends_unplain, lacks_leave, passed_back, restarted_most, restarted_same, with_counted}
 use Rattle.mb_run.proofs.TallyRecords.{counted_more, counted_most, counted_there, fault_at, next_more, past_push, recoveries_most, strikes_there, taken_go, taken_struck, tallied_push}
 

@@ -16,10 +16,10 @@ use Rattle.mb_kinds.specs.declared.faults.Kind.TheVariants.{Enter, Gather, Finis
 use Rattle.mb_kinds.specs.declared.faults.Ticket.{Ticket}
 use Rattle.mb_kinds.specs.declared.replies.Reply.{Reply}
 use Rattle.mb_kinds.specs.declared.replies.Reply.TheVariants as reply
-use Rattle.mb_run.specs.Events.{Answers, EntersInSight, EntersInside, FinishesInSight, Gains, GathersInSight, IsUnplain, LeavesWith, Logs, SealsIf, entry_of}
+use Rattle.mb_run.specs.Events.{Answers, EntersInSight, EntersInside, FinishesInSight, Gains, GathersInSight, LeavesWith, Logs, SealsIf, entry_of}
 use Rattle.mb_run.specs.Seals.{is_due}
 use Rattle.mb_run.specs.Pages.{has}
-use Rattle.mb_run.specs.Runs.{is_plain, strikes_inside}
+use Rattle.mb_run.specs.Runs.{strikes_inside}
 use Rattle.mb_run.specs.Served.{Asks, IsAtBy, IsHeld, IsMarked, IsStanding, MayStep, advanced, calls_in, calls_of}
 use Rattle.mb_run.specs.Sights.{SeatHasTicket, Sight, flight_of}
 use Rattle.mb_run.specs.Tallies.{IsBetween, IsEntering, IsFinishing, IsPast, IsTallied}
@@ -29,6 +29,7 @@ use Rattle.mb_run.specs.declared.runner.Runner.{Runner}
 use Rattle.mb_run.proofs.Balance.{marked_here, marked_lacks}
 use Rattle.mb_run.proofs.Inside.{own_logged, own_ordinal, own_ticket, ordinal_logged}
 use Rattle.mb_run.proofs.Lists.{all_both, all_map}
+use Rattle.mb_run.proofs.Once.{unplain_is}
 use Rattle.mb_run.proofs.Tallying.{ends_left, ends_outside, ends_unplain, enter_go, enter_struck, finish_go, finish_struck, gather_go, gather_struck, gathered_if, leave_struck, passed_pages, restarted_runs, tally_on, with_counted}
 use Rattle.mb_run.proofs.Twice.{once_at_most}
 
@@ -194,15 +195,6 @@ module _ (calls : List JobCall) (test : Option (Crossing → Bool)) (old : Sight
 
   rests : IsTallied test old runner runner.at → IsTallied test old runner at.Outside
   rests tally = subst (IsTallied test old runner) outside tally
-
-  unplain_is : (answer : Reply) → IsUnplain answer → is_plain answer ≡ false
-  unplain_is (reply.Restart first second) is = refl
-  unplain_is reply.Device is = refl
-  unplain_is (reply.Failed faults) is = refl
-  unplain_is (reply.Num number) is = absurd is
-  unplain_is (reply.Got bytes) is = absurd is
-  unplain_is (reply.Info stat) is = absurd is
-  unplain_is (reply.Refused e) is = absurd is
 
   lacks_it : flight.answered ≡ false → runner.answered ≡ false
   lacks_it lacks = marked_lacks runner.answered old runner.crossings.caller call (old.seats runner.crossings.caller).flight may.served.marked lacks

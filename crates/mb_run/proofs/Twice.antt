@@ -21,7 +21,7 @@ module _ (test : FaultRecord → Bool) where
   further : (first : FaultRecord) (records : List FaultRecord) (place : ℕ) → Stands records place → Stands (first ∷ records) (suc place)
   further first records place stands = record { fault = stands.fault; at = stands.at; passes = stands.passes }
 
-  counted : (first : FaultRecord) (records : List FaultRecord) (is : Bool) → test first ≡ is → count_by test (first ∷ records) ≡ cond is 1 0 + count_by test records
+  pub counted : (first : FaultRecord) (records : List FaultRecord) (is : Bool) → test first ≡ is → count_by test (first ∷ records) ≡ cond is 1 0 + count_by test records
   counted first records is passes = sum_by-cons (λ (fault : FaultRecord). cond (test fault) 1 0) first records ∙ ap (λ b. cond b 1 0 + count_by test records) passes
 
   one_stands : (records : List FaultRecord) → 1 ≤ count_by test records → (place : ℕ) × Stands records place
@@ -50,11 +50,14 @@ module _ (test : FaultRecord → Bool) where
 
 -- ---- faults of a call's own
 
-abbrev is_inside : ℕ → ℕ → FaultRecord → Bool
-is_inside caller ordinal fault = (nat_eq fault.caller caller && nat_eq fault.ordinal ordinal) && (same_kind fault.kind Enter || (same_kind fault.kind Gather || same_kind fault.kind Finish))
+abbrev pub is_own_kind : Kind → Bool
+is_own_kind kind = same_kind kind Enter || (same_kind kind Gather || same_kind kind Finish)
+
+abbrev pub is_inside : ℕ → ℕ → FaultRecord → Bool
+is_inside caller ordinal fault = (nat_eq fault.caller caller && nat_eq fault.ordinal ordinal) && is_own_kind fault.kind
 
 -- it is of one kind alone
-one_kind : (mine : Bool) (kind : Kind) → cond (mine && (same_kind kind Enter || (same_kind kind Gather || same_kind kind Finish))) 1 0 ≡ cond (mine && same_kind kind Enter) 1 0 + (cond (mine && same_kind kind Gather) 1 0 + cond (mine && same_kind kind Finish) 1 0)
+one_kind : (mine : Bool) (kind : Kind) → cond (mine && is_own_kind kind) 1 0 ≡ cond (mine && same_kind kind Enter) 1 0 + (cond (mine && same_kind kind Gather) 1 0 + cond (mine && same_kind kind Finish) 1 0)
 one_kind false kind = omega arith
 one_kind true Enter = omega arith
 one_kind true Gather = omega arith
@@ -63,7 +66,7 @@ one_kind true Leave = omega arith
 one_kind true Remount = omega arith
 one_kind true Replay = omega arith
 
-all_inside : (caller ordinal : ℕ) (records : List FaultRecord) → count_by (is_inside caller ordinal) records ≡ strikes_inside records caller ordinal
+pub all_inside : (caller ordinal : ℕ) (records : List FaultRecord) → count_by (is_inside caller ordinal) records ≡ strikes_inside records caller ordinal
 all_inside caller ordinal [] = omega arith
 all_inside caller ordinal (fault ∷ records) =
     let rest = all_inside caller ordinal records in
@@ -74,7 +77,7 @@ all_inside caller ordinal (fault ∷ records) =
     let one = one_kind (nat_eq fault.caller caller && nat_eq fault.ordinal ordinal) fault.kind in
     omega (arith, rest, all, enters, gathers, finishes, one)
 
-own_kind : (kind : Kind) → (same_kind kind Enter || (same_kind kind Gather || same_kind kind Finish)) ≡ true → IsOwn kind
+own_kind : (kind : Kind) → is_own_kind kind ≡ true → IsOwn kind
 own_kind Enter is = tt
 own_kind Gather is = tt
 own_kind Finish is = tt
@@ -89,7 +92,7 @@ both false b is = cc
 named : (records : List FaultRecord) (caller ordinal place : ℕ) → Stands (is_inside caller ordinal) records place → Names records caller ordinal (place + 1)
 named records caller ordinal place stands =
     let fault = stands.fault in
-    let parts = both (nat_eq fault.caller caller && nat_eq fault.ordinal ordinal) (same_kind fault.kind Enter || (same_kind fault.kind Gather || same_kind fault.kind Finish)) stands.passes in
+    let parts = both (nat_eq fault.caller caller && nat_eq fault.ordinal ordinal) (is_own_kind fault.kind) stands.passes in
     let mine = both (nat_eq fault.caller caller) (nat_eq fault.ordinal ordinal) parts.0 in
     record {
       place = place;

@@ -12,7 +12,7 @@ use Rattle.mb_run.specs.Calm.{AreAllPlain, HoldsNowhere}
 use Rattle.mb_run.specs.Letters.{AreLetters, letters_of}
 use Rattle.mb_run.specs.Orders.{TakesAsked, asked_by, asked_in}
 use Rattle.mb_run.specs.Runs.{EntersFirst, FirstsRise, HasTakenFaults}
-use Rattle.mb_run.specs.Served.{AreSound, AreSoundBy, EntriesAreCalls, calls_in, calls_of, moments_in}
+use Rattle.mb_run.specs.Served.{AreSound, AreSoundBy, AreStruckOnce, EntriesAreCalls, calls_in, calls_of, moments_in}
 use Rattle.mb_run.specs.Timely.{IsTimely}
 use Rattle.mb_run.specs.Sights.{AreApart, IsOrderlyInSight, Sight, omitted_in, undue_in}
 use Rattle.mb_core_spec.specs.Copies.{no_pages}
@@ -46,6 +46,7 @@ pub record IsComplete (calls : List JobCall) (callers : ℕ) (test : Option (Cro
   pub own_calls : (caller : ℕ) → caller < callers → calls_in sight.history caller ≡ calls_of calls caller
   pub begun : sight.begun ≡ length sight.history
   pub sound : AreSound test sight.records
+  pub once : AreStruckOnce callers sight.history sight.records
 
 -- the moments of so many entries are the numbers after the start, each once
 pub record HasEachMoment (start : ℕ) (history : List Entry) : Type 0 where
@@ -95,6 +96,8 @@ pub record IsDriven (job : Job) (test : Option (Crossing → Bool)) (old new : S
   pub firsts : RisesByOrder job.order job.callers new.history
   pub enters : old.stage ≡ stage.Running → old.trail ≡ [] → EntersByOrder job.order job.callers job.calls test new
   pub sound : AreSound test new.records
+  -- a call that was struck twice before it had its entry has no plain reply
+  pub once : AreStruckOnce (length job.callers) new.history new.records
   pub taken : old.stage ≡ stage.Running → TakesByOrder job.order test new
   -- of the checkpoints no more were taken where none was due than the order asks for; each sync(2) has one right behind; and no
   -- call is told more than four times that a copy of its is stale
@@ -131,5 +134,6 @@ pub record IsDrivenApart (job : Job) (asked : ℕ) (tests : ℕ → Option (Cros
   pub begun : new.begun ≡ length new.history
   pub moments : HasEachMoment job.start new.history
   pub sound : AreSoundBy tests new.records
+  pub once : AreStruckOnce (length job.callers) new.history new.records
   pub seals : undue_in new ≤ undue_in old + asked
   pub prompt : omitted_in new ≤ omitted_in old

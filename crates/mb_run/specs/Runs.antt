@@ -65,13 +65,6 @@ abbrev pub NamesTwo : List FaultRecord → Entry → Reply → Type 0
 NamesTwo records entry (reply.Restart first second) = IsTwice records entry.caller entry.ordinal first second
 NamesTwo records entry _ = Unit {0}
 
-pub record HasRecords (plan : List Rule) (history : List Entry) (records : List FaultRecord) : Type 0 where
-  pub planned : AllByRecursion (λ (fault : FaultRecord). fires plan (crossing_of fault) ≡ true) records
-  pub distinct : AreDistinct records
-  pub twice : AllByRecursion (λ (entry : Entry). NamesTwo records entry entry.reply) history
-
--- ---- in list order: faults that are planned are taken
-
 abbrev pub is_of : ℕ → ℕ → Kind → FaultRecord → Bool
 is_of caller ordinal kind fault = (nat_eq fault.caller caller && nat_eq fault.ordinal ordinal) && same_kind fault.kind kind
 
@@ -82,6 +75,18 @@ strikes_of records caller ordinal kind = count_by (is_of caller ordinal kind) re
 -- how many struck it before it had its entry, but in a recovery
 abbrev pub strikes_inside : List FaultRecord → ℕ → ℕ → ℕ
 strikes_inside records caller ordinal = strikes_of records caller ordinal Enter + (strikes_of records caller ordinal Gather + strikes_of records caller ordinal Finish)
+
+-- an entry with a plain reply is of a call that was struck once at most before it had it
+abbrev pub IsStruckOnceIfPlain : List FaultRecord → Entry → Type 0
+IsStruckOnceIfPlain records entry = is_plain entry.reply ≡ true → strikes_inside records entry.caller entry.ordinal ≤ 1
+
+pub record HasRecords (plan : List Rule) (history : List Entry) (records : List FaultRecord) : Type 0 where
+  pub planned : AllByRecursion (λ (fault : FaultRecord). fires plan (crossing_of fault) ≡ true) records
+  pub distinct : AreDistinct records
+  pub twice : AllByRecursion (λ (entry : Entry). NamesTwo records entry entry.reply) history
+  pub once : AllByRecursion (IsStruckOnceIfPlain records) history
+
+-- ---- in list order: faults that are planned are taken
 
 -- how many began a recovery that the call runs, or began it anew
 abbrev pub recoveries_of : List FaultRecord → ℕ → ℕ → ℕ

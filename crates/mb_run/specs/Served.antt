@@ -18,6 +18,7 @@ use Rattle.mb_run.specs.Recovering.{crossing_of, next_of}
 use Rattle.mb_run.specs.Sights.{Sight, Seat, SeatHasTicket, IsOld, IsOrderlyInSight, IsWaiting, one_if, recovers}
 use Rattle.mb_run.specs.Events.{StrikesCall}
 use Rattle.mb_run.specs.Firsts.{KeepsFirsts}
+use Rattle.mb_run.specs.Runs.{IsStruckOnceIfPlain, strikes_inside}
 use Rattle.mb_run.specs.Seals.{TrailGoesOn}
 use Rattle.mb_run.specs.Timely.{IsTimely}
 use Rattle.mb_jobs.specs.declared.jobs.JobCall.{JobCall}
@@ -72,6 +73,16 @@ IsMarked answered (Some flight) = flight.answered ≡ answered
 abbrev pub IsCounted : Crossings → FaultRecord → Type 0
 IsCounted crossings fault = fault.caller ≡ crossings.caller → (fault.ordinal < crossings.ordinal) ⊎ ((fault.ordinal ≡ crossings.ordinal) × (fault.nth ≤ slice_index crossings.counts (place_of fault.kind)))
 
+-- an entry of this caller is of an earlier call, or of this one, which has it; and with a plain reply it is of a call that was
+-- struck once at most before
+abbrev pub IsPastOnce : List FaultRecord → Crossings → Bool → Entry → Type 0
+IsPastOnce records crossings answered entry = entry.caller ≡ crossings.caller → (entry.ordinal < crossings.ordinal + one_if answered) × IsStruckOnceIfPlain records entry
+
+-- a call that is inside was struck once at most
+abbrev pub IsInsideOnce : List FaultRecord → Crossings → At → Type 0
+IsInsideOnce records crossings (at.Inside ticket) = strikes_inside records crossings.caller crossings.ordinal ≤ 1
+IsInsideOnce records crossings _ = Unit {0}
+
 pub record IsServedSoFar (list : List Call) (sight : Sight) (caller : ℕ) (runner : Runner) : Type 0 where
   pub caller_is : runner.crossings.caller ≡ caller
   pub ordinal : runner.crossings.ordinal ≡ runner.done + 1
@@ -79,6 +90,8 @@ pub record IsServedSoFar (list : List Call) (sight : Sight) (caller : ℕ) (runn
   pub stands : IsStanding sight caller runner.pages runner.at
   pub marked : IsMarked runner.answered (sight.seats caller).flight
   pub counted : AllByRecursion (IsCounted runner.crossings) sight.records
+  pub past : AllByRecursion (IsPastOnce sight.records runner.crossings runner.answered) sight.history
+  pub once : IsInsideOnce sight.records runner.crossings runner.at
 
 -- ---- the records of all callers
 
@@ -323,6 +336,10 @@ pub record IsAfter (calls : List JobCall) (test : Option (Crossing → Bool)) (s
   pub lined : IsLined sight.config.start sight.history sight.begun
   pub done : (caller : ℕ) (runner : Runner) → slice_get runners caller ≡ Some runner → runner.done ≡ length (calls_of (take index calls) caller)
 
+-- the entries of so many callers, with plain replies, are of calls that were struck once at most before
+abbrev pub AreStruckOnce : ℕ → List Entry → List FaultRecord → Type 0
+AreStruckOnce callers history records = AllByRecursion (λ (entry : Entry). entry.caller < callers → IsStruckOnceIfPlain records entry) history
+
 -- a job that was run in list order; none of its calls is in flight
 pub record IsRunInOrder (calls : List JobCall) (callers : ℕ) (test : Option (Crossing → Bool)) (sight : Sight) : Type 0 where
   pub free : (caller : ℕ) → caller < callers → (sight.seats caller).flight ≡ None
@@ -331,6 +348,7 @@ pub record IsRunInOrder (calls : List JobCall) (callers : ℕ) (test : Option (C
   pub moments : moments_in sight.history ≡ range_with_len (sight.config.start + 1) (length sight.history)
   pub begun : sight.begun ≡ length sight.history
   pub sound : AreSound test sight.records
+  pub once : AreStruckOnce callers sight.history sight.records
 
 -- ---- a call that met want of memory
 

@@ -32,9 +32,9 @@ use Rattle.mb_volume.specs.Called.{AreOfFirst}
 use Rattle.mb_volume.specs.Parts.{Part, part_of}
 use Rattle.mb_volume.specs.Shared.{Shared}
 use Rattle.mb_threads.specs.Driven.{test_of}
-use Rattle.mb_threads.specs.Workers.{HasMadeCalls, IsReady}
+use Rattle.mb_threads.specs.Workers.{HasMadeCalls, IsReady, MetOnceIfPlain}
 use Rattle.mb_threads.proofs.Covering.{all_and}
-use Rattle.mb_threads.proofs.Gathering.{apart_by, begun_all}
+use Rattle.mb_threads.proofs.Gathering.{apart_by, begun_all, once_of_parts}
 use Rattle.mb_threads.proofs.Together.{holds_by, map_long, none_other}
 
 -- a core that was begun for a job: each caller may make its calls
@@ -49,6 +49,8 @@ ready_new table value job begun caller t =
         seat = begun.seats caller;
         first = subst (AreOfFirst 0) (sym none) tt;
         sound = subst (AreSound t) (sym none) (record { holds = tt; apart = tt });
+        ordinals = subst (λ (h : List Entry). AllByRecursion (λ (e : Entry). e.ordinal ≤ 0) (own h caller)) (sym begun.history) tt;
+        once = subst (λ (h : List Entry). AllByRecursion (MetOnceIfPlain (part_of (sight_of value.core.core) caller).struck) (own h caller)) (sym begun.history) tt;
       };
     }
 
@@ -107,6 +109,7 @@ module _ {F D : Type 0} (told : D → Option Image) (faults : D → ℕ) (core o
           (λ f is holds. subst (λ n. IfSome (test_of tests n) (λ fires. fires (crossing_of f) ≡ true)) (sym is) holds) (records_callers core.journal.records caller) (made caller low).sound.holds) recorded;
       apart = apart_by core.journal.records each_apart;
     };
+    once = once_of_parts (sight_of core) (length job.callers) (λ caller low. (made caller low).once);
     seals = omega (arith, low, none_taken, none_left_out);
     prompt = omega (arith, low, none_taken, none_left_out);
   }

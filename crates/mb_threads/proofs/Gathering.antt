@@ -9,7 +9,14 @@ use Rattle.mb_kinds.specs.Own.{own}
 use Rattle.mb_kinds.specs.declared.entries.Entry.{Entry}
 use Rattle.mb_kinds.specs.declared.faults.FaultRecord.{FaultRecord}
 use Rattle.mb_run.proofs.Lists.{all_map, neq}
-use Rattle.mb_run.specs.Served.{AreApart, IsApart}
+use Rattle.mb_run.specs.Runs.{IsStruckOnceIfPlain, strikes_inside}
+use Rattle.mb_run.specs.Served.{AreApart, AreStruckOnce, IsApart}
+use Rattle.mb_run.specs.Sights.{Sight}
+use Rattle.mb_volume.specs.Parts.{part_of}
+use Rattle.mb_volume.proofs.Once.{own_strikes}
+use Rattle.mb_volume.proofs.Telling.{own_callers}
+use Rattle.mb_threads.specs.Workers.{MetOnceIfPlain}
+use Rattle.mb_threads.proofs.Covering.{all_and}
 
 -- ---- every call that was begun has its entry
 
@@ -44,3 +51,22 @@ apart_by (fault ∷ records) each =
         | false ↦ λ all. all
       ] (each caller)),
     )
+
+-- ---- no call was struck twice before it had its entry and then answered plainly
+
+each_own : (P : Entry → Type 0) (history : List Entry) (count : ℕ) → ((caller : ℕ) → caller < count → AllByRecursion P (own history caller)) → AllByRecursion (λ (e : Entry). e.caller < count → P e) history
+each_own P [] count each = tt
+each_own P (entry ∷ history) count each = (
+  (λ low. (let mine : AllByRecursion P (entry ∷ own history entry.caller) = subst (λ b. AllByRecursion P (cond b (entry ∷ own history entry.caller) (own history entry.caller))) (eq-eqb entry.caller entry.caller refl) (each entry.caller low) in mine.0)),
+  each_own P history count (λ caller low. elim (nat_eq entry.caller caller) as (λ b. AllByRecursion P (cond b (entry ∷ own history caller) (own history caller)) → AllByRecursion P (own history caller)) [
+    | true ↦ λ all. all.1
+    | false ↦ λ all. all
+  ] (each caller low)),
+)
+
+pub once_of_parts : (sight : Sight) (callers : ℕ) → ((caller : ℕ) → caller < callers → AllByRecursion (MetOnceIfPlain (part_of sight caller).struck) (part_of sight caller).entries)
+    → AreStruckOnce callers sight.history sight.records
+once_of_parts sight callers each =
+    each_own (IsStruckOnceIfPlain sight.records) sight.history callers
+    (λ caller low. all_and (λ (e : Entry). e.caller ≡ caller) (MetOnceIfPlain (records_of sight.records caller)) (IsStruckOnceIfPlain sight.records) (own sight.history caller)
+    (λ e mine once plain. subst (λ n. strikes_inside sight.records n e.ordinal ≤ 1) (sym mine) (let same = own_strikes sight.records caller e.ordinal in let few = once plain in omega (arith, same, few))) (own_callers sight.history caller) (each caller low))

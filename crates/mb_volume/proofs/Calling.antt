@@ -11,7 +11,7 @@ use Rattle.mb_volume.specs.Attempts.{new_attempt}
 use Rattle.mb_volume.specs.Called.{IsAnsweredWith, CallIsGivenUp, Suffers}
 use Rattle.mb_volume.specs.Parts.{Part}
 use Rattle.mb_volume.specs.Passing.{part_in}
-use Rattle.mb_volume.specs.Underway.{AddsEntryIf, IsBegunIf, FlightIsCall, IsLeftOff, StruckSoFar, IsCallUnderway, FlightLacksEntry, LeadsCallOn}
+use Rattle.mb_volume.specs.Underway.{AddsEntryIf, IsBegunIf, FlightIsCall, IsLeftOff, StruckSoFar, IsCallUnderway, FlightHasEntry, FlightLacksEntry, LeadsCallOn}
 use Rattle.mb_volume.specs.declared.attempt.Attempt.{Attempt}
 use Rattle.mb_volume.specs.declared.events.Came.TheVariants as came
 use Rattle.mb_volume.specs.Shared.{Shared}
@@ -30,6 +30,7 @@ underway_new call test from caller begun low below free same = record {
   stands = tt;
   tables = tt;
   struck = struck_none test (new_attempt caller begun).crossings from.struck;
+  once = λ has. absurd (subst FlightHasEntry free has);
 }
 
 module _ (call : Call) (test : Option (Crossing → Bool)) (from mid : Part) (attempt : Attempt) (u : IsCallUnderway call test from mid attempt) (lacks : FlightLacksEntry mid.seat.flight) where

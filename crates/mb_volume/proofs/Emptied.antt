@@ -27,6 +27,7 @@ emptied call test from now attempt u = record {
   stands = u.stands;
   tables = tt;
   struck = u.struck;
+  once = u.once;
 }
 
 pub same_crossings : (e : Event) (attempt : Attempt) → (without_pages e attempt).crossings ≡ attempt.crossings

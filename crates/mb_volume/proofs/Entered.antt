@@ -12,18 +12,20 @@ use Rattle.mb_kinds.specs.declared.replies.Reply.{Reply}
 use Rattle.mb_core_spec.specs.State.{records_of}
 use Rattle.mb_run.proofs.Lists.{own_mine}
 use Rattle.mb_run.proofs.Amiss.{enters_amiss, still_amiss}
-use Rattle.mb_run.specs.Events.{Answers, BeginsFlight, EntersInSight, EndsFlight, entry_of}
+use Rattle.mb_run.specs.Events.{Answers, BeginsFlight, EntersInSight, EndsFlight, IsUnplain, entry_of}
 use Rattle.mb_run.specs.Pages.{HasTablesFor}
 use Rattle.mb_run.specs.Sights.{Limits, Seat, Sight, flight_of}
 use Rattle.mb_run.specs.declared.answers.Enter.TheVariants as enter
 use Rattle.mb_run.specs.declared.runner.At.TheVariants as at
 use Rattle.mb_volume.specs.Attempts.{going_in}
-use Rattle.mb_volume.specs.Called.{Suffers}
+use Rattle.mb_volume.specs.Called.{MetOnce, Suffers}
 use Rattle.mb_volume.specs.Parts.{MovesPart, Part, part_of}
-use Rattle.mb_volume.specs.Underway.{AddsEntry, AddsEntryIf, Comes, HasItsAnswer, IsBegunIf, FlightIsCall, IsReplyIn, StruckSoFar, IsCallUnderway, FlightLacksEntry, PlaceStands}
+use Rattle.mb_volume.specs.Underway.{AddsEntry, AddsEntryIf, Comes, HasItsAnswer, IsBegunIf, FlightIsCall, IsReplyIn, StruckSoFar, IsCallUnderway, FlightHasEntry, FlightLacksEntry, HasMetOnce, PlaceStands}
 use Rattle.mb_volume.specs.declared.attempt.Attempt.{Attempt}
 use Rattle.mb_volume.specs.declared.events.Came.TheVariants as came
 use Rattle.mb_volume.proofs.Changing.{moves_entry, moves_same, moves_stays}
+use Rattle.mb_volume.proofs.Marking.{lacks_entry, unplain_not}
+use Rattle.mb_volume.proofs.Once.{once_inside, once_with}
 use Rattle.mb_volume.proofs.Replies.{own_reply}
 use Rattle.mb_volume.proofs.Standing.{IsFlight, flight_now, flying, lacks_if}
 use Rattle.mb_volume.proofs.Struck.{suffers_of}
@@ -51,12 +53,14 @@ module _ (call : Call) (test : Option (Crossing → Bool)) (from : Part) (old : 
         entry = subst (AddsEntry attempt.crossings.caller (from.seat.begun + 1) call from.entries) (sym entries) added;
         reply = subst (λ es. IsReplyIn es (from.seat.begun + 1) answer) (sym entries) (subst (λ n. IsReplyIn (own old.history attempt.crossings.caller) n answer) flies.ordinal handed);
         suffers = suffers_now new leaves.stays.records;
+        once = λ plain. subst (λ n. MetOnce n (part_of new attempt.crossings.caller).struck) u.ordinal (subst (MetOnce attempt.crossings.ordinal) (sym (struck_still attempt.crossings.caller old new leaves.stays.records))
+            (once_with attempt.crossings.ordinal (part_of old attempt.crossings.caller) attempt.at (subst FlightHasEntry (sym leaves.was) leaves.answered) u.once));
       }
 
   -- a flight without an entry gets one and ends
-  pub answered_by : (new : Sight) (flight : Flight) (answer : Reply) → IsFlight call from (part_of old attempt.crossings.caller) flight → flight.answered ≡ false → Answers attempt.crossings.caller flight answer old new
+  pub answered_by : (new : Sight) (flight : Flight) (answer : Reply) → IsUnplain answer → IsFlight call from (part_of old attempt.crossings.caller) flight → flight.answered ≡ false → Answers attempt.crossings.caller flight answer old new
       → HasItsAnswer call test attempt.crossings.caller from (part_of new attempt.crossings.caller) answer
-  answered_by new flight answer is lacks answers = record {
+  answered_by new flight answer unplain is lacks answers = record {
     config = answers.stays.config ∙ u.config;
     seat = answers.mine ∙ ap (λ n. record { begun = n; flight = None }) is.ordinal;
     entry = record {
@@ -75,6 +79,7 @@ module _ (call : Call) (test : Option (Crossing → Bool)) (from : Part) (old : 
       reply_is = refl;
     };
     suffers = suffers_now new answers.stays.records;
+    once = λ plain. absurd (unplain_not answer unplain plain);
   }
 
   -- the flight of a call that begins, or goes on
@@ -89,8 +94,9 @@ module _ (call : Call) (test : Option (Crossing → Bool)) (from : Part) (old : 
   }
 
   underway_begins : (new : Sight) (flight : Flight) (now : Attempt) → now.crossings ≡ attempt.crossings → IsFlight call from (part_of old attempt.crossings.caller) flight → flight.answered ≡ false → BeginsFlight attempt.crossings.caller flight old new
-      → PlaceStands attempt.crossings.caller (new.seats attempt.crossings.caller) now.at → HasTablesFor new.config.callers now.pages → IsCallUnderway call test from (part_of new attempt.crossings.caller) (record now { crossings = attempt.crossings })
-  underway_begins new flight now same is lacks begins stands tables = record {
+      → PlaceStands attempt.crossings.caller (new.seats attempt.crossings.caller) now.at → HasTablesFor new.config.callers now.pages
+      → HasMetOnce attempt.crossings.ordinal (part_of new attempt.crossings.caller) now.at → IsCallUnderway call test from (part_of new attempt.crossings.caller) (record now { crossings = attempt.crossings })
+  underway_begins new flight now same is lacks begins stands tables once = record {
     config = begins.stays.config ∙ u.config;
     within = u.within;
     most = u.most;
@@ -100,6 +106,7 @@ module _ (call : Call) (test : Option (Crossing → Bool)) (from : Part) (old : 
     stands = stands;
     tables = tables;
     struck = subst (StruckSoFar test attempt.crossings from.struck) (sym (struck_still attempt.crossings.caller old new begins.stays.records)) u.struck;
+    once = once;
   }
 
   -- ---- by the answers
@@ -107,14 +114,15 @@ module _ (call : Call) (test : Option (Crossing → Bool)) (from : Part) (old : 
   pub comes_done : (new : Sight) (now : Attempt) (answer : Reply) → EntersInSight old new attempt.crossings.caller call (enter.Done answer) → Comes call test attempt.crossings.caller from (part_of new attempt.crossings.caller) now (came.Answered answer)
   comes_done new now answer enters = elim enters [
     | inl left ↦ answered_leaves new left.0 answer left.1 (own_reply old.history attempt.crossings.caller left.0.ordinal answer left.2)
-    | inr made ↦ answered_by new (flight_of old attempt.crossings.caller call (old.seats attempt.crossings.caller).flight) answer (flight_now call test from old attempt u) made.0 made.2
+    | inr made ↦ answered_by new (flight_of old attempt.crossings.caller call (old.seats attempt.crossings.caller).flight) answer made.1 (flight_now call test from old attempt u) made.0 made.2
   ]
 
   pub comes_shut : (new : Sight) → attempt.at ≡ at.Outside → EntersInSight old new attempt.crossings.caller call enter.Shut → Comes call test attempt.crossings.caller from (part_of new attempt.crossings.caller) attempt came.Shut
   comes_shut new outside enters =
       let flight = flight_of old attempt.crossings.caller call (old.seats attempt.crossings.caller).flight in (
         underway_begins new flight attempt refl (flight_now call test from old attempt u) enters.1 enters.2 (subst (PlaceStands attempt.crossings.caller (new.seats attempt.crossings.caller)) (sym outside) tt)
-            (subst (λ (l : Limits). HasTablesFor l.callers attempt.pages) (sym enters.2.stays.config) u.tables),
+            (subst (λ (l : Limits). HasTablesFor l.callers attempt.pages) (sym enters.2.stays.config) u.tables)
+            (subst (HasMetOnce attempt.crossings.ordinal (part_of new attempt.crossings.caller)) (sym outside) (λ has. absurd (lacks_entry (Some flight) enters.1 (subst FlightHasEntry (ap (λ (s : Seat). s.flight) enters.2.mine) has)))),
         (flight, ap (λ (s : Seat). s.flight) enters.2.mine, enters.1),
       )
 
@@ -126,7 +134,9 @@ module _ (call : Call) (test : Option (Crossing → Bool)) (from : Part) (old : 
       let is = flight_now call test from old attempt u in
       let made : IsFlight call from (part_of old attempt.crossings.caller) flight = record { call_is = is.call_is; ordinal = is.ordinal; lacks = is.lacks } in (
         underway_begins new flight (going_in attempt ticket) refl made enters.lacks enters.begins
-            (record { flight = flight; here = ap (λ (s : Seat). s.flight) enters.begins.mine; mine = refl; ordinal = enters.ordinal; moment = enters.moment; answered = enters.lacks }, enters.own) tt,
+            (record { flight = flight; here = ap (λ (s : Seat). s.flight) enters.begins.mine; mine = refl; ordinal = enters.ordinal; moment = enters.moment; answered = enters.lacks }, enters.own) tt
+            (subst (MetOnce attempt.crossings.ordinal) (sym (struck_still attempt.crossings.caller old new enters.begins.stays.records))
+            (subst (λ n. MetOnce n (part_of old attempt.crossings.caller).struck) (is.ordinal ∙ sym u.ordinal) (once_inside old.records attempt.crossings.caller was.ordinal enters.once))),
         refl,
       )
 

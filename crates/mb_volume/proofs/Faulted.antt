@@ -21,12 +21,13 @@ use Rattle.mb_run.specs.declared.runner.At.{At}
 use Rattle.mb_run.specs.declared.runner.At.TheVariants as at
 use Rattle.mb_volume.specs.Attempts.{back_out}
 use Rattle.mb_volume.specs.Parts.{MovesPart, Part, part_of}
-use Rattle.mb_volume.specs.Underway.{AddsEntryIf, Comes, PlaceHoldsTicket, IsBegunIf, FlightIsCall, IsMetNext, StruckSoFar, IsCallUnderway, PlaceStands}
+use Rattle.mb_volume.specs.Underway.{AddsEntryIf, Comes, PlaceHoldsTicket, IsBegunIf, FlightIsCall, HasMetOnce, IsMetNext, StruckSoFar, IsCallUnderway, PlaceStands}
 use Rattle.mb_volume.specs.declared.attempt.Attempt.{Attempt}
 use Rattle.mb_volume.specs.declared.events.Came.TheVariants as came
 use Rattle.mb_run.proofs.Amiss.{faults_amiss}
 use Rattle.mb_volume.proofs.Changing.{moves_records, records_push}
 use Rattle.mb_volume.proofs.Entered.{moves_nothing}
+use Rattle.mb_volume.proofs.Once.{once_faulted, once_out}
 use Rattle.mb_volume.proofs.Standing.{flying}
 use Rattle.mb_volume.proofs.Struck.{struck_on, struck_push}
 
@@ -54,17 +55,34 @@ module _ (call : Call) (test : Option (Crossing → Bool)) (from now : Part) (at
     stands = subst (λ n. PlaceStands n now.seat attempt.at) (sym on.caller) u.stands;
     tables = u.tables;
     struck = struck_on test attempt.crossings crossings from.struck now.struck on u.struck;
+    once = subst (λ n. HasMetOnce n now attempt.at) (sym on.ordinal) u.once;
   }
 
   pub underway_counted : (kind : Kind) → IsCallUnderway call test from now (record attempt { crossings = counted attempt.crossings kind })
   underway_counted kind = underway_on (counted attempt.crossings kind) (counted_goes attempt.crossings kind u.counts)
 
+  -- it has to enter again
+  underway_out : IsCallUnderway call test from now (back_out attempt)
+  underway_out = record {
+    config = u.config;
+    within = u.within;
+    most = u.most;
+    ordinal = u.ordinal;
+    counts = u.counts;
+    begun = u.begun;
+    stands = tt;
+    tables = tt;
+    struck = u.struck;
+    once = once_out attempt.crossings.ordinal now attempt.at u.once;
+  }
+
 module _ (call : Call) (test : Option (Crossing → Bool)) (from : Part) (old : Sight) (attempt : Attempt) (u : IsCallUnderway call test from (part_of old attempt.crossings.caller) attempt) where
   -- the call in flight passed some crossings, and was struck at one of them
   pub underway_struck : (new : Sight) (crossings : Crossings) (taken : FaultRecord) (flight : Flight) → (old.seats attempt.crossings.caller).flight ≡ Some flight → CrossingsGoOn attempt.crossings crossings
       → FaultIsTaken test attempt.crossings crossings taken → new.config ≡ old.config → new.history ≡ old.history → new.seats attempt.crossings.caller ≡ old.seats attempt.crossings.caller → new.records ≡ old.records ++ taken ∷ []
+      → ((part_of new attempt.crossings.caller).struck ≡ (part_of old attempt.crossings.caller).struck ++ taken ∷ [] → HasMetOnce attempt.crossings.ordinal (part_of new attempt.crossings.caller) attempt.at)
       → IsCallUnderway call test from (part_of new attempt.crossings.caller) (record attempt { crossings = crossings })
-  underway_struck new crossings taken flight here on is config history seat records =
+  underway_struck new crossings taken flight here on is config history seat records once =
       let was = underway_on call test from (part_of old attempt.crossings.caller) attempt u crossings on in
       let flies = flying call test from old attempt u flight here in
       let struck : records_of new.records attempt.crossings.caller ≡ records_of old.records attempt.crossings.caller ++ taken ∷ [] =
@@ -88,8 +106,10 @@ module _ (call : Call) (test : Option (Crossing → Bool)) (from : Part) (old : 
         stands = subst (λ (s : Seat). PlaceStands crossings.caller s attempt.at) (sym seat) was.stands;
         tables = rw config u.tables;
         struck = subst (StruckSoFar test crossings from.struck) (sym struck) (struck_push test attempt.crossings crossings from.struck (records_of old.records attempt.crossings.caller) taken on is u.struck);
+        once = subst (λ n. HasMetOnce n (part_of new attempt.crossings.caller) attempt.at) (sym on.ordinal) (once struck);
       }
 
+module _ (call : Call) (test : Option (Crossing → Bool)) (from : Part) (old : Sight) (attempt : Attempt) (u : IsCallUnderway call test from (part_of old attempt.crossings.caller) attempt) where
   module _ (ticket : Ticket) (holds : PlaceHoldsTicket attempt.at ticket) where
     pub stood : Stood attempt.crossings.caller (old.seats attempt.crossings.caller) ticket
     stood = stood_at attempt.crossings.caller (old.seats attempt.crossings.caller) attempt.at ticket holds u.stands
@@ -134,13 +154,14 @@ module _ (call : Call) (test : Option (Crossing → Bool)) (from : Part) (old : 
     passes : CrossingsGoOn attempt.crossings passed
     passes = subst (CrossingsGoOn attempt.crossings) (sym met.passed_is) (counted_goes attempt.crossings crossing.kind u.counts)
 
-    back : (part : Part) → IsCallUnderway call test from part (record attempt { crossings = passed }) → IsCallUnderway call test from part (back_out (record attempt { crossings = passed }))
-    back part v = record { config = v.config; within = v.within; most = v.most; ordinal = v.ordinal; counts = v.counts; begun = v.begun; stands = tt; tables = tt; struck = v.struck }
-
     pub comes_faulted : (new : Sight) (answer : Fault) → FaultsWith old new ticket crossing.kind crossing.nth answer
         → Comes call test attempt.crossings.caller from (part_of new attempt.crossings.caller) (back_out (record attempt { crossings = passed })) came.On
     comes_faulted new (fault.Skip mine was) faults =
-        subst (λ (s : Sight). IsCallUnderway call test from (part_of s attempt.crossings.caller) (back_out (record attempt { crossings = passed }))) (sym faults.1) (back (part_of old attempt.crossings.caller) (underway_on call test from (part_of old attempt.crossings.caller) attempt u passed passes))
+        subst (λ (s : Sight). IsCallUnderway call test from (part_of s attempt.crossings.caller) (back_out (record attempt { crossings = passed }))) (sym faults.1)
+        (underway_out call test from (part_of old attempt.crossings.caller) (record attempt { crossings = passed }) (underway_on call test from (part_of old attempt.crossings.caller) attempt u passed passes))
     comes_faulted new (fault.Struck number) faults =
         let is = stood ticket holds in
-        back (part_of new attempt.crossings.caller) (underway_struck new passed (taken ticket holds test struck crossing passed met) is.has.flight is.has.here passes was_taken faults.1.config faults.1.counts.history (faults.1.seats attempt.crossings.caller) faults.1.records)
+        underway_struck call test from old (back_out attempt) (underway_out call test from (part_of old attempt.crossings.caller) attempt u) new passed (taken ticket holds test struck crossing passed met) is.has.flight is.has.here passes was_taken faults.1.config
+        faults.1.counts.history (faults.1.seats attempt.crossings.caller) faults.1.records
+        (λ more. once_faulted attempt.crossings.caller attempt.crossings.ordinal (part_of old attempt.crossings.caller) (part_of new attempt.crossings.caller) (taken ticket holds test struck crossing passed met) attempt.at ticket holds u.stands met.leaves
+        (faults.1.seats attempt.crossings.caller) more u.once)

@@ -18,7 +18,8 @@ use Rattle.mb_run.specs.Tallies.{count_of, is_logged}
 use Rattle.mb_run.specs.declared.runner.At.TheVariants as at
 use Rattle.mb_volume.specs.Attempts.{new_attempt}
 use Rattle.mb_volume.specs.Called.{RisesAtFirst, TakesFirsts, is_on_way}
-use Rattle.mb_volume.specs.Passed.{EnteredBy, FlightHasEntry, HasFinished, HasHeard, HasPassed, HasPassedAt, HeardBy, Hears, HearsAt, HearsFault, IsCalm, IsHeard, IsPastEnter, IsPastLeave, KeepsOwn, PassedBy}
+use Rattle.mb_volume.specs.Passed.{EnteredBy, HasFinished, HasHeard, HasPassed, HasPassedAt, HeardBy, Hears, HearsAt, HearsFault, IsCalm, IsHeard, IsPastEnter, IsPastLeave, KeepsOwn, PassedBy}
+use Rattle.mb_volume.specs.Underway.{FlightHasEntry}
 use Rattle.mb_volume.specs.declared.attempt.Attempt.{Attempt}
 use Rattle.mb_volume.specs.declared.events.Came.{Came}
 use Rattle.mb_volume.specs.declared.events.Came.TheVariants as came
@@ -164,6 +165,9 @@ asked_there old mid kind are counts = subst (λ (a : Attempt). count_of a.crossi
 
 pub not_logged : (attempt : Attempt) (ticket : Ticket) (crossings : Crossings) → attempt.at ≡ at.Inside ticket → is_logged attempt.at ≡ 1 → IsPastLeave crossings
 not_logged attempt ticket crossings inside logged = absurd (let both : 0 ≡ 1 = sym (ap is_logged inside) ∙ logged in omega (arith, both))
+
+pub inside_leaves : (attempt : Attempt) (ticket : Ticket) (kind : Kind) → attempt.at ≡ at.Inside ticket → is_logged attempt.at ≡ 1 → kind ≡ Leave
+inside_leaves attempt ticket kind inside logged = absurd (let both : 0 ≡ 1 = sym (ap is_logged inside) ∙ logged in omega (arith, both))
 
 pub past_leave : (seat : Seat) (attempt : Attempt) (ticket : Ticket) → AreSixCounts attempt.crossings → attempt.at ≡ at.Logged ticket → HasPassed seat.flight attempt → IsPastLeave (counted attempt.crossings Leave)
 past_leave seat attempt ticket are logged passed =

@@ -25,12 +25,14 @@ use Rattle.mb_run.specs.Seals.{is_due}
 use Rattle.mb_run.specs.Sights.{SeatHasTicket, Limits, Seat, Sight, amiss_in}
 use Rattle.mb_run.specs.declared.runner.At.TheVariants as at
 use Rattle.mb_volume.specs.Attempts.{back_out, going_in}
+use Rattle.mb_volume.specs.Called.{MetOnce}
 use Rattle.mb_volume.specs.Parts.{MovesPart, Part, part_of}
-use Rattle.mb_volume.specs.Underway.{AddsEntry, AddsEntryIf, Comes, IsBegunIf, FlightIsCall, IsReplyIn, StruckSoFar, IsCallUnderway, FlightLacksEntry, PlaceStands}
+use Rattle.mb_volume.specs.Underway.{AddsEntry, AddsEntryIf, Comes, IsBegunIf, FlightIsCall, IsReplyIn, StruckSoFar, IsCallUnderway, FlightLacksEntry, HasMetOnce, PlaceStands}
 use Rattle.mb_volume.specs.declared.attempt.Attempt.{Attempt}
 use Rattle.mb_volume.specs.declared.events.Came.TheVariants as came
 use Rattle.mb_volume.proofs.Changing.{moves_entry, moves_stays, part_is}
 use Rattle.mb_volume.proofs.Entered.{answered_by, answered_leaves, moves_nothing, struck_still}
+use Rattle.mb_volume.proofs.Once.{once_out}
 use Rattle.mb_volume.proofs.Replies.{own_reply}
 use Rattle.mb_volume.proofs.Standing.{IsFlight, flying}
 
@@ -57,13 +59,24 @@ sealed_moves false caller old mid new entry seals low stays mine history =
 module _ (call : Call) (test : Option (Crossing → Bool)) (from : Part) (old : Sight) (attempt : Attempt) (u : IsCallUnderway call test from (part_of old attempt.crossings.caller) attempt) where
   -- the call has to enter again
   pub underway_back : IsCallUnderway call test from (part_of old attempt.crossings.caller) (back_out attempt)
-  underway_back = record { config = u.config; within = u.within; most = u.most; ordinal = u.ordinal; counts = u.counts; begun = u.begun; stands = tt; tables = tt; struck = u.struck }
+  underway_back = record {
+    config = u.config;
+    within = u.within;
+    most = u.most;
+    ordinal = u.ordinal;
+    counts = u.counts;
+    begun = u.begun;
+    stands = tt;
+    tables = tt;
+    struck = u.struck;
+    once = once_out attempt.crossings.ordinal (part_of old attempt.crossings.caller) attempt.at u.once;
+  }
 
   pub comes_back : (new : Sight) → new ≡ old → Comes call test attempt.crossings.caller from (part_of new attempt.crossings.caller) (back_out attempt) came.On
   comes_back new same = subst (λ (s : Sight). IsCallUnderway call test from (part_of s attempt.crossings.caller) (back_out attempt)) (sym same) underway_back
 
   pub underway_asked : IsCallUnderway call test from (part_of old attempt.crossings.caller) (record attempt { asked = true })
-  underway_asked = record { config = u.config; within = u.within; most = u.most; ordinal = u.ordinal; counts = u.counts; begun = u.begun; stands = u.stands; tables = u.tables; struck = u.struck }
+  underway_asked = record { config = u.config; within = u.within; most = u.most; ordinal = u.ordinal; counts = u.counts; begun = u.begun; stands = u.stands; tables = u.tables; struck = u.struck; once = u.once }
 
   pub comes_busy : (new : Sight) → new ≡ old → Comes call test attempt.crossings.caller from (part_of new attempt.crossings.caller) (record attempt { asked = true }) came.Busy
   comes_busy new same = subst (λ (s : Sight). IsCallUnderway call test from (part_of s attempt.crossings.caller) (record attempt { asked = true })) (sym same) underway_asked
@@ -93,9 +106,12 @@ module _ (call : Call) (test : Option (Crossing → Bool)) (from : Part) (old : 
       lacks = λ lacks. subst (λ b. AddsEntryIf b attempt.crossings.caller (from.seat.begun + 1) call from.entries (own old.history attempt.crossings.caller)) lacks flies.entered;
     }
 
+    once_inside : MetOnce attempt.crossings.ordinal (part_of old attempt.crossings.caller).struck
+    once_inside = subst (HasMetOnce attempt.crossings.ordinal (part_of old attempt.crossings.caller)) inside u.once
+
     -- nothing of the caller's part changed, and it has more pages, or none
     underway_with : (pages : PagesState) (asked : Bool) → HasTablesFor old.config.callers pages → IsCallUnderway call test from (part_of old attempt.crossings.caller) (record attempt { asked = asked; pages = pages })
-    underway_with pages asked tables = record { config = u.config; within = u.within; most = u.most; ordinal = u.ordinal; counts = u.counts; begun = u.begun; stands = u.stands; tables = tables; struck = u.struck }
+    underway_with pages asked tables = record { config = u.config; within = u.within; most = u.most; ordinal = u.ordinal; counts = u.counts; begun = u.begun; stands = u.stands; tables = tables; struck = u.struck; once = u.once }
 
     pub comes_gain : (new : Sight) (need : Need) (now : PagesState) → GathersInSight old new ticket need attempt.pages now gathered.Done → Comes call test attempt.crossings.caller from (part_of new attempt.crossings.caller) (record attempt { pages = now }) came.On
     comes_gain new need now gathers =
@@ -106,13 +122,13 @@ module _ (call : Call) (test : Option (Crossing → Bool)) (from : Part) (old : 
     pub comes_device : (new : Sight) (need : Need) (before pages : PagesState) (now : Attempt) → GathersInSight old new ticket need before pages gathered.Device → Comes call test attempt.crossings.caller from (part_of new attempt.crossings.caller) now (came.Answered reply.Device)
     comes_device new need before pages now gathers =
         let made : Answers attempt.crossings.caller stood.0.flight reply.Device old new = subst (λ n. Answers n stood.0.flight reply.Device old new) own_ticket (gathers.1 stood.0.flight (ap (λ n. (old.seats n).flight) own_ticket ∙ stood.0.here)) in
-        answered_by call test from old attempt u new stood.0.flight reply.Device is_flight stood.0.answered made
+        answered_by call test from old attempt u new stood.0.flight reply.Device tt is_flight stood.0.answered made
 
     pub comes_stale : (new : Sight) (block : ℕ) → FinishesInSight old new ticket attempt.pages call (finished.Stale block) → Comes call test attempt.crossings.caller from (part_of new attempt.crossings.caller) (going_in attempt ticket) came.On
     comes_stale new block finishes =
         let stale = subst (λ n. IsStale n old new attempt.pages) own_ticket finishes.1 in
         subst (λ (p : Part). IsCallUnderway call test from p (going_in attempt ticket)) (sym (part_still attempt.crossings.caller old new stale.stays.config stale.counts.history stale.mine stale.stays.records))
-        (record { config = u.config; within = u.within; most = u.most; ordinal = u.ordinal; counts = u.counts; begun = u.begun; stands = stood; tables = tt; struck = u.struck })
+        (record { config = u.config; within = u.within; most = u.most; ordinal = u.ordinal; counts = u.counts; begun = u.begun; stands = stood; tables = tt; struck = u.struck; once = once_inside })
 
     comes_logged : (new : Sight) → Logs ticket.caller old new ticket → Comes call test attempt.crossings.caller from (part_of new attempt.crossings.caller) (record attempt { at = at.Logged ticket }) came.On
     comes_logged new of =
@@ -149,6 +165,7 @@ module _ (call : Call) (test : Option (Crossing → Bool)) (from : Part) (old : 
           stands = (record { flight = flight; here = ap (λ (s : Seat). s.flight) logs.mine; mine = mine; ordinal = ordinal; moment = moment; answered = refl }, own_ticket);
           tables = subst (λ (l : Limits). HasTablesFor l.callers attempt.pages) (sym logs.stays.config) u.tables;
           struck = subst (StruckSoFar test attempt.crossings from.struck) (sym (struck_still attempt.crossings.caller old new logs.stays.records)) u.struck;
+          once = subst (MetOnce attempt.crossings.ordinal) (sym (struck_still attempt.crossings.caller old new logs.stays.records)) once_inside;
         }
 
     pub comes_sealed : (new : Sight) → FinishesInSight old new ticket attempt.pages call finished.Logged → Comes call test attempt.crossings.caller from (part_of new attempt.crossings.caller) (record attempt { at = at.Logged ticket }) came.On

@@ -1,6 +1,7 @@
 pub mod Changing
 pub mod Standing
 pub mod Struck
+pub mod Once
 pub mod Entered
 pub mod Inside
 pub mod Faulted

@@ -28,8 +28,8 @@ use Rattle.mb_run.specs.declared.runner.At.{At}
 use Rattle.mb_run.specs.declared.runner.At.TheVariants as at
 use Rattle.mb_volume.specs.Attempts.{KeepsCrossings, back_out, going_in}
 use Rattle.mb_volume.specs.Called.{is_on_way}
-use Rattle.mb_volume.specs.Passed.{FlightHasEntry, HasFinished, HasPassed, HasPassedAt, IsCalm, IsPastEnter, IsPastLeave, KeepsOwn, MarksPoints, PassedBy}
-use Rattle.mb_volume.specs.Underway.{PlaceHoldsTicket, FlightLacksEntry, PlaceStands, rolled}
+use Rattle.mb_volume.specs.Passed.{HasFinished, HasPassed, HasPassedAt, IsCalm, IsPastEnter, IsPastLeave, KeepsOwn, MarksPoints, PassedBy}
+use Rattle.mb_volume.specs.Underway.{FlightHasEntry, PlaceHoldsTicket, FlightLacksEntry, PlaceStands, rolled}
 use Rattle.mb_volume.specs.declared.attempt.Attempt.{Attempt}
 use Rattle.mb_volume.specs.declared.events.Came.TheVariants as came
 use Rattle.mb_volume.specs.declared.events.Event.TheVariants as event
@@ -92,7 +92,7 @@ pub lacks_entry : (flight : Option Flight) → FlightLacksEntry flight → Fligh
 lacks_entry None lacks has = has
 lacks_entry (Some flight) lacks has = let both : true ≡ false = sym has ∙ lacks in cc
 
-unplain_not : (answer : Reply) → IsUnplain answer → is_plain answer ≡ true → ⊥
+pub unplain_not : (answer : Reply) → IsUnplain answer → is_plain answer ≡ true → ⊥
 unplain_not (reply.Num number) is plain = is
 unplain_not (reply.Got bytes) is plain = is
 unplain_not (reply.Info stat) is plain = is

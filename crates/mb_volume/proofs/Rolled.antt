@@ -12,6 +12,7 @@ use Rattle.mb_run.specs.Sights.{IsWaiting, Sight}
 use Rattle.mb_run.specs.declared.answers.Stepped.{Stepped}
 use Rattle.mb_run.specs.declared.answers.Stepped.TheVariants as stepped
 use Rattle.mb_volume.specs.Attempts.{KeepsCrossings}
+use Rattle.mb_volume.specs.Called.{is_own}
 use Rattle.mb_volume.specs.Parts.{MovesPart, Part, part_of}
 use Rattle.mb_volume.specs.Underway.{AddsEntryIf, Comes, FlightIsCall, IsCallUnderway, FlightLacksEntry, rolled}
 use Rattle.mb_volume.specs.declared.attempt.Attempt.{Attempt}
@@ -21,6 +22,7 @@ use Rattle.mb_volume.proofs.Changing.{moves_entry, moves_records}
 use Rattle.mb_volume.proofs.Entered.{answered_by, moves_nothing}
 use Rattle.mb_volume.proofs.Faulted.{underway_on, underway_struck}
 use Rattle.mb_volume.proofs.Inside.{part_still}
+use Rattle.mb_volume.proofs.Once.{once_struck}
 use Rattle.mb_volume.proofs.Standing.{IsFlight, flying}
 
 module _ (call : Call) (test : Option (Crossing → Bool)) (from : Part) (old : Sight) (attempt : Attempt) (u : IsCallUnderway call test from (part_of old attempt.crossings.caller) attempt) (waiting : IsWaiting (old.seats attempt.crossings.caller)) where
@@ -50,6 +52,8 @@ module _ (call : Call) (test : Option (Crossing → Bool)) (from : Part) (old : 
     underway_strikes : (new : Sight) → StrikesStep test attempt.crossings crossings old new → IsCallUnderway call test from (part_of new attempt.crossings.caller) (record attempt { crossings = crossings })
     underway_strikes new strikes =
         underway_struck call test from old attempt u new crossings strikes.fault waiting.0 waiting.1 on strikes.taken strikes.waits.config strikes.waits.counts.history (strikes.waits.seats attempt.crossings.caller) strikes.records
+        (λ more. once_struck attempt.crossings.ordinal (part_of old attempt.crossings.caller) (part_of new attempt.crossings.caller) strikes.fault attempt.at (elim strikes.next.point [ inl remount ↦ ap is_own remount.1 | inr replay ↦ ap is_own replay.1 ])
+        (strikes.waits.seats attempt.crossings.caller) more u.once)
 
     comes_rolled : (new : Sight) (answer : Stepped) → Steps test (Some attempt.crossings) (Some crossings) old new answer
         → Comes call test attempt.crossings.caller from (part_of new attempt.crossings.caller) (record attempt { crossings = crossings }) (rolled answer)
@@ -62,7 +66,7 @@ module _ (call : Call) (test : Option (Crossing → Bool)) (from : Part) (old : 
     comes_rolled new (stepped.Replayed number) steps = (underway_waits new steps.1.waits steps.1.records, waits_still new steps.1.waits)
     comes_rolled new stepped.Resumed steps = underway_waits new steps.2.waits steps.2.records
     comes_rolled new (stepped.Again faults) steps = (underway_strikes new steps.1, waits_still new steps.1.waits)
-    comes_rolled new stepped.Device steps = answered_by call test from old attempt u new waiting.0 reply.Device is_flight waiting.2 (steps.1 waiting.0 waiting.1)
+    comes_rolled new stepped.Device steps = answered_by call test from old attempt u new waiting.0 reply.Device tt is_flight waiting.2 (steps.1 waiting.0 waiting.1)
     comes_rolled new stepped.NoMemory steps =
         subst (λ (s : Sight). Comes call test attempt.crossings.caller from (part_of s attempt.crossings.caller) (record attempt { crossings = crossings }) came.NoMemory) (sym steps)
         (underway_on call test from (part_of old attempt.crossings.caller) attempt u crossings on, subst FlightLacksEntry (sym waiting.1) waiting.2)

@@ -27,6 +27,7 @@ use Rattle.mb_volume.specs.Underway.{Brings, Comes, HasItsAnswer, IsTold, SaysOf
 use Rattle.mb_volume.specs.declared.attempt.Attempt.{Attempt}
 use Rattle.mb_volume.specs.declared.events.Came.{Came}
 use Rattle.mb_volume.specs.declared.events.Came.TheVariants as came
+use Rattle.mb_volume.proofs.Once.{once_more}
 use Rattle.mb_volume.proofs.Pairs.{HasTwo, two_at, two_kept, two_long}
 use Rattle.mb_volume.proofs.Replies.{all_filter, all_last, own_rises, reply_of}
 
@@ -78,7 +79,7 @@ running_is stage.Remounted is = absurd (let wrong : false ≡ true = is in cc)
 running_is (stage.Restored done) is = absurd (let wrong : false ≡ true = is in cc)
 running_is stage.Failed is = absurd (let wrong : false ≡ true = is in cc)
 
-own_callers : (history : List Entry) (caller : ℕ) → AllByRecursion (λ (e : Entry). e.caller ≡ caller) (filter (λ (e : Entry). nat_eq e.caller caller) history)
+pub own_callers : (history : List Entry) (caller : ℕ) → AllByRecursion (λ (e : Entry). e.caller ≡ caller) (filter (λ (e : Entry). nat_eq e.caller caller) history)
 own_callers [] caller = tt
 own_callers (entry ∷ later) caller =
     elim (nat_eq entry.caller caller) as (λ b. nat_eq entry.caller caller ≡ b → AllByRecursion (λ (e : Entry). e.caller ≡ caller) (cond b (entry ∷ filter (λ (e : Entry). nat_eq e.caller caller) later) (filter (λ (e : Entry). nat_eq e.caller caller) later))) [
@@ -104,13 +105,13 @@ module _ {F D : Type 0} (told : D → Option Image) (faults : D → ℕ) (core :
 
 -- ---- what the caller of a call is told
 
-no_earlier : (before : List FaultRecord) (ordinal begun : ℕ) → ordinal ≡ begun + 1 → AreOfFirst begun before → filter (λ (fault : FaultRecord). nat_eq fault.ordinal ordinal) before ≡ []
+pub no_earlier : (before : List FaultRecord) (ordinal begun : ℕ) → ordinal ≡ begun + 1 → AreOfFirst begun before → filter (λ (fault : FaultRecord). nat_eq fault.ordinal ordinal) before ≡ []
 no_earlier [] ordinal begun is early = refl
 no_earlier (fault ∷ before) ordinal begun is early =
     ap (λ b. cond b (fault ∷ filter (λ (f : FaultRecord). nat_eq f.ordinal ordinal) before) (filter (λ (f : FaultRecord). nat_eq f.ordinal ordinal) before)) (neq fault.ordinal ordinal (λ same. absurd (omega (arith, early.0, is, same))))
     ∙ no_earlier before ordinal begun is early.1
 
-all_kept : (more : List FaultRecord) (ordinal : ℕ) → AllByRecursion (λ (fault : FaultRecord). fault.ordinal ≡ ordinal) more → filter (λ (fault : FaultRecord). nat_eq fault.ordinal ordinal) more ≡ more
+pub all_kept : (more : List FaultRecord) (ordinal : ℕ) → AllByRecursion (λ (fault : FaultRecord). fault.ordinal ≡ ordinal) more → filter (λ (fault : FaultRecord). nat_eq fault.ordinal ordinal) more ≡ more
 all_kept [] ordinal all = refl
 all_kept (fault ∷ more) ordinal all =
     ap (λ b. cond b (fault ∷ filter (λ (f : FaultRecord). nat_eq f.ordinal ordinal) more) (filter (λ (f : FaultRecord). nat_eq f.ordinal ordinal) more)) (eq-eqb fault.ordinal ordinal all.0) ∙ ap (λ fs. fault ∷ fs) (all_kept more ordinal all.1)
@@ -133,6 +134,8 @@ told_answer : (call : Call) (test : Option (Crossing → Bool)) (caller : ℕ) (
 told_answer call test caller from now answer told is =
     let same = reply_of caller (from.seat.begun + 1) call from.entries now.entries answer told.rises is.entry is.reply in
     let twice : SaysOfTwice is.entry.entry.ordinal now.struck is.entry.entry.reply = all_last (λ (e : Entry). SaysOfTwice e.ordinal now.struck e.reply) from.entries is.entry.entry (subst (AllByRecursion (λ (e : Entry). SaysOfTwice e.ordinal now.struck e.reply)) is.entry.whole told.twice) in
+    let theirs : AllByRecursion (λ (f : FaultRecord). f.ordinal ≡ from.seat.begun + 1) is.suffers.more =
+    all_map (λ (f : FaultRecord). (f.caller ≡ caller) × (f.ordinal ≡ from.seat.begun + 1)) (λ (f : FaultRecord). f.ordinal ≡ from.seat.begun + 1) is.suffers.more (λ f its. its.1) is.suffers.theirs in
     let limit : SaysOfLimit now.config.limit is.entry.entry.reply = all_last (λ (e : Entry). SaysOfLimit now.config.limit e.reply) from.entries is.entry.entry (subst (AllByRecursion (λ (e : Entry). SaysOfLimit now.config.limit e.reply)) is.entry.whole told.limit) in
     let says : SaysOfTwice (from.seat.begun + 1) now.struck answer = subst (λ n. SaysOfTwice n now.struck answer) is.entry.ordinal_is (subst (SaysOfTwice is.entry.entry.ordinal now.struck) same twice) in
     record {
@@ -144,7 +147,8 @@ told_answer call test caller from now answer told is =
       call_is = is.entry.call_is;
       reply_is = same;
       suffers = is.suffers;
-      faults = says_faults from.seat.begun (from.seat.begun + 1) from.struck is.suffers.more now.struck refl is.suffers.whole (all_map (λ (f : FaultRecord). (f.caller ≡ caller) × (f.ordinal ≡ from.seat.begun + 1)) (λ (f : FaultRecord). f.ordinal ≡ from.seat.begun + 1) is.suffers.more (λ f its. its.1) is.suffers.theirs) answer says;
+      faults = says_faults from.seat.begun (from.seat.begun + 1) from.struck is.suffers.more now.struck refl is.suffers.whole theirs answer says;
+      once = λ plain. once_more (from.seat.begun + 1) from.struck is.suffers.more now.struck is.suffers.whole (all_kept is.suffers.more (from.seat.begun + 1) theirs) (is.once plain);
       limit = subst (λ (l : Limits). SaysOfLimit l.limit answer) is.config (subst (SaysOfLimit now.config.limit) same limit);
     }
 

@@ -1,5 +1,5 @@
 -- What a call by a shared volume leaves of its caller's part of the core, as the caller saw it before and as it sees it then.
-use Rattle.std.specs.Prelude.{ℕ, ◌+◌, ◌≤◌, ◌≡◌, ◌++◌, ◌∷◌, List, [], length, filter, Bool, true, false, Option, None, IfSome}
+use Rattle.std.specs.Prelude.{ℕ, ◌+◌, ◌≤◌, ◌≡◌, ◌++◌, ◌∷◌, List, [], length, filter, nat_eq, Bool, true, false, Option, None, IfSome}
 use Rattle.std.specs.List.{AllByRecursion}
 use Rattle.mb_edge.specs.Causes.{Rose}
 use Rattle.mb_edge.specs.declared.crossings.Crossing.{Crossing}
@@ -23,6 +23,10 @@ is_own _ = false
 
 abbrev pub own_faults : List FaultRecord → List FaultRecord
 own_faults records = filter (λ (fault : FaultRecord). is_own fault.kind) records
+
+-- of a call's faults one at most was its own
+abbrev pub MetOnce : ℕ → List FaultRecord → Type 0
+MetOnce ordinal struck = length (own_faults (filter (λ (fault : FaultRecord). nat_eq fault.ordinal ordinal) struck)) ≤ 1
 
 -- the records are of the first calls of their caller, so many
 abbrev pub AreOfFirst : ℕ → List FaultRecord → Type 0
@@ -56,6 +60,8 @@ pub record IsAnsweredWith (call : Call) (test : Option (Crossing → Bool)) (cal
   pub reply_is : entry.reply ≡ answer
   pub suffers : Suffers test caller old now
   pub faults : SaysOfFaults old.seat.begun old.struck suffers.more answer
+  -- and a call with a plain reply met one fault of its own at most
+  pub once : is_plain answer ≡ true → length (own_faults suffers.more) ≤ 1
   pub limit : SaysOfLimit old.config.limit answer
 
 -- the call met want of memory: it has no entry, and began once at most

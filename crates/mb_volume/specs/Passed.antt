@@ -1,5 +1,5 @@
 -- Which fault points a call passed on its way, by where it stands, and what the fault injector's count of faults says of them.
-use Rattle.std.specs.Prelude.{ℕ, ◌≤◌, ◌≡◌, ◌≢◌, Bool, true, false, Option, None, Some}
+use Rattle.std.specs.Prelude.{ℕ, ◌≤◌, ◌≡◌, ◌≢◌, Bool, true, false, Option}
 use Rattle.mb_core_spec.specs.Copies.{no_pages}
 use Rattle.mb_edge.specs.declared.crossings.Crossing.{Crossing}
 use Rattle.mb_edge.specs.declared.crossings.Crossings.{Crossings}
@@ -14,6 +14,7 @@ use Rattle.mb_run.specs.Tallies.{count_of, is_logged}
 use Rattle.mb_run.specs.declared.runner.At.{At}
 use Rattle.mb_run.specs.declared.runner.At.TheVariants as at
 use Rattle.mb_volume.specs.Called.{RisesAtFirst, TakesFirsts, is_on_way}
+use Rattle.mb_volume.specs.Underway.{FlightHasEntry}
 use Rattle.mb_volume.specs.declared.attempt.Attempt.{Attempt}
 use Rattle.mb_volume.specs.declared.events.Came.{Came}
 use Rattle.mb_volume.specs.declared.events.Came.TheVariants as came
@@ -21,10 +22,6 @@ use Rattle.mb_volume.specs.declared.events.Event.{Event}
 use Rattle.mb_volume.specs.declared.events.Event.TheVariants as event
 
 -- ---- by where the call stands
-
-abbrev pub FlightHasEntry : Option Flight → Type 0
-FlightHasEntry None = ⊥
-FlightHasEntry (Some flight) = flight.answered ≡ true
 
 -- a call inside was where it entered; where it gathered, if it has the tables; and where it finishes, if that was asked
 pub record IsPastEnter (attempt : Attempt) : Type 0 where

@@ -8,19 +8,22 @@ use Rattle.mb_kinds.specs.declared.calls.Call.{Call}
 use Rattle.mb_kinds.specs.declared.entries.Entry.{Entry}
 use Rattle.mb_kinds.specs.declared.entries.Flight.{Flight}
 use Rattle.mb_kinds.specs.declared.faults.FaultRecord.{FaultRecord}
+use Rattle.mb_kinds.specs.declared.faults.Kind.TheVariants.{Leave}
 use Rattle.mb_kinds.specs.declared.faults.Ticket.{Ticket}
 use Rattle.mb_kinds.specs.declared.replies.Reply.{Reply}
 use Rattle.mb_kinds.specs.declared.replies.Reply.TheVariants as reply
 use Rattle.mb_calls.specs.declared.performing.Performed.TheVariants as performed
 use Rattle.mb_core_spec.specs.Copies.{PagesState}
 use Rattle.mb_run.specs.Pages.{PagesGrowBy, HasTablesFor, PerformsOver, has}
+use Rattle.mb_run.specs.Seals.{is_plain}
 use Rattle.mb_run.specs.Served.{AreSixCounts, AreSound, IsCounted, counted}
 use Rattle.mb_run.specs.Sights.{SeatHasTicket, IsWaiting, Seat, Sight}
+use Rattle.mb_run.specs.Tallies.{is_logged}
 use Rattle.mb_run.specs.declared.answers.Stepped.{Stepped}
 use Rattle.mb_run.specs.declared.answers.Stepped.TheVariants as stepped
 use Rattle.mb_run.specs.declared.runner.At.{At}
 use Rattle.mb_run.specs.declared.runner.At.TheVariants as at
-use Rattle.mb_volume.specs.Called.{IsAnsweredWith, SaysOfLimit, Suffers, own_faults}
+use Rattle.mb_volume.specs.Called.{IsAnsweredWith, MetOnce, SaysOfLimit, Suffers, own_faults}
 use Rattle.mb_volume.specs.Parts.{Part, part_of}
 use Rattle.mb_volume.specs.declared.attempt.Attempt.{Attempt}
 use Rattle.mb_volume.specs.declared.events.Came.{Came}
@@ -66,6 +69,16 @@ PlaceStands caller seat at.Outside = Unit {0}
 PlaceStands caller seat (at.Inside ticket) = SeatHasTicket false seat ticket × (ticket.caller ≡ caller)
 PlaceStands caller seat (at.Logged ticket) = SeatHasTicket true seat ticket × (ticket.caller ≡ caller)
 
+-- the call in flight has its entry
+abbrev pub FlightHasEntry : Option Flight → Type 0
+FlightHasEntry None = ⊥
+FlightHasEntry (Some flight) = flight.answered ≡ true
+
+-- a call that went in, or has its entry, met one fault of its own at most
+abbrev pub HasMetOnce : ℕ → Part → At → Type 0
+HasMetOnce ordinal now at.Outside = FlightHasEntry now.seat.flight → MetOnce ordinal now.struck
+HasMetOnce ordinal now _ = MetOnce ordinal now.struck
+
 -- from the part as it was before the call, and as it is now
 pub record IsCallUnderway (call : Call) (test : Option (Crossing → Bool)) (from now : Part) (attempt : Attempt) : Type 0 where
   pub config : now.config ≡ from.config
@@ -77,6 +90,7 @@ pub record IsCallUnderway (call : Call) (test : Option (Crossing → Bool)) (fro
   pub stands : PlaceStands attempt.crossings.caller now.seat attempt.at
   pub tables : HasTablesFor now.config.callers attempt.pages
   pub struck : StruckSoFar test attempt.crossings from.struck now.struck
+  pub once : HasMetOnce attempt.crossings.ordinal now attempt.at
 
 abbrev pub IsOn : Call → Part → Attempt → Type 0
 IsOn call now attempt = (test : Option (Crossing → Bool)) × (from : Part) × IsCallUnderway call test from now attempt
@@ -105,6 +119,7 @@ pub record HasItsAnswer (call : Call) (test : Option (Crossing → Bool)) (calle
   pub entry : AddsEntry caller (from.seat.begun + 1) call from.entries now.entries
   pub reply : IsReplyIn now.entries (from.seat.begun + 1) answer
   pub suffers : Suffers test caller from now
+  pub once : is_plain answer ≡ true → MetOnce (from.seat.begun + 1) now.struck
 
 -- it has no entry
 abbrev pub FlightLacksEntry : Option Flight → Type 0
@@ -177,12 +192,13 @@ PlaceHoldsTicket at.Outside ticket = ⊥
 PlaceHoldsTicket (at.Inside mine) ticket = mine ≡ ticket
 PlaceHoldsTicket (at.Logged mine) ticket = mine ≡ ticket
 
--- the crossing is the next one of its kind, and the hook faulted there
+-- the crossing is the next one of its kind, and the hook faulted there; a call that has its entry is where it leaves
 pub record IsMetNext (test : Option (Crossing → Bool)) (struck : Option Crossing) (attempt : Attempt) (crossing : Crossing) (passed : Crossings) : Type 0 where
   pub next : crossing ≡ record { caller = attempt.crossings.caller; ordinal = attempt.crossings.ordinal; kind = crossing.kind; nth = next_nth attempt.crossings.counts crossing.kind }
   pub passed_is : passed ≡ counted attempt.crossings crossing.kind
   pub struck_is : struck ≡ Some crossing
   pub holds : IfSome test (λ fires. fires crossing ≡ true)
+  pub leaves : is_logged attempt.at ≡ 1 → crossing.kind ≡ Leave
 
 -- when an event may come
 abbrev pub MayCome : Call → Option (Crossing → Bool) → Option Crossing → Seat → Attempt → Event → Type 0

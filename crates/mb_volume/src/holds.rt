@@ -1,9 +1,11 @@
 ghost use Rattle.std.specs.Prelude.{◌≡◌, ◌<◌, ◌≤◌, true, false, IfNone, IfSome};
 ghost use Rattle.mb_calls.specs.declared.performing.Performed.TheVariants as performed;
+ghost use Rattle.mb_kinds.specs.declared.faults.Kind.TheVariants as kinds;
 ghost use Rattle.mb_run.specs.Pages.{PagesGrowBy, IsUnderWay, PerformsOver, has};
 ghost use Rattle.mb_run.specs.Rising.{RisesWith};
 ghost use Rattle.mb_run.specs.Served.{counted};
 ghost use Rattle.mb_run.specs.Sights.{IsWaiting};
+ghost use Rattle.mb_run.specs.Tallies.{is_logged};
 ghost use Rattle.mb_run.specs.declared.runner.At.TheVariants as at;
 ghost use Rattle.mb_turn.specs.Passes.{IsIdle};
 ghost use Rattle.mb_volume.specs.Attempts.{new_attempt};
@@ -71,7 +73,7 @@ impl<F: FileSys, D: Disk> Volume<F, D> {
     }
 
     /// Asks the fault injector at the next crossing of a kind, outside the turn, and strikes the call where it says so;
-    /// `None` exactly where the call goes on.
+    /// `None` exactly where the call goes on. A call that has its entry is asked where it leaves.
     fn ask<H: Hook, R: Wait>(
         &self,
         rt: &R,
@@ -86,6 +88,7 @@ impl<F: FileSys, D: Disk> Volume<F, D> {
         requires idle { IsIdle self.now.table pass.old }
         requires making { IsMaking call.now (H.test hook.old) pass.old attempt.old false }
         requires holds { PlaceHoldsTicket attempt.old.at ticket.now }
+        requires leaves { is_logged attempt.old.at ≡ 1 → kind ≡ kinds.Leave }
         ensures unasked { IfNone result ((pass.new ≡ pass.old)
             × (attempt.new ≡ record attempt.old { crossings = counted attempt.old.crossings kind })) }
         ensures later { IsLater self.now.table pass.old pass.new }

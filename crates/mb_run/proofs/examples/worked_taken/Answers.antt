@@ -1,7 +1,7 @@
 use Rattle.std.proofs.Common.{◌≡◌, ℕ, zero, suc, ◌≤◌, true, false, refl, arith}
 use Rattle.mb_kinds.specs.declared.faults.Kind.TheVariants.{Enter}
 use Rattle.mb_run.specs.Examples.{entered_once, entered_twice}
-use Rattle.mb_run.specs.Runs.{is_struck_at, recoveries_of, strikes_inside}
+use Rattle.mb_run.specs.Runs.{is_struck_at, strikes_inside}
 use Rattle.mb_run.proofs.examples.worked_taken.Goals as goal
 
 two : strikes_inside entered_twice 0 1 ≡ 2

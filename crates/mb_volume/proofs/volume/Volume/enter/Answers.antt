@@ -4,7 +4,7 @@ use Rattle.mb_volume.specs.declared.events.Came.TheVariants as came
 use Rattle.mb_volume.proofs.Holding.{at_inside, counted_on, holds_inside, inside_then, making_inside}
 use Rattle.mb_run.proofs.Rising.{rises_then}
 use Rattle.mb_volume.proofs.Rising.{rises_unasked}
-use Rattle.mb_volume.proofs.Hearing.{hears_entered, hears_outside, hears_struck}
+use Rattle.mb_volume.proofs.Hearing.{hears_entered, hears_outside, hears_struck, inside_leaves}
 use Rattle.mb_volume.specs.Passing.{part_in}
 use Rattle.mb_volume.proofs.volume.Volume.enter.Goals as goal
 
@@ -17,6 +17,9 @@ ask-requires-clause-making g c =
 
 pub ask-requires-clause-holds : goal.ask-requires-clause-holds
 ask-requires-clause-holds g c = holds_inside _ _ c.args.pass.now c.hold-came.new.pass _ _ _ _ c.requires.making c.in-Inside.is c.hold-came.ensures.leads
+
+pub ask-requires-clause-leaves : goal.ask-requires-clause-leaves
+ask-requires-clause-leaves g c = inside_leaves c.hold-came.new.attempt _ _ (at_inside _ _ c.args.pass.now c.hold-came.new.pass _ _ _ _ c.requires.making c.in-Inside.is c.hold-came.ensures.leads)
 
 pub returns-in-Some-clause-leads : goal.returns-in-Some-clause-leads
 returns-in-Some-clause-leads g c =

@@ -2,9 +2,12 @@ use Rattle.mb_kinds.specs.declared.faults.Kind.TheVariants as kind
 use Rattle.mb_volume.proofs.Holding.{counted_leads, making_counted}
 use Rattle.mb_run.proofs.Rising.{rises_then}
 use Rattle.mb_volume.proofs.Rising.{rises_unasked}
-use Rattle.mb_volume.proofs.Hearing.{asked_there, finish_asked, hears_asked, hears_same, not_logged}
+use Rattle.mb_volume.proofs.Hearing.{asked_there, finish_asked, hears_asked, hears_same, inside_leaves, not_logged}
 use Rattle.mb_volume.specs.Passing.{part_in}
 use Rattle.mb_volume.proofs.volume.Volume.finish.Goals as goal
+
+pub ask-requires-clause-leaves : goal.ask-requires-clause-leaves
+ask-requires-clause-leaves g c = inside_leaves c.args.attempt.now _ _ c.requires.inside
 
 pub hold-requires-clause-making : goal.hold-requires-clause-making
 hold-requires-clause-making g c = rw c.ask.ensures.test (making_counted _ _ _ _ _ _ kind.Finish c.in-None.ensures.unasked.0 c.in-None.ensures.unasked.1 c.requires.making)
