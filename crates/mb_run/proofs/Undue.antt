@@ -12,7 +12,6 @@ use Rattle.mb_kinds.specs.declared.entries.Flight.{Flight}
 use Rattle.mb_kinds.specs.declared.faults.Ticket.{Ticket}
 use Rattle.mb_kinds.specs.declared.replies.Reply.{Reply}
 use Rattle.mb_run.specs.Events.{Answers, IsCallOf, IsStale, KeepsLog, Logs, LogsInTime, SealsIf, entry_of, sealed}
-use Rattle.mb_run.specs.Recovering.{Waits}
 use Rattle.mb_run.specs.Seals.{is_due, is_sync, is_sync_of, logged_since, undue}
 use Rattle.mb_run.specs.Sights.{SeatHasTicket, Limits, Sight, since_in, undue_in}
 use Rattle.mb_run.proofs.Sealings.{due_by, due_undue, logged_undue, marks_undue, sealed_undue, stale_undue, sync_last}
@@ -39,9 +38,6 @@ module _ (old new : Sight) (config : new.config ≡ old.config) where
 
   pub entry_undue : (entry : Entry) → KeepsLog old new → new.history ≡ old.history ++ entry ∷ [] → undue_in new ≤ undue_in old
   entry_undue entry log grown = more_undue (entry ∷ []) log grown
-
-pub same_undue : (old new : Sight) → new ≡ old → undue_in new ≤ undue_in old
-same_undue old new same = let is = ap undue_in same in omega (arith, is)
 
 -- a call is told that a copy is stale
 pub stale_undue_in : (caller : ℕ) (old new : Sight) (pages : PagesState) → IsStale caller old new pages → undue_in new ≤ undue_in old
@@ -106,7 +102,3 @@ module _ (old new : Sight) (ticket : Ticket) (call : Call) (has : SeatHasTicket 
 -- a call ends
 pub answers_undue : (caller : ℕ) (flight : Flight) (answer : Reply) (old new : Sight) → Answers caller flight answer old new → undue_in new ≤ undue_in old
 answers_undue caller flight answer old new answers = entry_undue old new answers.stays.config (entry_of caller flight None answer) answers.log answers.history
-
--- a step of a recovery
-pub waits_undue : (old new : Sight) → Waits old new → undue_in new ≤ undue_in old
-waits_undue old new waits = still_undue old new waits.config waits.log waits.counts.history

@@ -11,7 +11,7 @@ use Rattle.mb_kinds.specs.declared.faults.Ticket.{Ticket}
 use Rattle.mb_kinds.specs.declared.replies.Reply.TheVariants as reply
 use Rattle.mb_plan.specs.Fires.{fires}
 use Rattle.mb_plan.specs.declared.rules.Rule.{Rule}
-use Rattle.mb_run.specs.Runs.{AreNear, EntersFirst, TakesFaults, begun_from, calm_prefix, is_near, is_struck_at, pair_rises, strikes_inside}
+use Rattle.mb_run.specs.Runs.{AreNear, EntersFirst, IsStruckOnceIfPlain, TakesFaults, begun_from, calm_prefix, is_near, is_struck_at, pair_rises, strikes_inside}
 use Rattle.mb_run.specs.Seals.{AreInTime, is_due, is_synced, omitted, undue}
 use Rattle.mb_run.specs.Stales.{stales_beyond, stales_since}
 
@@ -95,6 +95,8 @@ WorkedTaken =
     TakesFaults (Some (fires twice_entering)) entered_twice 0 1 0
     × (TakesFaults (Some (fires twice_entering)) entered_once 0 1 1 → ⊥)
     × (TakesFaults None entered_twice 0 1 1 → ⊥)
+    × (IsStruckOnceIfPlain entered_twice (entry 0 1 1) → ⊥)
+    × IsStruckOnceIfPlain entered_once (entry 0 1 1)
 
 -- a call that ended after the first one of its caller, and a sync(2) that the failed volume answered
 abbrev pub ended : Entry

@@ -31,4 +31,6 @@ returns c = (
   },
   (λ takes. no_both (takes.enters 2 (omega arith) (omega (arith, one)) refl)),
   (λ takes. let many = takes.twice in omega (arith, many, two)),
+  (λ once. let many = once refl in omega (arith, many, two)),
+  (λ plain. omega (arith, one)),
 )
