@@ -24,7 +24,7 @@ use Rattle.mb_calls.specs.declared.halts.Halt.{Halt}
 use Rattle.mb_calls.specs.declared.halts.Halt.TheVariants as why
 use Rattle.mb_calls.specs.declared.walks.Ahead.{Ahead}
 use Rattle.mb_calls.specs.declared.walks.PathWalk.{PathWalk}
-use Rattle.mb_calls.specs.declared.walks.PathWalks.{PathWalks}
+use Rattle.mb_calls.specs.declared.resuming.Performing.{Performing}
 use Rattle.mb_calls.proofs.Nearby.{has_first, near_more}
 use Rattle.mb_calls.proofs.Walking.{place_followed, way_followed, way_head, followed_on, grown_part}
 
@@ -134,8 +134,12 @@ kept_grows shown later seat path walk grows kept = record {
 pub same_path : (o : Option (List ℕ)) (path other : List ℕ) → o ≡ Some path → o ≡ Some other → path ≡ other
 same_path o path other h e = let is : Some path ≡ Some other = sym h ∙ e in cc
 
-pub going_grows : (shown later : ℕ → Option (List ℕ)) (seat : Seat) (made : Call) (walks : PathWalks) → ViewGrows shown later → IsGoing shown seat made walks → IsGoing later seat made walks
-going_grows shown later seat made walks grows going = record {
-  first = λ path is. kept_grows shown later seat path walks.first grows (going.first path is);
-  second = λ path is. kept_grows shown later seat path walks.second grows (going.second path is);
+-- a plan that is kept does not look at the view
+pub going_grows : (shown later : ℕ → Option (List ℕ)) (seat : Seat) (made : Call) (on : Performing) → ViewGrows shown later → IsGoing shown seat made on → IsGoing later seat made on
+going_grows shown later seat made on grows going = record {
+  walks = record {
+    first = λ path is. kept_grows shown later seat path on.walks.first grows (going.walks.first path is);
+    second = λ path is. kept_grows shown later seat path on.walks.second grows (going.walks.second path is);
+  };
+  kept = going.kept;
 }

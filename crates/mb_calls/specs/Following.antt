@@ -8,16 +8,23 @@ use Rattle.mb_iface.specs.Needs.{IsNeed}
 use Rattle.mb_iface.specs.declared.replies.Need.{Need}
 use Rattle.mb_tree.specs.Lookup.{components, find_place, start_of, walk}
 use Rattle.mb_tree.specs.Maps.{Numbered}
+use Rattle.mb_tree.specs.Plans.{IsPlanFor}
+use Rattle.mb_tree.specs.Results.{Gives}
+use Rattle.mb_tree.specs.Rows.{row}
 use Rattle.mb_tree.specs.Trees.{IsDirectoryAt, IsThere}
 use Rattle.mb_tree.specs.declared.lookups.Placed.{Placed}
 use Rattle.mb_tree.specs.declared.lookups.Placed.TheVariants as placed
 use Rattle.mb_tree.specs.declared.nodes.Node.{Node}
+use Rattle.mb_tree.specs.declared.plans.CallPlan.{CallPlan}
 use Rattle.mb_tree.specs.declared.seats.Seat.{Seat}
+use Rattle.mb_tree.specs.declared.stops.Stop.{Stop}
 use Rattle.mb_tree.specs.declared.trees.Tree.{Tree}
 use Rattle.mb_calls.specs.Halts.{IsOver}
 use Rattle.mb_calls.specs.Looked.{IsFirst, IsLooked, IsSecond}
 use Rattle.mb_calls.specs.declared.halts.Halt.{Halt}
 use Rattle.mb_calls.specs.declared.halts.Halt.TheVariants as why
+use Rattle.mb_calls.specs.declared.performing.KeptPlan.{KeptPlan}
+use Rattle.mb_calls.specs.declared.resuming.Performing.{Performing}
 use Rattle.mb_calls.specs.declared.walks.Ahead.{Ahead}
 use Rattle.mb_calls.specs.declared.walks.PathWalk.{PathWalk}
 use Rattle.mb_calls.specs.declared.walks.PathWalks.{PathWalks}
@@ -97,20 +104,47 @@ pub record LacksForCall (shown : ℕ → Option (List ℕ)) (seat : Seat) (made 
   pub near : (image : Image) (tree : Tree) → IsOver shown seat image tree → IsNear image tree (IsLooked tree.nodes seat made) need.first
 
 -- the walks of a call's paths: the first of each call that has one, and the second of link(2)
-pub record IsGoing (shown : ℕ → Option (List ℕ)) (seat : Seat) (made : Call) (walks : PathWalks) : Type 0 where
+pub record AreWalks (shown : ℕ → Option (List ℕ)) (seat : Seat) (made : Call) (walks : PathWalks) : Type 0 where
   pub first : (path : List ℕ) → IsFirst made path → IsKept shown seat path walks.first
   pub second : (path : List ℕ) → IsSecond made path → IsKept shown seat path walks.second
 
 -- those of a caller's call, if the caller is one of them
-abbrev pub IsGoingFor : (ℕ → Option (List ℕ)) → List Seat → ℕ → Call → PathWalks → Type 0
-IsGoingFor shown given caller made walks = (seat : Seat) → slice_get given caller ≡ Some seat → IsGoing shown seat made walks
+abbrev pub AreWalksFor : (ℕ → Option (List ℕ)) → List Seat → ℕ → Call → PathWalks → Type 0
+AreWalksFor shown given caller made walks = (seat : Seat) → slice_get given caller ≡ Some seat → AreWalks shown seat made walks
 
--- the walk of a path, and the walks of a call, that is just begun: on every view
+-- what a row comes to that looks at no tree and at no other session
+abbrev pub IsRowAlone : Seat → Call → ℕ → Result CallPlan Stop → Type 0
+IsRowAlone seat made moment result = (nodes : Numbered Node) (others : List Seat) → Gives (λ plan. plan) result (row nodes others seat made moment (Some 0))
+
+-- a plan that is kept is the one of the call's row, at its moment, for all trees and all other sessions
+pub record IsPlanKept (seat : Seat) (made : Call) (kept : KeptPlan) : Type 0 where
+  pub plans : IsRowAlone seat made kept.moment (Ok kept.plan)
+  pub ready : IsPlanFor seat kept.plan
+
+abbrev pub KeepsPlan : Seat → Call → Option KeptPlan → Type 0
+KeepsPlan seat made kept = IfSome kept (IsPlanKept seat made)
+
+abbrev pub KeepsPlanFor : List Seat → ℕ → Call → Option KeptPlan → Type 0
+KeepsPlanFor given caller made kept = (seat : Seat) → slice_get given caller ≡ Some seat → KeepsPlan seat made kept
+
+-- a call that goes on: the walks of its paths, and the plan that it keeps
+pub record IsGoing (shown : ℕ → Option (List ℕ)) (seat : Seat) (made : Call) (on : Performing) : Type 0 where
+  pub walks : AreWalks shown seat made on.walks
+  pub kept : KeepsPlan seat made on.kept
+
+-- that of a caller, if the caller is one of them
+abbrev pub IsGoingFor : (ℕ → Option (List ℕ)) → List Seat → ℕ → Call → Performing → Type 0
+IsGoingFor shown given caller made on = (seat : Seat) → slice_get given caller ≡ Some seat → IsGoing shown seat made on
+
+-- the walk of a path, the walks of a call, and a call, that are just begun: on every view
 abbrev pub BeginsWalk : Seat → PathWalk → Type 0
 BeginsWalk seat walk = (shown : ℕ → Option (List ℕ)) (path : List ℕ) → IsKept shown seat path walk
 
-abbrev pub BeginsWalks : Seat → PathWalks → Type 0
-BeginsWalks seat walks = (shown : ℕ → Option (List ℕ)) (made : Call) → IsGoing shown seat made walks
+abbrev pub BeginsPaths : Seat → PathWalks → Type 0
+BeginsPaths seat walks = (shown : ℕ → Option (List ℕ)) (made : Call) → AreWalks shown seat made walks
+
+abbrev pub BeginsWalks : Seat → Performing → Type 0
+BeginsWalks seat on = (shown : ℕ → Option (List ℕ)) (made : Call) → IsGoing shown seat made on
 
 -- the walk of the first or second path of a call, where there is one
 abbrev pub KeepsFirst : (ℕ → Option (List ℕ)) → Seat → Call → PathWalk → Type 0
@@ -125,4 +159,4 @@ ViewGrows shown later = (block : ℕ) → IfSome (shown block) (λ bytes. later 
 
 -- as long as the view only grows a call can go on where it stopped
 abbrev pub WalksGoOn : Type 0
-WalksGoOn = (shown later : ℕ → Option (List ℕ)) (seat : Seat) (made : Call) (walks : PathWalks) → ViewGrows shown later → IsGoing shown seat made walks → IsGoing later seat made walks
+WalksGoOn = (shown later : ℕ → Option (List ℕ)) (seat : Seat) (made : Call) (on : Performing) → ViewGrows shown later → IsGoing shown seat made on → IsGoing later seat made on

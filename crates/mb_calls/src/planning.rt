@@ -3,7 +3,7 @@ ghost use Rattle.mb_tree.specs.Plans.{IsPlanFor};
 ghost use Rattle.mb_tree.specs.Rows.{fstat_row, lseek_row, read_row};
 ghost use Rattle.mb_tree.specs.Trees.{IsThere};
 ghost use Rattle.mb_calls.specs.Asks.{NearCall, NearFile, NearInode, PlansAlone, PlansRow, TellsBase};
-ghost use Rattle.mb_calls.specs.Following.{IsGoing};
+ghost use Rattle.mb_calls.specs.Following.{AreWalks};
 ghost use Rattle.mb_calls.specs.Halts.{Needs, Says};
 ghost use Rattle.mb_calls.specs.Halts.Scope.{lacking};
 
@@ -81,7 +81,7 @@ fn plan_of_inode<F: FileSys, V: View>(
     moment: u32,
     walks: &PathWalks,
 ) -> Result<CallPlan, Halt>
-    requires going { IsGoing (V.shown view.now) seat.now call.now walks.now }
+    requires going { AreWalks (V.shown view.now) seat.now call.now walks.now }
     ensures wants { Needs (lacking (V.shown view.now)) result }
     ensures says { PlansAlone (V.shown view.now) seat.now call.now moment result }
     ensures near { NearCall (V.shown view.now) seat.now call.now result }
@@ -133,7 +133,7 @@ fn plan_of_name<F: FileSys, V: View>(
     moment: u32,
     walks: &PathWalks,
 ) -> Result<CallPlan, Halt>
-    requires going { IsGoing (V.shown view.now) seat.now call.now walks.now }
+    requires going { AreWalks (V.shown view.now) seat.now call.now walks.now }
     ensures wants { Needs (lacking (V.shown view.now)) result }
     ensures says { PlansRow (V.shown view.now) opens.now seats.now seat.now call.now moment result }
     ensures near { NearCall (V.shown view.now) seat.now call.now result }
@@ -214,7 +214,7 @@ pub fn plan_call<F: FileSys, V: View>(
     moment: u32,
     walks: &PathWalks,
 ) -> Result<CallPlan, Halt>
-    requires going { IsGoing (V.shown view.now) seat.now call.now walks.now }
+    requires going { AreWalks (V.shown view.now) seat.now call.now walks.now }
     ensures wants { Needs (lacking (V.shown view.now)) result }
     ensures says { PlansRow (V.shown view.now) opens.now seats.now seat.now call.now moment result }
     ensures near { NearCall (V.shown view.now) seat.now call.now result }

@@ -1,9 +1,9 @@
 ghost use Rattle.std.specs.Prelude.{◌<◌, IfSome, length};
-ghost use Rattle.mb_calls.specs.Following.{BeginsWalks, IsGoing, IsGoingFor, IsKept, KeepsFirst, KeepsSecond, LacksForCall, LacksOnWay, WalksGoOn};
+ghost use Rattle.mb_calls.specs.Following.{AreWalks, BeginsWalks, IsGoingFor, IsKept, KeepsFirst, KeepsSecond, LacksForCall, LacksOnWay, WalksGoOn};
 ghost use Rattle.mb_calls.specs.Looked.{IsFirst, IsSecond};
 ghost use Rattle.mb_calls.specs.Performed.{FitsCall, IsNeeded, IsRight};
 
-use crate::performing::{Performed, perform_on, seat_of};
+use crate::performing::{KeptPlan, Performed, perform_on, seat_of, write_on};
 use crate::walks::{PathWalk, PathWalks, find_place, follow, set_out};
 use mb_iface::{FileSys, Need, Opens, View};
 use mb_kinds::{Call, Path};
@@ -11,10 +11,12 @@ use mb_tree::{Seat, call_allowed};
 use std::alloc::Global;
 
 /// A call that is performed while its blocks are gathered: after each `Need` it goes on over a view that
-/// has more of them, and keeps how far its paths were followed. No memory is kept.
-#[derive(Clone, Copy, Debug, Drop)]
+/// has more of them, and keeps how far its paths were followed, and the plan of a write, whose bytes are not
+/// copied again for each of its blocks.
+#[derive(Drop)]
 pub struct Performing {
     pub walks: PathWalks,
+    pub kept: Option<KeptPlan>,
 }
 
 /// A call goes on over a view that has all that it had, with the same bytes.
@@ -153,8 +155,8 @@ fn advance<F: FileSys, V: View>(
     call: &Call,
     walks: &mut PathWalks,
 ) -> Option<Need>
-    requires going { IsGoing (V.shown view.now) seat.now call.now walks.old }
-    ensures going { IsGoing (V.shown view.now) seat.now call.now walks.new }
+    requires going { AreWalks (V.shown view.now) seat.now call.now walks.old }
+    ensures going { AreWalks (V.shown view.now) seat.now call.now walks.new }
     ensures lacking { IfSome result (LacksForCall (V.shown view.now) seat.now call.now) }
 {
     let need = first_on(alloc, fs, view, seat, call, &mut walks.first);
@@ -168,10 +170,11 @@ fn advance<F: FileSys, V: View>(
 impl Performing {
     /// A call that begins, whose paths are not followed yet.
     pub fn new(seat: &Seat) -> Performing
-        ensures { BeginsWalks seat.now result.walks }
+        ensures { BeginsWalks seat.now result }
     {
         Performing {
             walks: set_out(seat),
+            kept: None,
         }
     }
 
@@ -188,8 +191,8 @@ impl Performing {
         moment: u32,
     ) -> Performed
         requires declared { caller < length sessions.now }
-        requires going { IsGoingFor (V.shown view.now) sessions.now caller call.now self.old.walks }
-        ensures going { IsGoingFor (V.shown view.now) sessions.now caller call.now self.new.walks }
+        requires going { IsGoingFor (V.shown view.now) sessions.now caller call.now self.old }
+        ensures going { IsGoingFor (V.shown view.now) sessions.now caller call.now self.new }
         ensures right { IsRight (V.shown view.now) sessions.now opens.now caller call.now moment result }
         ensures needed { IsNeeded (V.shown view.now) sessions.now opens.now caller call.now result }
         ensures fit { FitsCall sessions.now caller call.now result }
@@ -198,17 +201,30 @@ impl Performing {
         let seat = seat_of(sessions, caller);
         match advance(alloc, fs, view, seat, call, &mut self.walks) {
             Some(need) => Performed::Need(need),
-            None => perform_on(
-                alloc,
-                fs,
-                view,
-                sessions,
-                opens,
-                caller,
-                call,
-                moment,
-                &self.walks,
-            ),
+            None => match call {
+                Call::Write { .. } => write_on(
+                    alloc,
+                    fs,
+                    view,
+                    sessions,
+                    opens,
+                    caller,
+                    call,
+                    moment,
+                    &mut self.kept,
+                ),
+                _ => perform_on(
+                    alloc,
+                    fs,
+                    view,
+                    sessions,
+                    opens,
+                    caller,
+                    call,
+                    moment,
+                    &self.walks,
+                ),
+            },
         }
     }
 }

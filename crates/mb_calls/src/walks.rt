@@ -1,6 +1,6 @@
 ghost use Rattle.std.specs.Prelude.{◌≡◌, ◌≤◌, ◌-◌, IfOk, IfSome, None, drop, length, take};
 ghost use Rattle.mb_calls.specs.Asks.{FindsInode, FindsPlace, NearFrom, NearWay, PlacesFrom};
-ghost use Rattle.mb_calls.specs.Following.{BeginsWalk, BeginsWalks, IsAhead, IsCut, IsKept, LacksOnWay, StepsOn, led_by};
+ghost use Rattle.mb_calls.specs.Following.{BeginsPaths, BeginsWalk, IsAhead, IsCut, IsKept, LacksOnWay, StepsOn, led_by};
 ghost use Rattle.mb_calls.specs.Halts.{Needs};
 ghost use Rattle.mb_calls.specs.Halts.Scope.{lacking};
 
@@ -53,7 +53,7 @@ pub(crate) enum Stepped {
 
 /// The walks of a call that begins.
 pub fn set_out(seat: &Seat) -> PathWalks
-    ensures { BeginsWalks seat.now result }
+    ensures { BeginsPaths seat.now result }
 {
     PathWalks {
         first: begin(seat),

@@ -37,8 +37,8 @@ same_tables (Some given) now Was Is there same on had = subst (λ (o : Option Ta
 
 module _ (before now : PagesState) (caller : ℕ) (call : Call) where
   grown_on : (on : Performing) → is_some before.tables ≡ true → PagesGrow before now → IsUnderWay before caller call (Some on) → IsUnderWay now caller call (Some on)
-  grown_on on there grows under = same_tables before.tables now.tables (λ given. IsGoingFor (shown before.blocks) given.sessions caller call on.walks) (λ given. IsGoingFor (shown now.blocks) given.sessions caller call on.walks) there grows.tables
-      (λ given going seat here. going_grows (shown before.blocks) (shown now.blocks) seat call on.walks grows.blocks (going seat here)) under
+  grown_on on there grows under = same_tables before.tables now.tables (λ given. IsGoingFor (shown before.blocks) given.sessions caller call on) (λ given. IsGoingFor (shown now.blocks) given.sessions caller call on) there grows.tables
+      (λ given going seat here. going_grows (shown before.blocks) (shown now.blocks) seat call on grows.blocks (going seat here)) under
 
   grown_way : (way : Option Performing) → is_some before.tables ≡ true → PagesGrow before now → IsUnderWay before caller call way → IsUnderWay now caller call way
   grown_way None there grows under = tt

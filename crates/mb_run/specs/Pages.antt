@@ -26,10 +26,10 @@ PerformsOver pages caller call moment result = IfSome pages.tables (λ (given : 
 
 -- ---- a call that goes on over more pages
 
--- how far it followed its paths over what it gathered
+-- how far it followed its paths over what it gathered, and the plan that it keeps
 abbrev pub IsUnderWay : PagesState → ℕ → Call → Option Performing → Type 0
 IsUnderWay pages caller call way = IfSome way (λ (on : Performing). IfSome pages.tables (λ (given : TableCopy).
-    IsGoingFor (shown pages.blocks) given.sessions caller call on.walks))
+    IsGoingFor (shown pages.blocks) given.sessions caller call on))
 
 -- none of the blocks that are asked for was gathered
 abbrev pub LacksAll : PagesState → Need → Type 0

@@ -90,13 +90,13 @@ pub given_by : (tables : Option TableCopy) (seats : List Seat) (P : List Seat �
 given_by None seats P is holds = absurd (never_some seats is)
 given_by (Some given) seats P is holds = subst P (sym (same_Some seats given.sessions is)) holds
 
--- the walks of a call that went on so far are good over what it gathered, and so are those that begin at its session
+-- a call that went on so far can go on over what it gathered, and so can one that begins at its session
 pub going_from : (pages : PagesState) (caller : ℕ) (call : Call) (way : Option Performing) (fresh on : Performing) (seats : List Seat) (own : Seat) → Some seats ≡ option_map (λ (given : TableCopy). given.sessions) pages.tables
-    → IsUnderWay pages caller call way → on ≡ unwrap_or way fresh → slice_get seats caller ≡ Some own → BeginsWalks own fresh.walks → IsGoingFor (shown pages.blocks) seats caller call on.walks
+    → IsUnderWay pages caller call way → on ≡ unwrap_or way fresh → slice_get seats caller ≡ Some own → BeginsWalks own fresh → IsGoingFor (shown pages.blocks) seats caller call on
 going_from pages caller call None fresh on seats own given under is at begins = λ seat here.
-    subst (λ (p : Performing). IsGoing (shown pages.blocks) seat call p.walks) (sym is) (subst (λ (s : Seat). IsGoing (shown pages.blocks) s call fresh.walks) (same_Some own seat (sym at ∙ here)) (begins (shown pages.blocks) call))
+    subst (λ (p : Performing). IsGoing (shown pages.blocks) seat call p) (sym is) (subst (λ (s : Seat). IsGoing (shown pages.blocks) s call fresh) (same_Some own seat (sym at ∙ here)) (begins (shown pages.blocks) call))
 going_from pages caller call (Some was) fresh on seats own given under is at begins =
-    subst (λ (p : Performing). IsGoingFor (shown pages.blocks) seats caller call p.walks) (sym is) (given_by pages.tables seats (λ (all : List Seat). IsGoingFor (shown pages.blocks) all caller call was.walks) given under)
+    subst (λ (p : Performing). IsGoingFor (shown pages.blocks) seats caller call p) (sym is) (given_by pages.tables seats (λ (all : List Seat). IsGoingFor (shown pages.blocks) all caller call was) given under)
 
 -- a declared caller has a session
 pub seated_within : (tables : Option TableCopy) (seats : List Seat) (callers caller : ℕ) → Some seats ≡ option_map (λ (given : TableCopy). given.sessions) tables → IfSome tables (λ (given : TableCopy). length given.sessions ≡ callers) → caller < callers → caller < length seats
