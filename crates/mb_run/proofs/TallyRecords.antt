@@ -1,7 +1,8 @@
 -- What fault records tell of the fault points of calls, with one record more.
-use Rattle.std.proofs.Common.{◌≡◌, ◌≢◌, List, [], ◌∷◌, ◌++◌, ℕ, zero, suc, ◌+◌, ◌-◌, ◌<◌, ◌≤◌, Bool, true, false, ◌&&◌, ◌||◌, cond, length, nat_eq, inl, inr, refl, ap, sym, subst, ◌∙◌, arith, add-zero, Option, None, Some, IfSome, slice_index}
+use Rattle.std.proofs.Common.{◌≡◌, ◌≢◌, List, [], ◌∷◌, ◌++◌, ℕ, zero, suc, ◌+◌, ◌-◌, ◌<◌, ◌≤◌, Bool, true, false, ◌&&◌, ◌||◌, cond, nat_eq, append_assoc, inl, inr, refl, ap, sym, subst, ◌∙◌, arith, add-zero, Option, None, Some, IfSome, slice_index}
 use Rattle.std.proofs.lemmas.Bool.{eq-eqb}
 use Rattle.std.proofs.lemmas.Bool.Decides.{leb_tells}
+use Rattle.std.proofs.lemmas.List.{append-nil}
 use Rattle.std.proofs.lemmas.List.Folds.{list_any-append}
 use Rattle.std.proofs.lemmas.List.Sums.{sum_by_push}
 use Rattle.std.specs.List.{list_any}
@@ -37,15 +38,14 @@ and_false a b is = rw is refl
 abbrev pub fault_at : Crossings → Kind → ℕ → FaultRecord
 fault_at crossings kind nth = record { caller = crossings.caller; ordinal = crossings.ordinal; kind = kind; nth = nth }
 
-pub near_push : (before : ℕ) (records : List FaultRecord) (fault : FaultRecord) → AreNear before records → is_near (before + length records) fault.kind fault.nth ≡ true → AreNear before (records ++ fault ∷ [])
-near_push before [] fault near one = (subst (λ n. is_near n fault.kind fault.nth ≡ true) (add-zero before) one, tt)
+pub near_push : (before records : List FaultRecord) (fault : FaultRecord) → AreNear before records → is_near (before ++ records) fault.caller fault.ordinal fault.kind fault.nth ≡ true → AreNear before (records ++ fault ∷ [])
+near_push before [] fault near one = (subst (λ bs. is_near bs fault.caller fault.ordinal fault.kind fault.nth ≡ true) (append-nil before) one, tt)
 near_push before (first ∷ records) fault near one =
-    let same : before + length (first ∷ records) ≡ before + 1 + length records = omega arith in
-    (near.0, near_push (before + 1) records fault near.1 (subst (λ n. is_near n fault.kind fault.nth ≡ true) same one))
+    (near.0, near_push (before ++ first ∷ []) records fault near.1 (subst (λ bs. is_near bs fault.caller fault.ordinal fault.kind fault.nth ≡ true) (sym (append_assoc before (first ∷ []) records)) one))
 
-pub tallied_push : (records : List FaultRecord) (fault : FaultRecord) → AreTallied records → is_near (length records) fault.kind fault.nth ≡ true → 1 ≤ fault.nth → AreTallied (records ++ fault ∷ [])
+pub tallied_push : (records : List FaultRecord) (fault : FaultRecord) → AreTallied records → is_near records fault.caller fault.ordinal fault.kind fault.nth ≡ true → 1 ≤ fault.nth → AreTallied (records ++ fault ∷ [])
 tallied_push records fault are near one = record {
-  near = near_push 0 records fault are.near (let same : length records ≡ 0 + length records = omega arith in subst (λ n. is_near n fault.kind fault.nth ≡ true) same near);
+  near = near_push [] records fault are.near near;
   positive = all_both (λ (f : FaultRecord). 1 ≤ f.nth) records (fault ∷ []) are.positive (one, tt);
 }
 

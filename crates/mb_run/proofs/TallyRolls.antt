@@ -16,7 +16,7 @@ use Rattle.mb_kinds.specs.declared.faults.Kind.TheVariants.{Enter, Gather, Finis
 use Rattle.mb_kinds.specs.declared.replies.Reply.TheVariants as reply
 use Rattle.mb_run.specs.Events.{Answers, entry_of}
 use Rattle.mb_run.specs.Recovering.{GoOn, Rolls, Steps, StrikesStep, awaits_remount, counted, next_of}
-use Rattle.mb_run.specs.Runs.{TakesUpTo, is_near, recoveries_of}
+use Rattle.mb_run.specs.Runs.{TakesUpTo, is_near, recoveries_of, strikes_inside}
 use Rattle.mb_run.specs.Served.{AreSixCounts, IsAtBy, IsResting, CrossingsAreKept, MayStep, advanced, calls_in, calls_of, with_crossings}
 use Rattle.mb_run.specs.Sights.{IsWaiting, Sight, one_if, recovers}
 use Rattle.mb_run.specs.Tallies.{AreTallied, HasPassedAtLeast, HasPassedPoints, IsBetween, IsPast, IsUpToDate, IsRestarted, IsTallied, TalliedBy, count_of}
@@ -81,8 +81,8 @@ module _ (test : Option (Crossing → Bool)) (old new : Sight) (runner : Runner)
       asked = tally.asked;
       present = tt;
       records = rw records tally.records;
-      enters = (let was = tally.enters in omega (arith, size, was));
-      finishes = (let was = tally.finishes in omega (arith, size, was));
+      enters = rw records tally.enters;
+      finishes = rw records tally.finishes;
       remounts = (let was = tally.remounts in omega (arith, size, was, fewer));
       passed = rw records tally.passed;
       taken = rw records tally.taken;
@@ -97,8 +97,8 @@ module _ (test : Option (Crossing → Bool)) (old new : Sight) (runner : Runner)
         asked = tally.asked;
         present = tt;
         records = rw records tally.records;
-        enters = (let was = tally.enters in let same = counted_there runner.crossings kind are Enter (λ is. omega (arith, is, late)) in omega (arith, size, was, same));
-        finishes = (let was = tally.finishes in let same = counted_there runner.crossings kind are Finish (λ is. omega (arith, is, late)) in omega (arith, size, was, same));
+        enters = rw records (let was = tally.enters in let same = counted_there runner.crossings kind are Enter (λ is. omega (arith, is, late)) in omega (arith, was, same));
+        finishes = rw records (let was = tally.finishes in let same = counted_there runner.crossings kind are Finish (λ is. omega (arith, is, late)) in omega (arith, was, same));
         remounts = omega (arith, size, remounts);
         passed = rw records (passed_back old.records (counted runner.crossings kind) runner.pages runner.answered lacks (passed_late kind are late) (counted_there runner.crossings kind are Leave (λ is. omega (arith, is, late)) ∙ left_none.1));
         taken = rw records (taken_go runner.crossings kind are test old.records tally.taken unfired);
@@ -115,6 +115,15 @@ module _ (test : Option (Crossing → Bool)) (old new : Sight) (runner : Runner)
     abbrev struck_records : List FaultRecord
     struck_records = old.records ++ fault_at runner.crossings kind (next_nth runner.crossings.counts kind) ∷ []
 
+    -- none of those before the call has its entry
+    struck_still : strikes_inside struck_records runner.crossings.caller runner.crossings.ordinal ≡ strikes_inside old.records runner.crossings.caller runner.crossings.ordinal
+    struck_still =
+        let nth : ℕ = next_nth runner.crossings.counts kind in
+        let e = strikes_there old.records runner.crossings kind nth Enter (λ is. omega (arith, is, late)) in
+        let g = strikes_there old.records runner.crossings kind nth Gather (λ is. omega (arith, is, late)) in
+        let f = strikes_there old.records runner.crossings kind nth Finish (λ is. omega (arith, is, late)) in
+        omega (arith, e, g, f)
+
     struck_late : HasPassedAtLeast struck_records (counted runner.crossings kind) 0 0 0
     struck_late =
         let was = passed_late kind are late in
@@ -128,15 +137,15 @@ module _ (test : Option (Crossing → Bool)) (old new : Sight) (runner : Runner)
         let f = strikes_there old.records runner.crossings kind nth Finish (λ is. omega (arith, is, late)) in
         record { twice = omega (arith, twice, e, g, f); enters = omega (arith, enters, e, g, f); gathers = omega (arith, gathers, g, f); finishes = omega (arith, finishes, f) }
 
-    pub rolls_struck : is_near (length old.records) kind (next_nth runner.crossings.counts kind) ≡ true → count_of (counted runner.crossings kind) Remount + one_if (awaits_remount new.stage) ≤ length old.records + 1
+    pub rolls_struck : is_near old.records runner.crossings.caller runner.crossings.ordinal kind (next_nth runner.crossings.counts kind) ≡ true → count_of (counted runner.crossings kind) Remount + one_if (awaits_remount new.stage) ≤ length old.records + 1
         → recoveries_of old.records runner.crossings.caller runner.crossings.ordinal ≤ count_of (counted runner.crossings kind) Remount
         → (awaits_remount new.stage ≡ true) ⊎ (new.stage ≡ stage.Failed) → IsTallied test new (with_counted runner kind) at.Outside
     rolls_struck near remounts all on = record {
       asked = tally.asked;
       present = tt;
       records = subst AreTallied (sym more) (tallied_push old.records (fault_at runner.crossings kind (next_nth runner.crossings.counts kind)) tally.records near (next_more runner.crossings.counts kind).1);
-      enters = (let was = tally.enters in let same = counted_there runner.crossings kind are Enter (λ is. omega (arith, is, late)) in omega (arith, longer, was, same));
-      finishes = (let was = tally.finishes in let same = counted_there runner.crossings kind are Finish (λ is. omega (arith, is, late)) in omega (arith, longer, was, same));
+      enters = rw more (let was = tally.enters in let same = counted_there runner.crossings kind are Enter (λ is. omega (arith, is, late)) in omega (arith, was, same, struck_still));
+      finishes = rw more (let was = tally.finishes in let same = counted_there runner.crossings kind are Finish (λ is. omega (arith, is, late)) in omega (arith, was, same, struck_still));
       remounts = omega (arith, longer, remounts);
       passed = subst (λ (rs : List FaultRecord). HasPassedPoints rs (counted runner.crossings kind) runner.pages runner.answered at.Outside) (sym more)
           (passed_back struck_records (counted runner.crossings kind) runner.pages runner.answered lacks struck_late (counted_there runner.crossings kind are Leave (λ is. omega (arith, is, late)) ∙ left_none.1));
@@ -196,7 +205,7 @@ module _ (test : Option (Crossing → Bool)) (old new : Sight) (runner : Runner)
             let was = tally.remounts in
             subst (λ (k : Kind). IsTallied test new (with_counted runner k) at.Outside) (sym dropped.1)
             (rolls_struck test old new runner tally lacks strikes.waits.counts.history Remount are (omega arith) (subst (λ (k : Kind). new.records ≡ old.records ++ fault_at runner.crossings k (next_nth runner.crossings.counts k) ∷ []) dropped.1 more)
-            (let next = (next_more runner.crossings.counts Remount).0 in le-leb (next_nth runner.crossings.counts Remount) (length old.records + 1) (omega (arith, next, was, before)))
+            (let next = (next_more runner.crossings.counts Remount).0 in le-leb (next_nth runner.crossings.counts Remount) (length old.records) (omega (arith, next, was, before)))
             (let counts = counted_most runner.crossings Remount are in omega (arith, counts, was, before, most)) (all_restarted (ap awaits_remount dropped.0)) on))
         | inr replays ↦ (
             let was = tally.remounts in

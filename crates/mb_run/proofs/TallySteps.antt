@@ -30,7 +30,7 @@ use Rattle.mb_run.proofs.Balance.{marked_here, marked_lacks}
 use Rattle.mb_run.proofs.Inside.{own_logged, own_ordinal, own_ticket, ordinal_logged}
 use Rattle.mb_run.proofs.Lists.{all_both, all_map}
 use Rattle.mb_run.proofs.Once.{unplain_is}
-use Rattle.mb_run.proofs.Tallying.{ends_left, ends_outside, ends_unplain, enter_go, enter_struck, finish_go, finish_struck, gather_go, gather_struck, gathered_if, leave_struck, passed_pages, restarted_runs, tally_on, with_counted}
+use Rattle.mb_run.proofs.Tallying.{ends_left, ends_outside, ends_unplain, enter_go, enter_struck, entered_logged, finish_go, finished_logged, finish_struck, gather_go, gather_struck, gathered_if, leave_struck, passed_pages, restarted_runs, tally_on, with_counted}
 use Rattle.mb_run.proofs.Twice.{once_at_most}
 
 -- ---- a call goes in
@@ -134,8 +134,8 @@ module _ (calls : List JobCall) (test : Option (Crossing → Bool)) (old : Sight
         asked = tally.asked;
         present = (now ∙ sym logs.stays.incarnation, logs.stays.stage ∙ runs);
         records = rw same tally.records;
-        enters = rw same tally.enters;
-        finishes = rw same tally.finishes;
+        enters = rw same (let was = tally.enters in let in_it = entered_logged runner.answered ticket in omega (arith, was, in_it));
+        finishes = rw same (let was = tally.finishes in let done = finished_logged runner.answered ticket in omega (arith, was, done));
         remounts = rw (same, logs.stays.stage) tally.remounts;
         passed = rw same tally.passed;
         taken = rw same tally.taken;

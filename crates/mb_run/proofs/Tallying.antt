@@ -19,7 +19,7 @@ use Rattle.mb_run.specs.Recovering.{awaits_remount, counted, next_of}
 use Rattle.mb_run.specs.Runs.{EntryTakesFaults, TakesFaults, TakesUpTo, is_near, is_plain, recoveries_of, strikes_inside, strikes_of}
 use Rattle.mb_run.specs.Served.{AreSixCounts, advanced, backed}
 use Rattle.mb_run.specs.Sights.{Sight, one_if}
-use Rattle.mb_run.specs.Tallies.{AreTallied, HasPassedAtLeast, HasPassedPoints, HasTallied, IsBetween, IsPast, IsUpToDate, IsRestarted, IsTallied, count_of, is_in, is_logged}
+use Rattle.mb_run.specs.Tallies.{AreTallied, HasPassedAtLeast, HasPassedPoints, HasTallied, IsBetween, IsPast, IsUpToDate, IsRestarted, IsTallied, count_of, has_entered, has_finished, is_in, is_logged}
 use Rattle.mb_run.specs.declared.runner.At.{At}
 use Rattle.mb_run.specs.declared.runner.At.TheVariants as at
 use Rattle.mb_run.specs.declared.runner.Runner.{Runner}
@@ -217,19 +217,59 @@ module _ (test : Option (Crossing → Bool)) (old new : Sight) (runner : Runner)
 
 -- ---- a call goes on
 
+-- farther on it entered and finished as often, or once more
+entered_more : (answered : Bool) (from to : At) → is_in from ≤ is_in to → has_entered answered from ≤ has_entered answered to
+entered_more true from to more = omega arith
+entered_more false from to more = more
+
+finished_more : (answered : Bool) (from to : At) → is_logged from ≤ is_logged to → has_finished answered from ≤ has_finished answered to
+finished_more true from to more = omega arith
+finished_more false from to more = more
+
+-- a call that lacks its entry, outside
+pub none_entered : (answered : Bool) → answered ≡ false → has_entered answered at.Outside ≡ 0
+none_entered answered lacks = ap (λ b. has_entered b at.Outside) lacks
+
+pub none_finished : (answered : Bool) (stand : At) → answered ≡ false → is_logged stand ≡ 0 → has_finished answered stand ≡ 0
+none_finished answered stand lacks out = ap (λ b. has_finished b stand) lacks ∙ out
+
+entered_outside : (answered : Bool) → has_entered answered at.Outside ≡ one_if answered
+entered_outside true = refl
+entered_outside false = refl
+
+finished_outside : (answered : Bool) → has_finished answered at.Outside ≡ one_if answered
+finished_outside true = refl
+finished_outside false = refl
+
+-- one that is inside, or has its entry
+pub entered_in : (answered : Bool) (ticket : Ticket) → has_entered answered (at.Inside ticket) ≡ 1
+entered_in true ticket = refl
+entered_in false ticket = refl
+
+pub entered_logged : (answered : Bool) (ticket : Ticket) → has_entered answered (at.Logged ticket) ≡ 1
+entered_logged true ticket = refl
+entered_logged false ticket = refl
+
+pub finished_logged : (answered : Bool) (ticket : Ticket) → has_finished answered (at.Logged ticket) ≡ 1
+finished_logged true ticket = refl
+finished_logged false ticket = refl
+
 -- the entries and records stay, and the call stands as before or farther
 pub tally_on : (test : Option (Crossing → Bool)) (old new : Sight) (before now : Runner) (from to : At) → IsTallied test old before from → new.records ≡ old.records → new.stage ≡ old.stage → new.history ≡ old.history → now.crossings ≡ before.crossings
     → now.answered ≡ before.answered → now.asked ≡ false → IsUpToDate new now.crossings.caller to → HasPassedPoints old.records now.crossings now.pages now.answered to → is_in from ≤ is_in to → is_logged from ≤ is_logged to → IsTallied test new now to
 tally_on test old new before now from to tally records on history crossings answered asked present passed inner later =
     let size : length new.records ≡ length old.records = ap length records in
+    let struck : strikes_inside new.records now.crossings.caller now.crossings.ordinal ≡ strikes_inside old.records before.crossings.caller before.crossings.ordinal = rw (records, crossings) refl in
+    let gone = entered_more before.answered from to inner in
+    let done = finished_more before.answered from to later in
     let same : (kind : Kind) → count_of now.crossings kind ≡ count_of before.crossings kind = λ kind. ap (λ (c : Crossings). count_of c kind) crossings in
     let awaits : one_if (awaits_remount new.stage) ≡ one_if (awaits_remount old.stage) = ap (λ (s : Stage). one_if (awaits_remount s)) on in
     record {
       asked = asked;
       present = present;
       records = rw records tally.records;
-      enters = (let was = tally.enters in omega (arith, size, same Enter, was, inner));
-      finishes = (let was = tally.finishes in omega (arith, size, same Finish, was, later));
+      enters = rw answered (let was = tally.enters in omega (arith, struck, same Enter, was, gone));
+      finishes = rw answered (let was = tally.finishes in omega (arith, struck, same Finish, was, done));
       remounts = (let was = tally.remounts in omega (arith, size, same Remount, was, awaits));
       passed = rw records passed;
       taken = rw (crossings, records) tally.taken;
@@ -244,8 +284,9 @@ module _ (test : Option (Crossing → Bool)) (old : Sight) (runner : Runner) (ki
   same_remounts = counted_there runner.crossings kind are Remount apart
 
   -- the call goes on
-  pub tally_go : IfSome test (λ fires. fires (next_of kind runner.crossings) ≡ false) → (to : At) → IsUpToDate old runner.crossings.caller to → count_of (counted runner.crossings kind) Enter ≤ length old.records + is_in to
-      → count_of (counted runner.crossings kind) Finish ≤ length old.records + is_logged to → HasPassedPoints old.records (counted runner.crossings kind) runner.pages runner.answered to → IsTallied test old (with_counted runner kind) to
+  pub tally_go : IfSome test (λ fires. fires (next_of kind runner.crossings) ≡ false) → (to : At) → IsUpToDate old runner.crossings.caller to
+      → count_of (counted runner.crossings kind) Enter ≤ strikes_inside old.records runner.crossings.caller runner.crossings.ordinal + has_entered runner.answered to
+      → count_of (counted runner.crossings kind) Finish ≤ strikes_inside old.records runner.crossings.caller runner.crossings.ordinal + has_finished runner.answered to → HasPassedPoints old.records (counted runner.crossings kind) runner.pages runner.answered to → IsTallied test old (with_counted runner kind) to
   tally_go unfired to present enters finishes passed = record {
     asked = tally.asked;
     present = present;
@@ -275,9 +316,12 @@ module _ (test : Option (Crossing → Bool)) (old : Sight) (runner : Runner) (ki
 
   -- the call is struck
   pub tally_struck : (new : Sight) (ticket : Ticket) → ticket.caller ≡ runner.crossings.caller → ticket.ordinal ≡ runner.crossings.ordinal → old.stage ≡ stage.Running → StrikesCall old new ticket kind (next_nth runner.crossings.counts kind)
-      → is_near (length old.records) kind (next_nth runner.crossings.counts kind) ≡ true → count_of (counted runner.crossings kind) Enter ≤ length old.records + 1 → count_of (counted runner.crossings kind) Finish ≤ length old.records + 1
+      → is_near old.records runner.crossings.caller runner.crossings.ordinal kind (next_nth runner.crossings.counts kind) ≡ true
+      → count_of (counted runner.crossings kind) Enter ≤ strikes_inside old.records runner.crossings.caller runner.crossings.ordinal + 1
+      → count_of (counted runner.crossings kind) Finish ≤ strikes_inside old.records runner.crossings.caller runner.crossings.ordinal + 1
+      → strikes_inside old.records runner.crossings.caller runner.crossings.ordinal + 1 ≤ strikes_inside struck_records runner.crossings.caller runner.crossings.ordinal + one_if runner.answered
       → HasPassedPoints struck_records (counted runner.crossings kind) no_pages runner.answered at.Outside → (runner.answered ≡ false) ⊎ (place_of kind ≡ 3) → IsTallied test new (backed (with_counted runner kind)) at.Outside
-  tally_struck new ticket own ordinal runs strikes near enters finishes passed late =
+  tally_struck new ticket own ordinal runs strikes near enters finishes counts passed late =
       let nth : ℕ = next_nth runner.crossings.counts kind in
       let fault : FaultRecord = fault_at runner.crossings kind nth in
       let more : new.records ≡ struck_records = strikes.records
@@ -289,8 +333,10 @@ module _ (test : Option (Crossing → Bool)) (old : Sight) (runner : Runner) (ki
         asked = refl;
         present = tt;
         records = subst AreTallied (sym more) (tallied_push old.records fault tally.records near (next_more runner.crossings.counts kind).1);
-        enters = omega (arith, enters, size);
-        finishes = omega (arith, finishes, size);
+        enters = subst (λ (rs : List FaultRecord). count_of (counted runner.crossings kind) Enter ≤ strikes_inside rs runner.crossings.caller runner.crossings.ordinal + has_entered runner.answered at.Outside) (sym more)
+            (let out = entered_outside runner.answered in omega (arith, enters, counts, out));
+        finishes = subst (λ (rs : List FaultRecord). count_of (counted runner.crossings kind) Finish ≤ strikes_inside rs runner.crossings.caller runner.crossings.ordinal + has_finished runner.answered at.Outside) (sym more)
+            (let out = finished_outside runner.answered in omega (arith, finishes, counts, out));
         remounts = (let was = tally.remounts in omega (arith, same_remounts, was, size, one));
         passed = subst (λ (rs : List FaultRecord). HasPassedPoints rs (counted runner.crossings kind) no_pages runner.answered at.Outside) (sym more) passed;
         taken = subst (λ (rs : List FaultRecord). (other : Kind) → TakesUpTo test rs runner.crossings.caller runner.crossings.ordinal other (count_of (counted runner.crossings kind) other)) (sym more)
@@ -303,15 +349,16 @@ module _ (test : Option (Crossing → Bool)) (old : Sight) (runner : Runner) (ki
 
 -- ---- by its kinds
 
-near_next : (n nth : ℕ) → nth ≤ n + 1 → is_near n Enter nth ≡ true
-near_next n nth low = le-leb nth (n + 1) low
+near_next : (records : List FaultRecord) (caller ordinal nth : ℕ) → nth ≤ strikes_inside records caller ordinal + 1 → is_near records caller ordinal Enter nth ≡ true
+near_next records caller ordinal nth low = le-leb nth (strikes_inside records caller ordinal + 1) low
 
 never_remount : (n : ℕ) → n < 4 → 4 ≢ n
 never_remount n low same = omega (arith, low, same)
 
 module _ (test : Option (Crossing → Bool)) (old : Sight) (runner : Runner) (are : AreSixCounts runner.crossings) (ticket : Ticket) (runs : old.stage ≡ stage.Running) where
+  -- how many faults struck the call before it had its entry
   abbrev n : ℕ
-  n = length old.records
+  n = strikes_inside old.records runner.crossings.caller runner.crossings.ordinal
 
   abbrev Unfired : Kind → Type 0
   Unfired kind = IfSome test (λ fires. fires (next_of kind runner.crossings) ≡ false)
@@ -344,10 +391,10 @@ module _ (test : Option (Crossing → Bool)) (old : Sight) (runner : Runner) (ar
     no_leave = counted_there runner.crossings Enter are Leave (λ same. omega (arith, same)) ∙ was_outside.1
 
     one_more : count_of (after Enter) Enter ≤ n + 1
-    one_more = let most = counted_most runner.crossings Enter are in let was = tally.enters in omega (arith, most, was)
+    one_more = let most = counted_most runner.crossings Enter are in let was = tally.enters in let out = none_entered runner.answered lacks in omega (arith, most, was, out)
 
     same_finishes : count_of (after Enter) Finish ≤ n
-    same_finishes = let is = counted_there runner.crossings Enter are Finish (λ same. omega (arith, same)) in let was = tally.finishes in omega (arith, is, was)
+    same_finishes = let is = counted_there runner.crossings Enter are Finish (λ same. omega (arith, same)) in let was = tally.finishes in let out = none_finished runner.answered at.Outside lacks refl in omega (arith, is, was, out)
 
     gathers_still : count_of (after Enter) Gather ≡ count_of runner.crossings Gather
     gathers_still = counted_there runner.crossings Enter are Gather (λ same. omega (arith, same))
@@ -379,14 +426,15 @@ module _ (test : Option (Crossing → Bool)) (old : Sight) (runner : Runner) (ar
     pub enter_go : Unfired Enter → ticket.incarnation ≡ old.incarnation → old.fresh runner.crossings.caller ≡ true → runner.pages ≡ no_pages → strikes_inside old.records runner.crossings.caller runner.crossings.ordinal ≤ 1
         → IsTallied test old (with_counted runner Enter) (at.Inside ticket)
     enter_go unfired present fresh empty once =
-        tally_go test old runner Enter are at.Outside tally (never_remount 0 (omega arith)) unfired (at.Inside ticket) (present, fresh) one_more (omega (arith, same_finishes))
+        tally_go test old runner Enter are at.Outside tally (never_remount 0 (omega arith)) unfired (at.Inside ticket) (present, fresh) (let is = entered_in runner.answered ticket in omega (arith, one_more, is)) (omega (arith, same_finishes))
         (subst (λ (p : PagesState). HasPassedAtLeast old.records (after Enter) 1 (one_if (has p 0)) 0) (sym empty) (went_in once), no_leave)
 
     pub enter_struck : (new : Sight) → ticket.caller ≡ runner.crossings.caller → ticket.ordinal ≡ runner.crossings.ordinal → strikes_inside old.records runner.crossings.caller runner.crossings.ordinal ≤ 1
         → StrikesCall old new ticket Enter (next_nth runner.crossings.counts Enter) → IsTallied test new (backed (with_counted runner Enter)) at.Outside
     enter_struck new own ordinal once strikes =
         let here = counted_here runner.crossings Enter are in
-        tally_struck test old runner Enter are at.Outside tally (never_remount 0 (omega arith)) new ticket own ordinal runs strikes (near_next n (next_nth runner.crossings.counts Enter) (omega (arith, one_more, here))) one_more (omega (arith, same_finishes))
+        tally_struck test old runner Enter are at.Outside tally (never_remount 0 (omega arith)) new ticket own ordinal runs strikes (near_next old.records runner.crossings.caller runner.crossings.ordinal (next_nth runner.crossings.counts Enter) (omega (arith, one_more, here))) one_more (omega (arith, same_finishes))
+        (let e = more_of Enter in let g = same_of Enter Gather (λ same. omega (arith, same)) in let f = same_of Enter Finish (λ same. omega (arith, same)) in omega (arith, e, g, f))
         (passed_back (with_fault Enter) (after Enter) no_pages runner.answered lacks (struck_in once) no_leave) (inl lacks)
 
   -- a call inside
@@ -395,7 +443,7 @@ module _ (test : Option (Crossing → Bool)) (old : Sight) (runner : Runner) (ar
     inside_leave kind apart = counted_there runner.crossings kind are Leave apart ∙ tally.passed.1
 
     inside_enters : (kind : Kind) → 0 ≢ place_of kind → count_of (after kind) Enter ≤ n + 1
-    inside_enters kind apart = let is = counted_there runner.crossings kind are Enter apart in let was = tally.enters in omega (arith, is, was)
+    inside_enters kind apart = let is = counted_there runner.crossings kind are Enter apart in let was = tally.enters in let in_it = entered_in runner.answered ticket in omega (arith, is, was, in_it)
 
     was_inside : HasPassedAtLeast old.records runner.crossings 1 (one_if (has runner.pages 0)) 0
     was_inside = tally.passed.0
@@ -435,18 +483,24 @@ module _ (test : Option (Crossing → Bool)) (old : Sight) (runner : Runner) (ar
     gather_go unfired =
         let same = counted_there runner.crossings Gather are Finish (λ same. omega (arith, same)) in
         let was = tally.finishes in
-        tally_go test old runner Gather are (at.Inside ticket) tally (never_remount 1 (omega arith)) unfired (at.Inside ticket) tally.present (inside_enters Gather (λ same. omega (arith, same))) (omega (arith, same, was))
+        let in_it = entered_in runner.answered ticket in
+        let enters = inside_enters Gather (λ same. omega (arith, same)) in
+        tally_go test old runner Gather are (at.Inside ticket) tally (never_remount 1 (omega arith)) unfired (at.Inside ticket) tally.present (omega (arith, enters, in_it)) (omega (arith, same, was))
         (gathered_if (has runner.pages 0), inside_leave Gather (λ same. omega (arith, same)))
 
     pub gather_struck : (new : Sight) → ticket.caller ≡ runner.crossings.caller → ticket.ordinal ≡ runner.crossings.ordinal → StrikesCall old new ticket Gather (next_nth runner.crossings.counts Gather) → IsTallied test new (backed (with_counted runner Gather)) at.Outside
     gather_struck new own ordinal strikes =
         let same = counted_there runner.crossings Gather are Finish (λ same. omega (arith, same)) in
         let was = tally.finishes in
-        tally_struck test old runner Gather are (at.Inside ticket) tally (never_remount 1 (omega arith)) new ticket own ordinal runs strikes refl (inside_enters Gather (λ same. omega (arith, same))) (omega (arith, same, was))
+        let none = none_finished runner.answered (at.Inside ticket) lacks refl in
+        let e = same_of Gather Enter (λ same. omega (arith, same)) in
+        let g = more_of Gather in
+        let f = same_of Gather Finish (λ same. omega (arith, same)) in
+        tally_struck test old runner Gather are (at.Inside ticket) tally (never_remount 1 (omega arith)) new ticket own ordinal runs strikes refl (inside_enters Gather (λ same. omega (arith, same))) (omega (arith, same, was, none)) (omega (arith, e, g, f))
         (passed_back (with_fault Gather) (after Gather) no_pages runner.answered lacks struck_gathering (inside_leave Gather (λ same. omega (arith, same)))) (inl lacks)
 
     finish_most : count_of (after Finish) Finish ≤ n + 1
-    finish_most = let most = counted_most runner.crossings Finish are in let was = tally.finishes in omega (arith, most, was)
+    finish_most = let most = counted_most runner.crossings Finish are in let was = tally.finishes in let none = none_finished runner.answered (at.Inside ticket) lacks refl in omega (arith, most, was, none)
 
     -- it has the tables, and comes to finish
     module _ (there : has runner.pages 0 ≡ true) where
@@ -479,22 +533,26 @@ module _ (test : Option (Crossing → Bool)) (old : Sight) (runner : Runner) (ar
 
       pub finish_go : Unfired Finish → IsTallied test old (with_counted runner Finish) (at.Logged ticket)
       finish_go unfired =
-          tally_go test old runner Finish are (at.Inside ticket) tally (never_remount 2 (omega arith)) unfired (at.Logged ticket) (tally.present.0, runs) (inside_enters Finish (λ same. omega (arith, same))) finish_most
+          let enters = inside_enters Finish (λ same. omega (arith, same)) in
+          let in_it = entered_logged runner.answered ticket in
+          let done = finished_logged runner.answered ticket in
+          tally_go test old runner Finish are (at.Inside ticket) tally (never_remount 2 (omega arith)) unfired (at.Logged ticket) (tally.present.0, runs) (omega (arith, enters, in_it)) (omega (arith, finish_most, done))
           (finished, inside_leave Finish (λ same. omega (arith, same)))
 
       pub finish_struck : (new : Sight) → ticket.caller ≡ runner.crossings.caller → ticket.ordinal ≡ runner.crossings.ordinal → StrikesCall old new ticket Finish (next_nth runner.crossings.counts Finish) → IsTallied test new (backed (with_counted runner Finish)) at.Outside
       finish_struck new own ordinal strikes =
           let here = counted_here runner.crossings Finish are in
-          tally_struck test old runner Finish are (at.Inside ticket) tally (never_remount 2 (omega arith)) new ticket own ordinal runs strikes (near_next n (next_nth runner.crossings.counts Finish) (omega (arith, finish_most, here)))
-          (inside_enters Finish (λ same. omega (arith, same))) finish_most (passed_back (with_fault Finish) (after Finish) no_pages runner.answered lacks struck_finishing (inside_leave Finish (λ same. omega (arith, same)))) (inl lacks)
+          tally_struck test old runner Finish are (at.Inside ticket) tally (never_remount 2 (omega arith)) new ticket own ordinal runs strikes (near_next old.records runner.crossings.caller runner.crossings.ordinal (next_nth runner.crossings.counts Finish) (omega (arith, finish_most, here)))
+          (inside_enters Finish (λ same. omega (arith, same))) finish_most
+          (let e = same_of Finish Enter (λ same. omega (arith, same)) in let g = same_of Finish Gather (λ same. omega (arith, same)) in let f = more_of Finish in omega (arith, e, g, f)) (passed_back (with_fault Finish) (after Finish) no_pages runner.answered lacks struck_finishing (inside_leave Finish (λ same. omega (arith, same)))) (inl lacks)
 
   -- a call that has its entry
   module _ (tally : IsTallied test old runner (at.Logged ticket)) (has_it : runner.answered ≡ true) where
     leave_enters : count_of (after Leave) Enter ≤ n + 1
-    leave_enters = let is = counted_there runner.crossings Leave are Enter (λ same. omega (arith, same)) in let was = tally.enters in omega (arith, is, was)
+    leave_enters = let is = counted_there runner.crossings Leave are Enter (λ same. omega (arith, same)) in let was = tally.enters in let in_it = entered_logged runner.answered ticket in omega (arith, is, was, in_it)
 
     leave_finishes : count_of (after Leave) Finish ≤ n + 1
-    leave_finishes = let is = counted_there runner.crossings Leave are Finish (λ same. omega (arith, same)) in let was = tally.finishes in omega (arith, is, was)
+    leave_finishes = let is = counted_there runner.crossings Leave are Finish (λ same. omega (arith, same)) in let was = tally.finishes in let done = finished_logged runner.answered ticket in omega (arith, is, was, done)
 
     struck_leaving : HasPassedAtLeast (with_fault Leave) (after Leave) 1 1 1
     struck_leaving =
@@ -511,5 +569,6 @@ module _ (test : Option (Crossing → Bool)) (old : Sight) (runner : Runner) (ar
     pub leave_struck : (new : Sight) → ticket.caller ≡ runner.crossings.caller → ticket.ordinal ≡ runner.crossings.ordinal → StrikesCall old new ticket Leave (next_nth runner.crossings.counts Leave) → IsTallied test new (backed (with_counted runner Leave)) at.Outside
     leave_struck new own ordinal strikes =
         let first : next_nth runner.crossings.counts Leave ≡ 1 = (let none = tally.passed.1 in omega (arith, none)) in
-        tally_struck test old runner Leave are (at.Logged ticket) tally (never_remount 3 (omega arith)) new ticket own ordinal runs strikes (ap (λ nth. is_near n Leave nth) first) leave_enters leave_finishes
+        tally_struck test old runner Leave are (at.Logged ticket) tally (never_remount 3 (omega arith)) new ticket own ordinal runs strikes (ap (λ nth. is_near old.records runner.crossings.caller runner.crossings.ordinal Leave nth) first) leave_enters leave_finishes
+        (let e = same_of Leave Enter (λ same. omega (arith, same)) in let g = same_of Leave Gather (λ same. omega (arith, same)) in let f = same_of Leave Finish (λ same. omega (arith, same)) in let has = ap one_if has_it in omega (arith, e, g, f, has))
         (passed_left (with_fault Leave) (after Leave) no_pages runner.answered has_it struck_leaving (counted_some runner.crossings Leave are)) (inr (omega arith))

@@ -6,7 +6,7 @@ use Rattle.mb_jobs.specs.declared.jobs.JobCall.{JobCall}
 use Rattle.mb_kinds.specs.declared.calls.Call.TheVariants.{Sync, Exit}
 use Rattle.mb_kinds.specs.declared.entries.Entry.{Entry}
 use Rattle.mb_kinds.specs.declared.faults.FaultRecord.{FaultRecord}
-use Rattle.mb_kinds.specs.declared.faults.Kind.TheVariants.{Enter, Finish, Gather}
+use Rattle.mb_kinds.specs.declared.faults.Kind.TheVariants.{Enter, Finish, Gather, Remount}
 use Rattle.mb_kinds.specs.declared.faults.Ticket.{Ticket}
 use Rattle.mb_kinds.specs.declared.replies.Reply.TheVariants as reply
 use Rattle.mb_plan.specs.Fires.{fires}
@@ -71,12 +71,12 @@ abbrev pub struck : List FaultRecord
 struck = record { caller = 0; ordinal = 2; kind = Gather; nth = 1 } ∷ record { caller = 0; ordinal = 2; kind = Gather; nth = 2 } ∷ []
 
 -- it was struck twice before it had its entry, at both of them and at no third; a finish struck at its third crossing is no first
--- record
+-- record, and behind faults of another call nothing is struck where it enters the second time, nor a recovery without a fault before
 abbrev pub WorkedFaults : Type 0
 WorkedFaults =
-    AreNear 0 struck × (strikes_inside struck 0 2 ≡ 2)
+    AreNear [] struck × (strikes_inside struck 0 2 ≡ 2)
     × (is_struck_at struck 0 2 Gather 2 ≡ true) × (is_struck_at struck 0 2 Gather 3 ≡ false)
-    × (is_near 0 Finish 3 ≡ false)
+    × (is_near [] 0 2 Finish 3 ≡ false) × (is_near struck 0 1 Enter 2 ≡ false) × (is_near [] 0 2 Remount 1 ≡ false)
 
 -- the rule `1 enter 0 2`, which strikes a call where it enters for the first and the second time
 abbrev pub twice_entering : List Rule

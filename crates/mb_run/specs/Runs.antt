@@ -116,21 +116,23 @@ pub record TakesFaults (test : Option (Crossing → Bool)) (records : List Fault
 abbrev pub EntryTakesFaults : Option (Crossing → Bool) → List FaultRecord → Entry → Type 0
 EntryTakesFaults test records entry = TakesFaults test records entry.caller entry.ordinal (one_if (is_plain entry.reply))
 
--- a record after so many others has an nth that this allows
-abbrev pub is_near : ℕ → Kind → ℕ → Bool
-is_near before Gather nth = true
-is_near before Replay nth = true
-is_near before Leave nth = nat_eq nth 1
-is_near before _ nth = nat_le nth (before + 1)
+-- no fault point was counted to which its call did not come: with these faults before, it entered once more than it was struck since
+-- it was made, and finished no more often; it leaves once; and each recovery began with a fault
+abbrev pub is_near : List FaultRecord → ℕ → ℕ → Kind → ℕ → Bool
+is_near before caller ordinal Gather nth = true
+is_near before caller ordinal Replay nth = true
+is_near before caller ordinal Leave nth = nat_eq nth 1
+is_near before caller ordinal Remount nth = nat_le nth (length before)
+is_near before caller ordinal _ nth = nat_le nth (strikes_inside before caller ordinal + 1)
 
-abbrev pub AreNear : ℕ → List FaultRecord → Type 0
+abbrev pub AreNear : List FaultRecord → List FaultRecord → Type 0
 AreNear before [] = Unit {0}
-AreNear before (fault ∷ later) = (is_near before fault.kind fault.nth ≡ true) × AreNear (before + 1) later
+AreNear before (fault ∷ later) = (is_near before fault.caller fault.ordinal fault.kind fault.nth ≡ true) × AreNear (before ++ fault ∷ []) later
 
 -- each call that has its entry took its faults
 pub record HasTakenFaults (test : Option (Crossing → Bool)) (history : List Entry) (records : List FaultRecord) : Type 0 where
   pub taken : AllByRecursion (EntryTakesFaults test records) history
-  pub near : AreNear 0 records
+  pub near : AreNear [] records
 
 -- ---- a disk that failed, a volume that failed
 

@@ -36,6 +36,16 @@ abbrev pub is_logged : At → ℕ
 is_logged (at.Logged ticket) = 1
 is_logged _ = 0
 
+-- it entered once more than it was struck before it had its entry, where it is inside or has that; and so it finished, where it is
+-- about to have it
+abbrev pub has_entered : Bool → At → ℕ
+has_entered true stand = 1
+has_entered false stand = is_in stand
+
+abbrev pub has_finished : Bool → At → ℕ
+has_finished true stand = 1
+has_finished false stand = is_logged stand
+
 -- its ticket is of the present incarnation, and what it gathered is as it is seen; the volume runs
 abbrev pub IsUpToDate : Sight → ℕ → At → Type 0
 IsUpToDate sight caller at.Outside = Unit {0}
@@ -73,7 +83,7 @@ IsPast test records crossings answered entry =
 
 -- of the records alone
 pub record AreTallied (records : List FaultRecord) : Type 0 where
-  pub near : AreNear 0 records
+  pub near : AreNear [] records
   pub positive : AllByRecursion (λ (fault : FaultRecord). 1 ≤ fault.nth) records
 
 -- a call under way, which stands there or is on its way there
@@ -81,8 +91,8 @@ pub record IsTallied (test : Option (Crossing → Bool)) (sight : Sight) (runner
   pub asked : runner.asked ≡ false
   pub present : IsUpToDate sight runner.crossings.caller stand
   pub records : AreTallied sight.records
-  pub enters : count_of runner.crossings Enter ≤ length sight.records + is_in stand
-  pub finishes : count_of runner.crossings Finish ≤ length sight.records + is_logged stand
+  pub enters : count_of runner.crossings Enter ≤ strikes_inside sight.records runner.crossings.caller runner.crossings.ordinal + has_entered runner.answered stand
+  pub finishes : count_of runner.crossings Finish ≤ strikes_inside sight.records runner.crossings.caller runner.crossings.ordinal + has_finished runner.answered stand
   pub remounts : count_of runner.crossings Remount + one_if (awaits_remount sight.stage) ≤ length sight.records
   pub passed : HasPassedPoints sight.records runner.crossings runner.pages runner.answered stand
   pub taken : (kind : Kind) → TakesUpTo test sight.records runner.crossings.caller runner.crossings.ordinal kind (count_of runner.crossings kind)
