@@ -2,6 +2,7 @@ ghost use Rattle.std.specs.Prelude.{◌≡◌, ◌<◌, [], ℕ, None, option_co
 ghost use Rattle.mb_cache.specs.Kept.{KeptBlock, kept_at, shown};
 ghost use Rattle.mb_core_spec.specs.Copies.{LiveTables, TableCopy, no_pages};
 ghost use Rattle.mb_callers.specs.Stale.{AllFresh, IsLeastStale};
+ghost use Rattle.mb_iface.specs.Needs.{IsNeed};
 
 use crate::tables::TablePlace;
 use mb_cache::Cache;
@@ -85,6 +86,26 @@ fn others_foreseen(foresight: &mut Foresight, blocks: &Copies, need: &Need) -> O
     Others::of(others)
 }
 
+/// The next foreseen block.
+fn next_block(foresight: &mut Foresight) -> Option<u32>
+    ensures { IfSome result (λ block. block < 262144) }
+{
+    let block = foresight.next()?;
+    if block < 262_144 { Some(block) } else { None }
+}
+
+/// The next foreseen blocks, as many as a need has places for.
+fn next_others(foresight: &mut Foresight) -> Others {
+    let mut others = [0; 15];
+    for place in 0..15 {
+        match next_block(foresight) {
+            Some(block) => others[place] = block,
+            None => return Others::of(others),
+        }
+    }
+    Others::of(others)
+}
+
 impl Pages {
     /// Nothing gathered; needs no memory.
     pub fn new(alloc: Global) -> Pages
@@ -119,6 +140,25 @@ impl Pages {
         }
         let others = others_foreseen(&mut self.foresight, &self.blocks, &need);
         Need { others, ..need }
+    }
+
+    /// Where no block is there, blocks that calls like this one looked at before, as many as a need has places for, so that
+    /// a call is performed over them from the beginning; `None` where there are none. Which ones they are is a guess; without
+    /// memory for a place of its kind there are none. The pages are as before.
+    pub fn foreseen(&mut self, call: &Call) -> Option<Need>
+        ensures same { self.new ≡ self.old }
+        ensures need { IfSome result (IsNeed (shown self.old.blocks)) }
+    {
+        if self.blocks.len() > 0 {
+            return None;
+        }
+        self.foresight.begin(call);
+        let first = next_block(&mut self.foresight)?;
+        if first == 0 {
+            return None;
+        }
+        let others = next_others(&mut self.foresight);
+        Some(Need::one(first).with(others))
     }
 
     /// The sessions; `None` exactly where block 0 was not gathered.

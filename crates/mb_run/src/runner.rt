@@ -1,10 +1,13 @@
-ghost use Rattle.std.specs.Prelude.{◌≡◌, ◌+◌, ◌<◌};
+ghost use Rattle.std.specs.Prelude.{◌≡◌, ◌+◌, ◌<◌, IfSome};
+ghost use Rattle.mb_cache.specs.Kept.{shown};
+ghost use Rattle.mb_iface.specs.Needs.{IsNeed};
 ghost use Rattle.mb_run.specs.Drives.{new_runner};
 ghost use Rattle.mb_run.specs.Served.{advanced, backed};
 
 use mb_callers::Pages;
 use mb_edge::Crossings;
-use mb_kinds::Ticket;
+use mb_iface::Need;
+use mb_kinds::{Call, Ticket};
 use std::alloc::Global;
 
 /// Where a caller's call stands.
@@ -53,6 +56,14 @@ impl Runner {
             asked: false,
             pages: Pages::new(alloc),
         }
+    }
+
+    /// What calls like the present one looked at before, where it gathered no block yet (`Pages::foreseen`). Nothing changes.
+    pub fn foreseen(&mut self, call: &Call) -> Option<Need>
+        ensures same { self.new ≡ self.old }
+        ensures need { IfSome result (IsNeed (shown self.old.pages.blocks)) }
+    {
+        self.pages.foreseen(call)
     }
 
     /// The call was answered: the next one of the list comes.

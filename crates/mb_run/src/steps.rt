@@ -294,7 +294,7 @@ pub fn keep_way(pages: &Pages, need: &Need, way: &mut Option<Performing>)
     requires count { need.now.count ≤ 32 }
     ensures { (way.new ≡ None) ⊎ ((way.new ≡ way.old) × LacksAll pages.now need.now) }
 {
-    if !lacks_all(pages, *need) {
+    if way.is_some() && !lacks_all(pages, *need) {
         *way = None;
     }
 }
@@ -334,6 +334,43 @@ fn gather_on<C: EventCore, H: Hook>(
     gather(alloc, core, hook, runner, calls, call, ticket, need)
 }
 
+/// The call inside, which has the tables, is performed over what it gathered, and finishes, or gathers what it asks for.
+fn go_over<C: EventCore, H: Hook>(
+    alloc: Global,
+    core: &mut C,
+    hook: &mut H,
+    runner: &mut Runner,
+    calls: &[JobCall],
+    call: &Call,
+    ticket: &Ticket,
+    way: &mut Option<Performing>,
+) -> Went
+    requires may { MayStep calls.now (H.test hook.old) (C.sight core.old) runner.old call.now }
+    requires inside { runner.old.at ≡ at.Inside ticket.now }
+    requires there { has runner.old.pages 0 ≡ true }
+    requires going { IsUnderWay runner.old.pages runner.old.crossings.caller call.now way.old }
+    ensures going { IsUnderWay runner.new.pages runner.new.crossings.caller call.now way.new }
+    ensures did { Did calls.now (H.test hook.old) (C.sight core.old) (C.sight core.new) runner.old runner.new result }
+    ensures calm { result ≢ went.NoMemory
+        → StepsCalmly false (H.test hook.old) (C.sight core.old) (C.sight core.new) runner.old runner.new }
+    ensures tallied { Tallies (H.test hook.old) (C.sight core.old) (C.sight core.new) runner.old runner.new result }
+    ensures test { H.test hook.new ≡ H.test hook.old }
+    ensures origin { C.origin core.new ≡ C.origin core.old }
+    ensures right { IsOrderlyInSight (C.sight core.new) }
+{
+    match core.perform(alloc, &runner.pages, ticket, call, way) {
+        Performed::Need(need) => {
+            gather_on(alloc, core, hook, runner, calls, call, ticket, need, way)
+        }
+        Performed::NoMemory => Went::NoMemory,
+        Performed::Ready(ready) => {
+            *way = None;
+            finish(alloc, core, hook, runner, calls, call, ticket, ready)
+        }
+    }
+}
+
+/// The call inside gathers the tables, then at once what calls like it looked at, and is performed over that.
 fn go_on<C: EventCore, H: Hook>(
     alloc: Global,
     core: &mut C,
@@ -358,27 +395,14 @@ fn go_on<C: EventCore, H: Hook>(
 {
     if !has_tables(&runner.pages) {
         *way = None;
-        return gather(
-            alloc,
-            core,
-            hook,
-            runner,
-            calls,
-            call,
-            ticket,
-            Need::tables(),
-        );
+        let tables = Need::tables();
+        return gather(alloc, core, hook, runner, calls, call, ticket, tables);
     }
-    match core.perform(alloc, &runner.pages, ticket, call, way) {
-        Performed::Need(need) => {
-            gather_on(alloc, core, hook, runner, calls, call, ticket, need, way)
-        }
-        Performed::NoMemory => Went::NoMemory,
-        Performed::Ready(ready) => {
-            *way = None;
-            finish(alloc, core, hook, runner, calls, call, ticket, ready)
-        }
+    if let Some(need) = runner.foreseen(call) {
+        *way = None;
+        return gather(alloc, core, hook, runner, calls, call, ticket, need);
     }
+    go_over(alloc, core, hook, runner, calls, call, ticket, way)
 }
 
 /// One step of a caller, whose next call is that one: it enters, gathers, finishes or leaves. Where

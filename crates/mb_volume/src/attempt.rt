@@ -1,10 +1,13 @@
-ghost use Rattle.std.specs.Prelude.{◌≡◌, ◌+◌, ◌<◌, Some};
+ghost use Rattle.std.specs.Prelude.{◌≡◌, ◌+◌, ◌<◌, Some, IfSome};
+ghost use Rattle.mb_cache.specs.Kept.{shown};
+ghost use Rattle.mb_iface.specs.Needs.{IsNeed};
 ghost use Rattle.mb_run.specs.Recovering.{GoOn};
 ghost use Rattle.mb_volume.specs.Attempts.{back_out, going_in, KeepsCrossings, new_attempt};
 
 use mb_callers::Pages;
 use mb_edge::Crossings;
-use mb_kinds::Ticket;
+use mb_iface::Need;
+use mb_kinds::{Call, Ticket};
 use mb_run::At;
 use std::alloc::Global;
 
@@ -38,6 +41,14 @@ impl Attempt {
             asked: false,
             pages: Pages::new(alloc),
         }
+    }
+
+    /// What calls like this one looked at before, where it gathered no block yet (`Pages::foreseen`). Nothing changes.
+    pub fn foreseen(&mut self, call: &Call) -> Option<Need>
+        ensures same { self.new ≡ self.old }
+        ensures need { IfSome result (IsNeed (shown self.old.pages.blocks)) }
+    {
+        self.pages.foreseen(call)
     }
 
     /// The call has to enter again, with nothing gathered.

@@ -318,6 +318,12 @@ impl<F: FileSys, D: Disk> Volume<F, D> {
         ensures test { H.test hook.new ≡ H.test hook.old }
     {
         if has_tables(&attempt.pages) {
+            if let Some(need) = attempt.foreseen(call) {
+                *way = None;
+                return self
+                    .gather(rt, alloc, pass, hook, attempt, call, ticket, need)
+                    .0;
+            }
             if let Some(fs) = *code {
                 match perform(alloc, &fs, &attempt.pages, ticket, call, way) {
                     Performed::Need(need) => {
