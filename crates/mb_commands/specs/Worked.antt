@@ -1,5 +1,5 @@
 -- Words that are commands, and words that are none.
-use Rattle.std.specs.Prelude.{List, [], ◌∷◌, ◌≡◌, true, false, codes, Some, None}
+use Rattle.std.specs.Prelude.{[], ◌∷◌, ◌≡◌, true, false, codes, Some, None}
 use Rattle.mb_commands.specs.Words.{command_of, image_in, number_in}
 use Rattle.mb_commands.specs.declared.commands.Command.TheVariants.{Mkfs, Check, Run}
 

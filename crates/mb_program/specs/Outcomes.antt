@@ -8,7 +8,7 @@ use Rattle.mb_check.specs.declared.scans.OpenFault.{OpenFault}
 use Rattle.mb_check.specs.declared.scans.OpenFault.TheVariants as faults
 use Rattle.mb_check.specs.declared.scans.Scan.{Scan}
 use Rattle.mb_commands.specs.Lines.{refused_line, sound_line}
-use Rattle.mb_commands.specs.Makes.{HasMade}
+use Rattle.mb_commands.specs.Makes.{HasMade, HasVolume}
 use Rattle.mb_commands.specs.Words.{command_of}
 use Rattle.mb_commands.specs.declared.commands.Command.{Command}
 use Rattle.mb_commands.specs.declared.commands.Command.TheVariants.{Check, Mkfs, Run, Soak}
@@ -22,6 +22,7 @@ use Rattle.mb_jobs.specs.Job.{job_in}
 use Rattle.mb_jobs.specs.declared.jobs.Job.{Job}
 use Rattle.mb_jobs.specs.declared.jobs.JobFault.{JobFault}
 use Rattle.mb_kinds.specs.Image.{Image}
+use Rattle.mb_mkfs.specs.Made.{KeepsFrom}
 use Rattle.mb_mkfs.specs.Sizes.{AreSizes}
 use Rattle.mb_plan.specs.Fires.{fires}
 use Rattle.mb_print.specs.Causes.{refused_text}
@@ -217,12 +218,14 @@ ComesOfRunWords told faults manner left disk held outcome = OfBytes left (λ byt
 
 -- ---- the other commands
 
--- what comes of a `mkfs`: the words are refused where no volume has these sizes, and then the disk was not asked
+-- what comes of a `mkfs`: the words are refused where no volume has these sizes, and then the disk was not asked; where the disk
+-- failed the blocks behind the volume's stay; for want of memory, which its line alone takes, the volume was made
 abbrev pub ComesOfMkfs : {D : Type 0} → (D → Option Image) → (D → ℕ) → D → ℕ → ℕ → Held D → Outcome → Type 0
 ComesOfMkfs told faults disk blocks inodes held (Made line) = HoldsDisk held (λ new. HasMade (told disk) (told new) blocks inodes line)
 ComesOfMkfs told faults disk blocks inodes held WordsRefused = (AreSizes blocks inodes → ⊥) × IsUntouched disk held
-ComesOfMkfs told faults disk blocks inodes held DiskFault = AreSizes blocks inodes × HoldsDisk held (λ new. Rose (faults disk) (faults new))
-ComesOfMkfs told faults disk blocks inodes held OutOfMemory = AreSizes blocks inodes × HoldsDisk held (λ new. Unit {0})
+ComesOfMkfs told faults disk blocks inodes held DiskFault =
+    AreSizes blocks inodes × HoldsDisk held (λ new. Rose (faults disk) (faults new) × KeepsFrom (told disk) (told new) blocks)
+ComesOfMkfs told faults disk blocks inodes held OutOfMemory = HoldsDisk held (λ new. HasVolume (told disk) (told new) blocks inodes)
 ComesOfMkfs told faults disk blocks inodes held _ = ⊥
 
 -- the line has the figures of the scan, and the image is a volume of the tree that its bytes show, with these figures
