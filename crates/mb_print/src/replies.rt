@@ -6,18 +6,24 @@ use crate::numerals::{octal_digits, push_field, push_number};
 use mb_kinds::{Octets, Reply, Stat};
 use std::alloc::AllocError;
 
-/// Appends two digits for each byte.
+/// How many bytes are written as digits at a time.
+const PIECE: usize = 256;
+
+/// Appends two digits for each byte, for a piece of the bytes at a time, which stays at hand.
 fn push_digits(out: &mut Vec<u8>, bytes: &[u8]) -> Result<(), AllocError>
     ensures { OnOk result (out.new.items ≡ out.old.items ++ encode_lower bytes.now) }
 {
-    let first = out.len();
-    let Some(end) = first.checked_add(2 * bytes.len()) else {
-        return Err(AllocError);
-    };
-    out.resize(end, 0)?;
-    let Ok(()) = hex::encode_to_slice(bytes, &mut out[first..]) else {
-        unreachable!()
-    };
+    out.reserve(bytes.len().saturating_mul(2))?;
+    let mut digits = [0; 2 * PIECE];
+    let mut done = 0;
+    while done < bytes.len() {
+        let some = (bytes.len() - done).min(PIECE);
+        let Ok(()) = hex::encode_to_slice(&bytes[done..done + some], &mut digits[..2 * some]) else {
+            unreachable!()
+        };
+        out.extend_from_slice(&digits[..2 * some])?;
+        done += some;
+    }
     Ok(())
 }
 
