@@ -76,7 +76,7 @@ strikes_of records caller ordinal kind = count_by (is_of caller ordinal kind) re
 abbrev pub strikes_inside : List FaultRecord → ℕ → ℕ → ℕ
 strikes_inside records caller ordinal = strikes_of records caller ordinal Enter + (strikes_of records caller ordinal Gather + strikes_of records caller ordinal Finish)
 
--- an entry with a plain reply is of a call that was struck once at most before it had it
+-- an entry with a plain reply is of a call that was struck once at most before it had it, but in a recovery
 abbrev pub IsStruckOnceIfPlain : List FaultRecord → Entry → Type 0
 IsStruckOnceIfPlain records entry = is_plain entry.reply ≡ true → strikes_inside records entry.caller entry.ordinal ≤ 1
 

@@ -38,7 +38,7 @@ struct Kept<F: FileSys, D: Disk> {
 
 /// A core that callers share: what the turn keeps. Its entries are the core's history, the stand of a declared caller is
 /// what the core keeps of it, with its fault records, and its origin is the core's. Its checkpoints are taken in time, and its tally
-/// is how many of them were taken where none was due: no caller takes one.
+/// is how many of them were taken where none was due, or left out behind a `sync(2)`: no caller raises it.
 /// It lies on the heap, so that it goes from caller to caller as a pointer.
 pub struct SharedCore<F: FileSys, D: Disk> {
     kept: Box<Kept<F, D>>,
