@@ -1,5 +1,5 @@
 -- A call with a plain reply was struck once at most before it had its entry.
-use Rattle.std.proofs.Common.{◌≡◌, ◌≢◌, List, [], ◌∷◌, ◌++◌, ℕ, ◌+◌, ◌<◌, ◌≤◌, Bool, true, false, ◌&&◌, cond, nat_eq, count_by, inl, inr, refl, ap, ◌∙◌, arith}
+use Rattle.std.proofs.Common.{◌≡◌, ◌≢◌, List, [], ◌∷◌, ◌++◌, ℕ, ◌+◌, ◌<◌, ◌≤◌, Bool, true, false, ◌&&◌, cond, nat_eq, count_by, inl, inr, refl, ap, sym, ◌∙◌, arith}
 use Rattle.std.proofs.lemmas.List.Sums.{sum_by-append}
 use Rattle.std.specs.List.{AllByRecursion}
 use Rattle.mb_edge.specs.declared.crossings.Crossings.{Crossings}
@@ -8,9 +8,11 @@ use Rattle.mb_kinds.specs.declared.faults.FaultRecord.{FaultRecord}
 use Rattle.mb_kinds.specs.declared.replies.Reply.{Reply}
 use Rattle.mb_kinds.specs.declared.replies.Reply.TheVariants as reply
 use Rattle.mb_core_spec.specs.declared.stages.Stage.{Stage}
-use Rattle.mb_run.specs.Events.{IsUnplain}
-use Rattle.mb_run.specs.Recovering.{IsStruckNext}
-use Rattle.mb_run.specs.Runs.{IsStruckOnceIfPlain, is_plain, strikes_inside}
+use Rattle.mb_core_spec.specs.declared.stages.Stage.TheVariants as stage
+use Rattle.mb_run.specs.Events.{IsAnsweredAt, IsUnplain}
+use Rattle.mb_run.specs.Recovering.{IsStruckNext, awaits_remount}
+use Rattle.mb_core_spec.specs.Faults.{is_device}
+use Rattle.mb_run.specs.Runs.{IsStruckOnceIfPlain, is_of_running, is_plain, strikes_inside}
 use Rattle.mb_run.specs.Served.{AreStruckOnce, IsInsideOnce, IsPastOnce}
 use Rattle.mb_run.specs.Sights.{one_if}
 use Rattle.mb_run.specs.declared.runner.At.{At}
@@ -70,6 +72,25 @@ unplain_is (reply.Num number) is = absurd is
 unplain_is (reply.Got bytes) is = absurd is
 unplain_is (reply.Info stat) is = absurd is
 unplain_is (reply.Refused error) is = absurd is
+
+pub restart_runs : (now : Stage) (answer : Reply) → IsUnplain answer → IsAnsweredAt now answer → is_of_running answer ≡ true → now ≡ stage.Running
+restart_runs now (reply.Restart first second) is runs of_it = runs
+restart_runs now reply.Device is runs of_it = absurd (let no : false ≡ true = of_it in cc)
+restart_runs now (reply.Failed faults) is runs of_it = absurd (let no : false ≡ true = of_it in cc)
+restart_runs now (reply.Num number) is runs of_it = absurd is
+restart_runs now (reply.Got bytes) is runs of_it = absurd is
+restart_runs now (reply.Info stat) is runs of_it = absurd is
+restart_runs now (reply.Refused error) is runs of_it = absurd is
+
+-- what the file system is started anew for goes on behind the answer where the disk ended the call alone
+pub awaits_device : (now : Stage) (answer : Reply) → IsUnplain answer → IsAnsweredAt now answer → awaits_remount now ≡ true → is_device answer ≡ true
+awaits_device now (reply.Restart first second) is told awaits = absurd (let no : false ≡ true = ap awaits_remount (sym told) ∙ awaits in cc)
+awaits_device now (reply.Failed faults) is told awaits = absurd (let no : false ≡ true = ap awaits_remount (sym told) ∙ awaits in cc)
+awaits_device now reply.Device is told awaits = refl
+awaits_device now (reply.Num number) is told awaits = absurd is
+awaits_device now (reply.Got bytes) is told awaits = absurd is
+awaits_device now (reply.Info stat) is told awaits = absurd is
+awaits_device now (reply.Refused error) is told awaits = absurd is
 
 -- ---- entries so far
 

@@ -15,7 +15,7 @@ use Rattle.mb_kinds.specs.declared.faults.Kind.TheVariants.{Enter, Gather, Finis
 use Rattle.mb_plan.specs.Fires.{same_kind}
 use Rattle.mb_run.specs.Drives.{AreNew, IsBegun}
 use Rattle.mb_run.specs.Recovering.{awaits_remount}
-use Rattle.mb_run.specs.Runs.{EntryTakesFaults, HasTakenFaults, TakesUpTo, is_of, strikes_of}
+use Rattle.mb_run.specs.Runs.{EntryTakesFaults, HasTakenFaults, TakesUpTo, has_device, is_of, is_owed, strikes_of}
 use Rattle.mb_run.specs.Served.{IsAfter, IsCounted, Nears}
 use Rattle.mb_run.specs.Sights.{Sight, one_if}
 use Rattle.mb_run.specs.Tallies.{AreRested, AreTallied, HasTallied, IsBetween, IsPast, IsRested, IsTallied, count_of}
@@ -24,6 +24,7 @@ use Rattle.mb_run.proofs.Counting.{same_or_not}
 use Rattle.mb_run.proofs.Everybody.{got, put_get}
 use Rattle.mb_run.proofs.Lists.{all_both, all_map, neq}
 use Rattle.mb_run.proofs.Tallying.{passed_back}
+use Rattle.mb_run.proofs.TallyRecords.{one_if_so}
 
 -- ---- no record is of a call that did not begin
 
@@ -94,6 +95,8 @@ rest_tally test sight runner tallied rested counted =
       enters = omega (arith, enters);
       finishes = omega (arith, finishes);
       remounts = omega (arith, remounts, fewer);
+      own_remounts = λ not. (let owes = one_if_so (awaits_remount sight.stage) (is_owed sight.records (has_device sight.history)) tallied.owed in omega (arith, remounts, owes));
+      owed = λ has awaits. absurd (let wrong : true ≡ false = sym has ∙ rested.lacks in cc);
       passed = passed_back sight.records runner.crossings runner.pages runner.answered rested.lacks (record { twice = omega (arith, e, g, f); enters = omega (arith, e, g, f); gathers = omega (arith, g, f); finishes = omega (arith, f) }) (zero_count runner.crossings zeros Leave);
       taken = λ kind. taken_none test sight.records runner.crossings kind (zero_count runner.crossings zeros kind);
       restarted = inl (omega (arith, e, g, f, r, p));
@@ -142,8 +145,9 @@ rested_begin job test sight runners begun new runs =
     let none : one_if (awaits_remount sight.stage) ≡ 0 = ap (λ (s : Stage). one_if (awaits_remount s)) runs in
     record {
       tallied = record {
-        records = subst AreTallied (sym begun.records) (record { near = tt; positive = tt });
+        records = subst (λ (rs : List FaultRecord). AreTallied rs sight.history) (sym begun.records) (record { near = tt; positive = tt });
         remounts = omega (arith, none);
+        owed = λ awaits. absurd (let wrong : false ≡ true = ap awaits_remount (sym runs) ∙ awaits in cc);
         taken = subst (λ (es : List Entry). AllByRecursion (EntryTakesFaults test sight.records) es) (sym begun.history) tt;
       };
       rested = λ caller runner is. subst (IsRested sight.history) (sym (new.each caller runner is)) (record {

@@ -1,6 +1,6 @@
 -- What fault records tell of the fault points of calls, with one record more.
 use Rattle.std.proofs.Common.{◌≡◌, ◌≢◌, List, [], ◌∷◌, ◌++◌, ℕ, zero, suc, ◌+◌, ◌-◌, ◌<◌, ◌≤◌, Bool, true, false, ◌&&◌, ◌||◌, cond, nat_eq, append_assoc, inl, inr, refl, ap, sym, subst, ◌∙◌, arith, add-zero, Option, None, Some, IfSome, slice_index}
-use Rattle.std.proofs.lemmas.Bool.{eq-eqb}
+use Rattle.std.proofs.lemmas.Bool.{eq-eqb, le-leb, leb-true}
 use Rattle.std.proofs.lemmas.Bool.Decides.{leb_tells}
 use Rattle.std.proofs.lemmas.List.{append-nil}
 use Rattle.std.proofs.lemmas.List.Folds.{list_any-append}
@@ -14,7 +14,8 @@ use Rattle.mb_kinds.specs.declared.faults.FaultRecord.{FaultRecord}
 use Rattle.mb_kinds.specs.declared.faults.Kind.{Kind}
 use Rattle.mb_kinds.specs.declared.faults.Kind.TheVariants.{Enter, Gather, Finish, Leave, Remount, Replay}
 use Rattle.mb_plan.specs.Fires.{same_kind}
-use Rattle.mb_run.specs.Runs.{AreNear, TakesFaults, TakesUpTo, is_near, is_of, is_plain, is_struck_at, recoveries_of, strikes_inside, strikes_of}
+use Rattle.mb_core_spec.specs.Faults.{is_device}
+use Rattle.mb_run.specs.Runs.{AreNear, TakesFaults, TakesUpTo, has_device, is_near, is_owed, is_of, is_of_running, is_plain, is_struck_at, recoveries_of, strikes_inside, strikes_of}
 use Rattle.mb_run.specs.Served.{AreSixCounts, counted}
 use Rattle.mb_run.specs.Sights.{one_if}
 use Rattle.mb_run.specs.Tallies.{AreTallied, IsPast, count_of}
@@ -38,16 +39,80 @@ and_false a b is = rw is refl
 abbrev pub fault_at : Crossings → Kind → ℕ → FaultRecord
 fault_at crossings kind nth = record { caller = crossings.caller; ordinal = crossings.ordinal; kind = kind; nth = nth }
 
-pub near_push : (before records : List FaultRecord) (fault : FaultRecord) → AreNear before records → is_near (before ++ records) fault.caller fault.ordinal fault.kind fault.nth ≡ true → AreNear before (records ++ fault ∷ [])
-near_push before [] fault near one = (subst (λ bs. is_near bs fault.caller fault.ordinal fault.kind fault.nth ≡ true) (append-nil before) one, tt)
-near_push before (first ∷ records) fault near one =
-    (near.0, near_push (before ++ first ∷ []) records fault near.1 (subst (λ bs. is_near bs fault.caller fault.ordinal fault.kind fault.nth ≡ true) (sym (append_assoc before (first ∷ []) records)) one))
+pub near_push : (ended : Bool) (before records : List FaultRecord) (fault : FaultRecord) → AreNear ended before records → is_near ended (before ++ records) fault.caller fault.ordinal fault.kind fault.nth ≡ true → AreNear ended before (records ++ fault ∷ [])
+near_push ended before [] fault near one = (subst (λ bs. is_near ended bs fault.caller fault.ordinal fault.kind fault.nth ≡ true) (append-nil before) one, tt)
+near_push ended before (first ∷ records) fault near one =
+    (near.0, near_push ended (before ++ first ∷ []) records fault near.1 (subst (λ bs. is_near ended bs fault.caller fault.ordinal fault.kind fault.nth ≡ true) (sym (append_assoc before (first ∷ []) records)) one))
 
-pub tallied_push : (records : List FaultRecord) (fault : FaultRecord) → AreTallied records → is_near records fault.caller fault.ordinal fault.kind fault.nth ≡ true → 1 ≤ fault.nth → AreTallied (records ++ fault ∷ [])
-tallied_push records fault are near one = record {
-  near = near_push [] records fault are.near near;
+pub tallied_push : (records : List FaultRecord) (history : List Entry) (fault : FaultRecord) → AreTallied records history → is_near (has_device history) records fault.caller fault.ordinal fault.kind fault.nth ≡ true → 1 ≤ fault.nth → AreTallied (records ++ fault ∷ []) history
+tallied_push records history fault are near one = record {
+  near = near_push (has_device history) [] records fault are.near near;
   positive = all_both (λ (f : FaultRecord). 1 ≤ f.nth) records (fault ∷ []) are.positive (one, tt);
 }
+
+-- once the disk ended a call a recovery may be in progress where a later one is made
+one_or : (l e f : Bool) → one_if (l || e) ≤ one_if (l || (e || f))
+one_or true e f = omega arith
+one_or false true f = omega arith
+one_or false false f = omega arith
+
+near_one : (e f : Bool) (before : List FaultRecord) (caller ordinal : ℕ) (kind : Kind) (nth : ℕ) → is_near e before caller ordinal kind nth ≡ true → is_near (e || f) before caller ordinal kind nth ≡ true
+near_one e f before caller ordinal Enter nth near = near
+near_one e f before caller ordinal Gather nth near = near
+near_one e f before caller ordinal Finish nth near = near
+near_one e f before caller ordinal Leave nth near = near
+near_one e f before caller ordinal Remount nth near =
+    let left : Bool = list_any (λ (fault : FaultRecord). same_kind fault.kind Leave) before in
+    let low = leb-true nth (recoveries_of before caller ordinal + one_if (is_owed before e)) near in
+    let more = one_or left e f in
+    le-leb nth (recoveries_of before caller ordinal + one_if (is_owed before (e || f))) (omega (arith, low, more))
+near_one e f before caller ordinal Replay nth near = near
+
+near_later : (e f : Bool) (before records : List FaultRecord) → AreNear e before records → AreNear (e || f) before records
+near_later e f before [] near = tt
+near_later e f before (fault ∷ records) near = (near_one e f before fault.caller fault.ordinal fault.kind fault.nth near.0, near_later e f (before ++ fault ∷ []) records near.1)
+
+pub device_push : (history : List Entry) (entry : Entry) → has_device (history ++ entry ∷ []) ≡ has_device history || (is_device entry.reply || false)
+device_push history entry = list_any-append (λ (e : Entry). is_device e.reply) history (entry ∷ [])
+
+pub tallied_later : (records : List FaultRecord) (history : List Entry) (entry : Entry) → AreTallied records history → AreTallied records (history ++ entry ∷ [])
+tallied_later records history entry are = record {
+  near = subst (λ (e : Bool). AreNear e [] records) (sym (device_push history entry)) (near_later (has_device history) (is_device entry.reply || false) [] records are.near);
+  positive = are.positive;
+}
+
+-- with one record more
+more_or : (l x e : Bool) → one_if (l || e) ≤ one_if ((l || x) || e)
+more_or true x e = omega arith
+more_or false true e = at_most e where
+  at_most : (b : Bool) → one_if b ≤ 1
+  at_most true = omega arith
+  at_most false = omega arith
+more_or false false e = omega arith
+
+pub owed_grows : (records : List FaultRecord) (fault : FaultRecord) (ended : Bool) → one_if (is_owed records ended) ≤ one_if (is_owed (records ++ fault ∷ []) ended)
+owed_grows records fault ended =
+    let leaving : FaultRecord → Bool = λ (f : FaultRecord). same_kind f.kind Leave in
+    let both = list_any-append leaving records (fault ∷ []) in
+    subst (λ (b : Bool). one_if (is_owed records ended) ≤ one_if (b || ended)) (sym both) (more_or (list_any leaving records) (list_any leaving (fault ∷ [])) ended)
+
+-- a record of where a call leaves
+pub owed_left : (records : List FaultRecord) (fault : FaultRecord) (ended : Bool) → place_of fault.kind ≡ 3 → is_owed (records ++ fault ∷ []) ended ≡ true
+owed_left records fault ended third =
+    let leaving : FaultRecord → Bool = λ (f : FaultRecord). same_kind f.kind Leave in
+    let both = list_any-append leaving records (fault ∷ []) in
+    or_left (list_any leaving (records ++ fault ∷ [])) ended
+    (both ∙ or_right (list_any leaving records) (list_any leaving (fault ∷ [])) (or_left (same_kind fault.kind Leave) false (eq-eqb (place_of fault.kind) 3 third)))
+
+-- an entry of a call that the disk ended
+pub owed_device : (records : List FaultRecord) (history : List Entry) (entry : Entry) → is_device entry.reply ≡ true → is_owed records (has_device (history ++ entry ∷ [])) ≡ true
+owed_device records history entry is =
+    or_right (list_any (λ (f : FaultRecord). same_kind f.kind Leave) records) (has_device (history ++ entry ∷ []))
+    (device_push history entry ∙ or_right (has_device history) (is_device entry.reply || false) (or_left (is_device entry.reply) false is))
+
+pub one_if_so : (a b : Bool) → (a ≡ true → b ≡ true) → one_if a ≤ one_if b
+one_if_so true b so = (let is = ap one_if (so refl) in omega (arith, is))
+one_if_so false b so = omega arith
 
 -- a struck fault point stays struck
 struck_stays : (records : List FaultRecord) (fault : FaultRecord) (caller ordinal : ℕ) (kind : Kind) (nth : ℕ) → is_struck_at records caller ordinal kind nth ≡ true → is_struck_at (records ++ fault ∷ []) caller ordinal kind nth ≡ true
@@ -110,6 +175,18 @@ module _ (records : List FaultRecord) (crossings : Crossings) (kind : Kind) (nth
       once Remount = omega arith
       once Replay = omega arith
 
+  -- one of a recovery counts
+  pub recoveries_late : 4 ≤ place_of kind → recoveries_of (records ++ fault_at crossings kind nth ∷ []) crossings.caller crossings.ordinal ≡ recoveries_of records crossings.caller crossings.ordinal + 1
+  recoveries_late late = let one = once kind late in let e = strikes_more Enter in let g = strikes_more Gather in let f = strikes_more Finish in let r = strikes_more Remount in let p = strikes_more Replay in omega (arith, one, e, g, f, r, p)
+    where
+      once : (of : Kind) → 4 ≤ place_of of → cond (same_kind of Enter) 1 0 + (cond (same_kind of Gather) 1 0 + (cond (same_kind of Finish) 1 0 + (cond (same_kind of Remount) 1 0 + cond (same_kind of Replay) 1 0))) ≡ 1
+      once Enter low = absurd (omega (arith, low))
+      once Gather low = absurd (omega (arith, low))
+      once Finish low = absurd (omega (arith, low))
+      once Leave low = absurd (omega (arith, low))
+      once Remount low = refl
+      once Replay low = refl
+
   -- a record of where a call leaves counts for none
   pub recoveries_left : place_of kind ≡ 3 → recoveries_of (records ++ fault_at crossings kind nth ∷ []) crossings.caller crossings.ordinal ≡ recoveries_of records crossings.caller crossings.ordinal
   recoveries_left third =
@@ -135,9 +212,9 @@ strikes_apart records crossings kind nth caller ordinal earlier of = strikes_oth
     (and_false (nat_eq crossings.caller caller && nat_eq crossings.ordinal ordinal) (same_kind kind of) (not_of crossings.caller crossings.ordinal caller ordinal earlier))
 
 -- its faults stay taken
-takes_stays : (test : Option (Crossing → Bool)) (records : List FaultRecord) (fault : FaultRecord) (caller ordinal plain : ℕ) → ((of : Kind) → strikes_of (records ++ fault ∷ []) caller ordinal of ≡ strikes_of records caller ordinal of) → TakesFaults test records caller ordinal plain
-    → TakesFaults test (records ++ fault ∷ []) caller ordinal plain
-takes_stays test records fault caller ordinal plain same was =
+takes_stays : (test : Option (Crossing → Bool)) (records : List FaultRecord) (fault : FaultRecord) (caller ordinal plain runs : ℕ) → ((of : Kind) → strikes_of (records ++ fault ∷ []) caller ordinal of ≡ strikes_of records caller ordinal of) → TakesFaults test records caller ordinal plain runs
+    → TakesFaults test (records ++ fault ∷ []) caller ordinal plain runs
+takes_stays test records fault caller ordinal plain runs same was =
     let now : List FaultRecord = records ++ fault ∷ [] in
     let e = same Enter in
     let g = same Gather in
@@ -151,7 +228,7 @@ takes_stays test records fault caller ordinal plain same was =
       gathers = stays Gather (strikes_of records caller ordinal Gather + strikes_of records caller ordinal Finish + plain) (strikes_of now caller ordinal Gather + strikes_of now caller ordinal Finish + plain) (omega (arith, g, f)) was.gathers;
       finishes = stays Finish (strikes_of records caller ordinal Finish + plain) (strikes_of now caller ordinal Finish + plain) (omega (arith, f)) was.finishes;
       leaves = stays Leave plain plain (omega arith) was.leaves;
-      remounts = stays Remount (recoveries_of records caller ordinal + plain - 1) (recoveries_of now caller ordinal + plain - 1) (omega (arith, e, g, f, r, p)) was.remounts;
+      remounts = stays Remount (recoveries_of records caller ordinal + runs - 1) (recoveries_of now caller ordinal + runs - 1) (omega (arith, e, g, f, r, p)) was.remounts;
     }
 
 -- an earlier call's faults stay taken
@@ -159,7 +236,7 @@ pub past_push : (test : Option (Crossing → Bool)) (records : List FaultRecord)
     → IsPast test (records ++ fault_at crossings kind nth ∷ []) crossings answered entry
 past_push test records crossings kind nth answered entry (inl mine) = inl mine
 past_push test records crossings kind nth answered entry (inr past) =
-    inr (past.0, takes_stays test records (fault_at crossings kind nth) entry.caller entry.ordinal (one_if (is_plain entry.reply)) (strikes_apart records crossings kind nth entry.caller entry.ordinal past.0) past.1)
+    inr (past.0, takes_stays test records (fault_at crossings kind nth) entry.caller entry.ordinal (one_if (is_plain entry.reply)) (one_if (is_of_running entry.reply)) (strikes_apart records crossings kind nth entry.caller entry.ordinal past.0) past.1)
 
 -- ---- the next fault point of a kind is counted
 

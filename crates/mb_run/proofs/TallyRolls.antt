@@ -16,7 +16,7 @@ use Rattle.mb_kinds.specs.declared.faults.Kind.TheVariants.{Enter, Gather, Finis
 use Rattle.mb_kinds.specs.declared.replies.Reply.TheVariants as reply
 use Rattle.mb_run.specs.Events.{Answers, entry_of}
 use Rattle.mb_run.specs.Recovering.{GoOn, Rolls, Steps, StrikesStep, awaits_remount, counted, next_of}
-use Rattle.mb_run.specs.Runs.{TakesUpTo, is_near, recoveries_of, strikes_inside}
+use Rattle.mb_run.specs.Runs.{TakesUpTo, has_device, is_near, is_owed, recoveries_of, strikes_inside, strikes_of}
 use Rattle.mb_run.specs.Served.{AreSixCounts, IsAtBy, IsResting, CrossingsAreKept, MayStep, advanced, calls_in, calls_of, with_crossings}
 use Rattle.mb_run.specs.Sights.{IsWaiting, Sight, one_if, recovers}
 use Rattle.mb_run.specs.Tallies.{AreTallied, HasPassedAtLeast, HasPassedPoints, IsBetween, IsPast, IsUpToDate, IsRestarted, IsTallied, TalliedBy, count_of}
@@ -30,7 +30,7 @@ use Rattle.mb_run.proofs.Lists.{all_map}
 use Rattle.mb_run.proofs.Rolling.{Ends, rolled_went}
 use Rattle.mb_run.proofs.Once.{one_most}
 use Rattle.mb_run.proofs.Tallying.{ends_unplain, lacks_leave, passed_back, restarted_most, restarted_same, with_counted}
-use Rattle.mb_run.proofs.TallyRecords.{counted_more, counted_most, counted_there, fault_at, next_more, past_push, recoveries_most, strikes_there, taken_go, taken_struck, tallied_push}
+use Rattle.mb_run.proofs.TallyRecords.{counted_more, counted_most, counted_there, fault_at, next_more, owed_grows, past_push, recoveries_late, recoveries_most, strikes_there, taken_go, taken_struck, tallied_push}
 
 rests_outside : (sight : Sight) (caller : ℕ) (a : At) → IsUpToDate sight caller a → IsResting sight.incarnation a → a ≡ at.Outside
 rests_outside sight caller at.Outside present rests = refl
@@ -43,6 +43,13 @@ module _ (test : Option (Crossing → Bool)) (old new : Sight) (runner : Runner)
 
   left_none : HasPassedAtLeast old.records runner.crossings 0 0 0 × (count_of runner.crossings Leave ≡ 0)
   left_none = lacks_leave old.records runner.crossings runner.pages runner.answered lacks tally.passed
+
+  -- how often it starts the file system anew at most, with what is to come
+  abbrev own_most : ℕ
+  own_most = recoveries_of old.records runner.crossings.caller runner.crossings.ordinal + one_if (is_owed old.records (has_device old.history))
+
+  has_not : runner.answered ≡ true → awaits_remount new.stage ≡ true → is_owed new.records (has_device new.history) ≡ true
+  has_not has awaits = absurd (let wrong : true ≡ false = sym has ∙ lacks in cc)
 
   -- a call that was struck inside still waits for the file system, or the volume failed
   goes_on_restarted : (crossings : Crossings) → crossings.caller ≡ runner.crossings.caller → crossings.ordinal ≡ runner.crossings.ordinal → count_of crossings Remount ≡ count_of runner.crossings Remount → recovers old.stage ≡ true
@@ -80,10 +87,12 @@ module _ (test : Option (Crossing → Bool)) (old new : Sight) (runner : Runner)
     rolls_none recovered carries fewer = record {
       asked = tally.asked;
       present = tt;
-      records = rw records tally.records;
+      records = rw (records, history) tally.records;
       enters = rw records tally.enters;
       finishes = rw records tally.finishes;
       remounts = (let was = tally.remounts in omega (arith, size, was, fewer));
+      own_remounts = λ not. rw (records, history) (let was = tally.own_remounts lacks in omega (arith, was, fewer));
+      owed = has_not;
       passed = rw records tally.passed;
       taken = rw records tally.taken;
       restarted = rw records (goes_on_restarted runner.crossings refl refl refl recovered carries);
@@ -92,14 +101,16 @@ module _ (test : Option (Crossing → Bool)) (old new : Sight) (runner : Runner)
 
     -- at a fault point of the recovery
     module _ (kind : Kind) (are : AreSixCounts runner.crossings) (late : 4 ≤ place_of kind) (unfired : IfSome test (λ fires. fires (next_of kind runner.crossings) ≡ false)) where
-      pub rolls_past : count_of (counted runner.crossings kind) Remount + one_if (awaits_remount new.stage) ≤ length old.records → IsRestarted old.records (counted runner.crossings kind) new.stage runner.answered → IsTallied test new (with_counted runner kind) at.Outside
-      rolls_past remounts restarted = record {
+      pub rolls_past : count_of (counted runner.crossings kind) Remount + one_if (awaits_remount new.stage) ≤ length old.records → count_of (counted runner.crossings kind) Remount + one_if (awaits_remount new.stage) ≤ own_most → IsRestarted old.records (counted runner.crossings kind) new.stage runner.answered → IsTallied test new (with_counted runner kind) at.Outside
+      rolls_past remounts own restarted = record {
         asked = tally.asked;
         present = tt;
-        records = rw records tally.records;
+        records = rw (records, history) tally.records;
         enters = rw records (let was = tally.enters in let same = counted_there runner.crossings kind are Enter (λ is. omega (arith, is, late)) in omega (arith, was, same));
         finishes = rw records (let was = tally.finishes in let same = counted_there runner.crossings kind are Finish (λ is. omega (arith, is, late)) in omega (arith, was, same));
         remounts = omega (arith, size, remounts);
+        own_remounts = λ not. rw (records, history) own;
+        owed = has_not;
         passed = rw records (passed_back old.records (counted runner.crossings kind) runner.pages runner.answered lacks (passed_late kind are late) (counted_there runner.crossings kind are Leave (λ is. omega (arith, is, late)) ∙ left_none.1));
         taken = rw records (taken_go runner.crossings kind are test old.records tally.taken unfired);
         restarted = rw records restarted;
@@ -124,6 +135,9 @@ module _ (test : Option (Crossing → Bool)) (old new : Sight) (runner : Runner)
         let f = strikes_there old.records runner.crossings kind nth Finish (λ is. omega (arith, is, late)) in
         omega (arith, e, g, f)
 
+    finish_still : strikes_of struck_records runner.crossings.caller runner.crossings.ordinal Finish ≡ strikes_of old.records runner.crossings.caller runner.crossings.ordinal Finish
+    finish_still = strikes_there old.records runner.crossings kind (next_nth runner.crossings.counts kind) Finish (λ is. omega (arith, is, late))
+
     struck_late : HasPassedAtLeast struck_records (counted runner.crossings kind) 0 0 0
     struck_late =
         let was = passed_late kind are late in
@@ -137,16 +151,21 @@ module _ (test : Option (Crossing → Bool)) (old new : Sight) (runner : Runner)
         let f = strikes_there old.records runner.crossings kind nth Finish (λ is. omega (arith, is, late)) in
         record { twice = omega (arith, twice, e, g, f); enters = omega (arith, enters, e, g, f); gathers = omega (arith, gathers, g, f); finishes = omega (arith, finishes, f) }
 
-    pub rolls_struck : is_near old.records runner.crossings.caller runner.crossings.ordinal kind (next_nth runner.crossings.counts kind) ≡ true → count_of (counted runner.crossings kind) Remount + one_if (awaits_remount new.stage) ≤ length old.records + 1
+    pub rolls_struck : is_near (has_device old.history) old.records runner.crossings.caller runner.crossings.ordinal kind (next_nth runner.crossings.counts kind) ≡ true → count_of (counted runner.crossings kind) Remount + one_if (awaits_remount new.stage) ≤ length old.records + 1
+        → count_of (counted runner.crossings kind) Remount + one_if (awaits_remount new.stage) ≤ own_most + 1
         → recoveries_of old.records runner.crossings.caller runner.crossings.ordinal ≤ count_of (counted runner.crossings kind) Remount
         → (awaits_remount new.stage ≡ true) ⊎ (new.stage ≡ stage.Failed) → IsTallied test new (with_counted runner kind) at.Outside
-    rolls_struck near remounts all on = record {
+    rolls_struck near remounts own all on = record {
       asked = tally.asked;
       present = tt;
-      records = subst AreTallied (sym more) (tallied_push old.records (fault_at runner.crossings kind (next_nth runner.crossings.counts kind)) tally.records near (next_more runner.crossings.counts kind).1);
+      records = rw (more, history) (tallied_push old.records old.history (fault_at runner.crossings kind (next_nth runner.crossings.counts kind)) tally.records near (next_more runner.crossings.counts kind).1);
       enters = rw more (let was = tally.enters in let same = counted_there runner.crossings kind are Enter (λ is. omega (arith, is, late)) in omega (arith, was, same, struck_still));
-      finishes = rw more (let was = tally.finishes in let same = counted_there runner.crossings kind are Finish (λ is. omega (arith, is, late)) in omega (arith, was, same, struck_still));
+      finishes = rw more (let was = tally.finishes in let same = counted_there runner.crossings kind are Finish (λ is. omega (arith, is, late)) in omega (arith, was, same, finish_still));
       remounts = omega (arith, longer, remounts);
+      own_remounts = λ not. rw (more, history)
+          (let one_more = recoveries_late old.records runner.crossings kind (next_nth runner.crossings.counts kind) late in
+          let grows = owed_grows old.records (fault_at runner.crossings kind (next_nth runner.crossings.counts kind)) (has_device old.history) in omega (arith, own, one_more, grows));
+      owed = has_not;
       passed = subst (λ (rs : List FaultRecord). HasPassedPoints rs (counted runner.crossings kind) runner.pages runner.answered at.Outside) (sym more)
           (passed_back struck_records (counted runner.crossings kind) runner.pages runner.answered lacks struck_late (counted_there runner.crossings kind are Leave (λ is. omega (arith, is, late)) ∙ left_none.1));
       taken = subst (λ (rs : List FaultRecord). (other : Kind) → TakesUpTo test rs runner.crossings.caller runner.crossings.ordinal other (count_of (counted runner.crossings kind) other)) (sym more)
@@ -203,15 +222,19 @@ module _ (test : Option (Crossing → Bool)) (old new : Sight) (runner : Runner)
         | inl dropped ↦ (
             let before : one_if (awaits_remount old.stage) ≡ 1 = ap (λ (s : Stage). one_if (awaits_remount s)) dropped.0 in
             let was = tally.remounts in
+            let own = tally.own_remounts lacks in
             subst (λ (k : Kind). IsTallied test new (with_counted runner k) at.Outside) (sym dropped.1)
             (rolls_struck test old new runner tally lacks strikes.waits.counts.history Remount are (omega arith) (subst (λ (k : Kind). new.records ≡ old.records ++ fault_at runner.crossings k (next_nth runner.crossings.counts k) ∷ []) dropped.1 more)
-            (let next = (next_more runner.crossings.counts Remount).0 in le-leb (next_nth runner.crossings.counts Remount) (length old.records) (omega (arith, next, was, before)))
-            (let counts = counted_most runner.crossings Remount are in omega (arith, counts, was, before, most)) (all_restarted (ap awaits_remount dropped.0)) on))
+            (let next = (next_more runner.crossings.counts Remount).0 in le-leb (next_nth runner.crossings.counts Remount) (own_most test old new runner tally lacks strikes.waits.counts.history) (omega (arith, next, own, before)))
+            (let counts = counted_most runner.crossings Remount are in omega (arith, counts, was, before, most))
+            (let counts = counted_most runner.crossings Remount are in omega (arith, counts, own, before, most)) (all_restarted (ap awaits_remount dropped.0)) on))
         | inr replays ↦ (
             let was = tally.remounts in
+            let own = tally.own_remounts lacks in
             subst (λ (k : Kind). IsTallied test new (with_counted runner k) at.Outside) (sym replays.1)
             (rolls_struck test old new runner tally lacks strikes.waits.counts.history Replay are (omega arith) (subst (λ (k : Kind). new.records ≡ old.records ++ fault_at runner.crossings k (next_nth runner.crossings.counts k) ∷ []) replays.1 more) refl
             (let same = counted_there runner.crossings Replay are Remount (λ is. omega (arith, is)) in omega (arith, same, was, most))
+            (let same = counted_there runner.crossings Replay are Remount (λ is. omega (arith, is)) in omega (arith, same, own, most))
             (let same = counted_there runner.crossings Replay are Remount (λ is. omega (arith, is)) in let all = none_owed replays.0 strikes.recovered in omega (arith, same, all)) on))
       ])
 
@@ -232,7 +255,7 @@ module _ (test : Option (Crossing → Bool)) (old new : Sight) (runner : Runner)
       let was = tally.remounts in
       let counts = counted_most runner.crossings Remount are in
       subst (λ (c : Crossings). IsTallied test new (with_crossings runner c) at.Outside) (sym past.counts)
-      (rolls_past test old new runner tally lacks steps.2.waits.counts.history steps.2.records Remount are (omega arith) past.unfired (omega (arith, was, before, none, counts)) (inl (all_restarted (ap awaits_remount steps.0))))
+      (rolls_past test old new runner tally lacks steps.2.waits.counts.history steps.2.records Remount are (omega arith) past.unfired (omega (arith, was, before, none, counts)) (let own = tally.own_remounts lacks in omega (arith, own, before, none, counts)) (inl (all_restarted (ap awaits_remount steps.0))))
   rolled crossings stepped.Reopened steps goes = steps_none crossings steps.3 steps.1 steps.2
   rolled crossings (stepped.Replayed n) steps goes =
       let past = steps.3 in
@@ -240,7 +263,7 @@ module _ (test : Option (Crossing → Bool)) (old new : Sight) (runner : Runner)
       let awaits : one_if (awaits_remount new.stage) ≡ one_if (awaits_remount old.stage) = ap one_if steps.2 in
       let was = tally.remounts in
       subst (λ (c : Crossings). IsTallied test new (with_crossings runner c) at.Outside) (sym past.counts)
-      (rolls_past test old new runner tally lacks steps.1.waits.counts.history steps.1.records Replay are (omega arith) past.unfired (omega (arith, was, same, awaits))
+      (rolls_past test old new runner tally lacks steps.1.waits.counts.history steps.1.records Replay are (omega arith) past.unfired (omega (arith, was, same, awaits)) (let own = tally.own_remounts lacks in omega (arith, own, same, awaits))
       (goes_on_restarted test old new runner tally lacks steps.1.waits.counts.history (counted runner.crossings Replay) refl refl same steps.1.recovered (λ a. inl (steps.2 ∙ a))))
   rolled crossings stepped.Resumed steps goes =
       let none : one_if (awaits_remount new.stage) ≡ 0 = ap (λ (s : Stage). one_if (awaits_remount s)) steps.0 in
@@ -290,4 +313,4 @@ module _ (calls : List JobCall) (test : Option (Crossing → Bool)) (old : Sight
   tallied_device new (Some crossings) on steps tally =
       let made : Answers runner.crossings.caller waiting.0 reply.Device old new = steps.1 waiting.0 waiting.1 in
       let at_it = subst (IsAtBy (calls_of calls runner.crossings.caller) (calls_in old.history runner.crossings.caller) runner.done (old.seats runner.crossings.caller).begun) waiting.1 may.served.calls in
-      ends_unplain test old new runner made.stays.records made.stays.stage runner.at tally lacks_it (entry_of runner.crossings.caller waiting.0 None reply.Device) refl (at_it.1 ∙ sym may.served.ordinal) refl made.history
+      ends_unplain test old new runner made.stays.records made.stays.stage runner.at tally lacks_it (entry_of runner.crossings.caller waiting.0 None reply.Device) refl (at_it.1 ∙ sym may.served.ordinal) refl (λ wrong. absurd (let no : false ≡ true = wrong in cc)) (λ awaits. refl) made.history

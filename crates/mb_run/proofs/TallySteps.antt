@@ -19,6 +19,7 @@ use Rattle.mb_kinds.specs.declared.replies.Reply.TheVariants as reply
 use Rattle.mb_run.specs.Events.{Answers, EntersInSight, EntersInside, FinishesInSight, Gains, GathersInSight, LeavesWith, Logs, SealsIf, entry_of}
 use Rattle.mb_run.specs.Seals.{is_due}
 use Rattle.mb_run.specs.Pages.{has}
+use Rattle.mb_run.specs.Recovering.{awaits_remount}
 use Rattle.mb_run.specs.Runs.{strikes_inside}
 use Rattle.mb_run.specs.Served.{Asks, IsAtBy, IsHeld, IsMarked, IsStanding, MayStep, advanced, calls_in, calls_of}
 use Rattle.mb_run.specs.Sights.{SeatHasTicket, Sight, flight_of}
@@ -29,7 +30,8 @@ use Rattle.mb_run.specs.declared.runner.Runner.{Runner}
 use Rattle.mb_run.proofs.Balance.{marked_here, marked_lacks}
 use Rattle.mb_run.proofs.Inside.{own_logged, own_ordinal, own_ticket, ordinal_logged}
 use Rattle.mb_run.proofs.Lists.{all_both, all_map}
-use Rattle.mb_run.proofs.Once.{unplain_is}
+use Rattle.mb_run.proofs.Once.{awaits_device, restart_runs, unplain_is}
+use Rattle.mb_run.proofs.TallyRecords.{tallied_later}
 use Rattle.mb_run.proofs.Tallying.{ends_left, ends_outside, ends_unplain, enter_go, enter_struck, entered_logged, finish_go, finished_logged, finish_struck, gather_go, gather_struck, gathered_if, leave_struck, passed_pages, restarted_runs, tally_on, with_counted}
 use Rattle.mb_run.proofs.Twice.{once_at_most}
 
@@ -82,7 +84,7 @@ module _ (calls : List JobCall) (test : Option (Crossing → Bool)) (old : Sight
         let given = subst (λ (s : Sight). (flight : Flight) → (s.seats ticket.caller).flight ≡ Some flight → Answers ticket.caller flight reply.Device s new) asks.0 gathers.1 in
         let made : Answers ticket.caller stood.0.flight reply.Device old new = given stood.0.flight (ap (λ n. (old.seats n).flight) own ∙ stood.0.here) in
         subst (λ (r : Runner). IsBetween test new (advanced r)) (sym asks.1)
-        (ends_unplain test old new (with_counted runner Gather) made.stays.records made.stays.stage (at.Inside ticket) (counted_tally tally) lacks (entry_of ticket.caller stood.0.flight None reply.Device) own (sym stood.0.ordinal ∙ ordinal) refl made.history)
+        (ends_unplain test old new (with_counted runner Gather) made.stays.records made.stays.stage (at.Inside ticket) (counted_tally tally) lacks (entry_of ticket.caller stood.0.flight None reply.Device) own (sym stood.0.ordinal ∙ ordinal) refl (λ wrong. absurd (let no : false ≡ true = wrong in cc)) (λ awaits. refl) made.history)
 
     pub gathering_done : (new : Sight) (need : Need) (got : PagesState) → GathersInSight mid new ticket need m.pages got gathered.Done → IsTallied test old runner runner.at → IsTallied test new (record m { pages = got }) m.at
     gathering_done new need got gathers tally =
@@ -133,10 +135,12 @@ module _ (calls : List JobCall) (test : Option (Crossing → Bool)) (old : Sight
       record {
         asked = tally.asked;
         present = (now ∙ sym logs.stays.incarnation, logs.stays.stage ∙ runs);
-        records = rw same tally.records;
+        records = rw (same, logs.history) (tallied_later old.records old.history entry tally.records);
         enters = rw same (let was = tally.enters in let in_it = entered_logged runner.answered ticket in omega (arith, was, in_it));
         finishes = rw same (let was = tally.finishes in let done = finished_logged runner.answered ticket in omega (arith, was, done));
         remounts = rw (same, logs.stays.stage) tally.remounts;
+        own_remounts = λ not. absurd (let wrong : true ≡ false = not in cc);
+        owed = λ has awaits. absurd (let wrong : false ≡ true = ap awaits_remount (sym (logs.stays.stage ∙ runs)) ∙ awaits in cc);
         passed = rw same tally.passed;
         taken = rw same tally.taken;
         restarted = inl (rw same (restarted_runs old.records runner.crossings old.stage runner.answered runs tally.restarted));
@@ -215,7 +219,7 @@ module _ (calls : List JobCall) (test : Option (Crossing → Bool)) (old : Sight
         ends_outside test old new runner went.stays.records went.stays.stage (rests tally) (sym marked ∙ went.answered) went.counts.history)
     | inr made ↦ (
         let answers = made.2 in
-        ends_unplain test old new runner answers.stays.records answers.stays.stage at.Outside (rests tally) (lacks_it made.0) (entry_of runner.crossings.caller flight None answer) refl (ordinal_by (old.seats runner.crossings.caller).flight refl) (unplain_is answer made.1) answers.history)
+        ends_unplain test old new runner answers.stays.records answers.stays.stage at.Outside (rests tally) (lacks_it made.0) (entry_of runner.crossings.caller flight None answer) refl (ordinal_by (old.seats runner.crossings.caller).flight refl) (unplain_is answer made.1) (restart_runs old.stage answer made.1 made.3) (awaits_device old.stage answer made.1 made.3) answers.history)
   ]
 
   pub entering_shut : (new : Sight) → EntersInSight old new runner.crossings.caller call enter.Shut → IsTallied test old runner runner.at → IsTallied test new runner runner.at

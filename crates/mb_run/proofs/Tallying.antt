@@ -11,12 +11,13 @@ use Rattle.mb_edge.specs.declared.crossings.Crossings.{Crossings}
 use Rattle.mb_kinds.specs.declared.entries.Entry.{Entry}
 use Rattle.mb_kinds.specs.declared.faults.FaultRecord.{FaultRecord}
 use Rattle.mb_kinds.specs.declared.faults.Kind.{Kind}
-use Rattle.mb_kinds.specs.declared.faults.Kind.TheVariants.{Enter, Gather, Finish, Leave, Remount}
+use Rattle.mb_kinds.specs.declared.faults.Kind.TheVariants.{Enter, Gather, Finish, Leave, Remount, Replay}
 use Rattle.mb_kinds.specs.declared.faults.Ticket.{Ticket}
 use Rattle.mb_run.specs.Events.{StrikesCall}
 use Rattle.mb_run.specs.Pages.{has}
 use Rattle.mb_run.specs.Recovering.{awaits_remount, counted, next_of}
-use Rattle.mb_run.specs.Runs.{EntryTakesFaults, TakesFaults, TakesUpTo, is_near, is_plain, recoveries_of, strikes_inside, strikes_of}
+use Rattle.mb_core_spec.specs.Faults.{is_device}
+use Rattle.mb_run.specs.Runs.{EntryTakesFaults, TakesFaults, TakesUpTo, has_device, is_near, is_of_running, is_owed, is_plain, recoveries_of, strikes_inside, strikes_of}
 use Rattle.mb_run.specs.Served.{AreSixCounts, advanced, backed}
 use Rattle.mb_run.specs.Sights.{Sight, one_if}
 use Rattle.mb_run.specs.Tallies.{AreTallied, HasPassedAtLeast, HasPassedPoints, HasTallied, IsBetween, IsPast, IsUpToDate, IsRestarted, IsTallied, count_of, has_entered, has_finished, is_in, is_logged}
@@ -24,7 +25,8 @@ use Rattle.mb_run.specs.declared.runner.At.{At}
 use Rattle.mb_run.specs.declared.runner.At.TheVariants as at
 use Rattle.mb_run.specs.declared.runner.Runner.{Runner}
 use Rattle.mb_run.proofs.Lists.{all_both, all_map}
-use Rattle.mb_run.proofs.TallyRecords.{counted_here, counted_more, counted_most, counted_some, counted_there, fault_at, next_more, past_push, recoveries_left, recoveries_most, strikes_here, strikes_there, taken_go, taken_struck, tallied_push, up_to_less}
+use Rattle.mb_run.proofs.Once.{one_most}
+use Rattle.mb_run.proofs.TallyRecords.{counted_here, counted_more, counted_most, counted_some, counted_there, fault_at, next_more, owed_device, owed_grows, owed_left, past_push, recoveries_left, recoveries_most, strikes_here, strikes_more, strikes_there, taken_go, taken_struck, tallied_later, tallied_push, up_to_less}
 
 abbrev pub with_counted : Runner → Kind → Runner
 with_counted runner kind = record runner { crossings = counted runner.crossings kind }
@@ -93,6 +95,12 @@ restarted_runs records crossings on answered runs restarted = elim restarted [
 pub restarted_most : (records : List FaultRecord) (crossings : Crossings) (on : Stage) (answered : Bool) → IsRestarted records crossings on answered → recoveries_of records crossings.caller crossings.ordinal ≤ count_of crossings Remount + 1
 restarted_most records crossings on answered restarted = elim restarted [ inl all ↦ omega (arith, all) | inr lacks ↦ lacks.1 ]
 
+-- after each where it was a running volume that answered, and else after each but one
+pub restarted_by : (records : List FaultRecord) (crossings : Crossings) (on : Stage) (answered runs : Bool) → (runs ≡ true → on ≡ stage.Running) → IsRestarted records crossings on answered
+    → recoveries_of records crossings.caller crossings.ordinal + one_if runs ≤ count_of crossings Remount + 1
+restarted_by records crossings on answered true is restarted = (let all = restarted_runs records crossings on answered (is refl) restarted in omega (arith, all))
+restarted_by records crossings on answered false is restarted = (let most = restarted_most records crossings on answered restarted in omega (arith, most))
+
 -- ---- a call ends
 
 at_least_one : (n : ℕ) → n ≢ 0 → 1 ≤ n
@@ -101,9 +109,9 @@ at_least_one (suc n) some = omega arith
 
 -- a call that passed so many fault points took their faults
 module _ (test : Option (Crossing → Bool)) (crossings : Crossings) (records : List FaultRecord) (taken : (kind : Kind) → TakesUpTo test records crossings.caller crossings.ordinal kind (count_of crossings kind)) where
-  of_own : (plain : ℕ) → HasPassedAtLeast records crossings plain plain plain → plain ≤ count_of crossings Leave → recoveries_of records crossings.caller crossings.ordinal + plain ≤ count_of crossings Remount + 1
-      → TakesFaults test records crossings.caller crossings.ordinal plain
-  of_own plain passed leaves restarted =
+  of_own : (plain runs : ℕ) → HasPassedAtLeast records crossings plain plain plain → plain ≤ count_of crossings Leave → recoveries_of records crossings.caller crossings.ordinal + runs ≤ count_of crossings Remount + 1
+      → TakesFaults test records crossings.caller crossings.ordinal plain runs
+  of_own plain runs passed leaves restarted =
       let caller : ℕ = crossings.caller in
       let ordinal : ℕ = crossings.ordinal in
       let less : (kind : Kind) (n : ℕ) → n ≤ count_of crossings kind → TakesUpTo test records caller ordinal kind n = λ kind n low. up_to_less test records caller ordinal kind (count_of crossings kind) n low (taken kind) in
@@ -113,21 +121,22 @@ module _ (test : Option (Crossing → Bool)) (crossings : Crossings) (records : 
         gathers = less Gather (strikes_of records caller ordinal Gather + strikes_of records caller ordinal Finish + plain) passed.gathers;
         finishes = less Finish (strikes_of records caller ordinal Finish + plain) passed.finishes;
         leaves = less Leave plain leaves;
-        remounts = less Remount (recoveries_of records caller ordinal + plain - 1) (omega (arith, restarted));
+        remounts = less Remount (recoveries_of records caller ordinal + runs - 1) (omega (arith, restarted));
       }
 
   -- its entry, which is plain or not
-  pub of_entry : (entry : Entry) → entry.caller ≡ crossings.caller → entry.ordinal ≡ crossings.ordinal → ((is_plain entry.reply ≡ false) ⊎ (HasPassedAtLeast records crossings 1 1 1 × (count_of crossings Leave ≢ 0) × (recoveries_of records crossings.caller crossings.ordinal ≤ count_of crossings Remount)))
-      → HasPassedAtLeast records crossings 0 0 0 → recoveries_of records crossings.caller crossings.ordinal ≤ count_of crossings Remount + 1 → EntryTakesFaults test records entry
-  of_entry entry caller ordinal finished least most =
-      let own : TakesFaults test records crossings.caller crossings.ordinal (one_if (is_plain entry.reply)) = by_plain (is_plain entry.reply) finished in
-      subst (λ n. TakesFaults test records n entry.ordinal (one_if (is_plain entry.reply))) (sym caller) (subst (λ n. TakesFaults test records crossings.caller n (one_if (is_plain entry.reply))) (sym ordinal) own)
+  pub of_entry : (entry : Entry) → entry.caller ≡ crossings.caller → entry.ordinal ≡ crossings.ordinal → ((is_plain entry.reply ≡ false) ⊎ (HasPassedAtLeast records crossings 1 1 1 × (count_of crossings Leave ≢ 0)))
+      → HasPassedAtLeast records crossings 0 0 0 → recoveries_of records crossings.caller crossings.ordinal + one_if (is_of_running entry.reply) ≤ count_of crossings Remount + 1 → EntryTakesFaults test records entry
+  of_entry entry caller ordinal finished least restarted =
+      let runs : ℕ = one_if (is_of_running entry.reply) in
+      let own : TakesFaults test records crossings.caller crossings.ordinal (one_if (is_plain entry.reply)) runs = by_plain (is_plain entry.reply) finished in
+      subst (λ n. TakesFaults test records n entry.ordinal (one_if (is_plain entry.reply)) runs) (sym caller) (subst (λ n. TakesFaults test records crossings.caller n (one_if (is_plain entry.reply)) runs) (sym ordinal) own)
     where
-      by_plain : (plain : Bool) → ((plain ≡ false) ⊎ (HasPassedAtLeast records crossings 1 1 1 × (count_of crossings Leave ≢ 0) × (recoveries_of records crossings.caller crossings.ordinal ≤ count_of crossings Remount)))
-          → TakesFaults test records crossings.caller crossings.ordinal (one_if plain)
-      by_plain false told = of_own 0 least (omega arith) (omega (arith, most))
+      by_plain : (plain : Bool) → ((plain ≡ false) ⊎ (HasPassedAtLeast records crossings 1 1 1 × (count_of crossings Leave ≢ 0)))
+          → TakesFaults test records crossings.caller crossings.ordinal (one_if plain) (one_if (is_of_running entry.reply))
+      by_plain false told = of_own 0 (one_if (is_of_running entry.reply)) least (omega arith) restarted
       by_plain true (inl wrong) = absurd (let no : true ≡ false = wrong in cc)
-      by_plain true (inr all) = (let some = at_least_one (count_of crossings Leave) all.1 in let restarted = all.2 in of_own 1 all.0 some (omega (arith, restarted)))
+      by_plain true (inr all) = of_own 1 (one_if (is_of_running entry.reply)) all.0 (at_least_one (count_of crossings Leave) all.1) restarted
 
 -- its entry, and those before it, have taken their faults
 own_or_past : (test : Option (Crossing → Bool)) (records : List FaultRecord) (crossings : Crossings) → ((entry : Entry) → entry.caller ≡ crossings.caller → entry.ordinal ≡ crossings.ordinal → EntryTakesFaults test records entry)
@@ -139,7 +148,8 @@ pub all_taken : (test : Option (Crossing → Bool)) (crossings : Crossings) (rec
     → count_of crossings Leave ≢ 0 → recoveries_of records crossings.caller crossings.ordinal ≤ count_of crossings Remount → (history : List Entry) → AllByRecursion (IsPast test records crossings true) history → AllByRecursion (EntryTakesFaults test records) history
 all_taken test crossings records taken finished left restarted history all =
     all_map (IsPast test records crossings true) (EntryTakesFaults test records) history
-    (own_or_past test records crossings (λ entry caller ordinal. of_entry test crossings records taken entry caller ordinal (inr (finished, left, restarted)) (passed_less records crossings 1 1 1 finished) (omega (arith, restarted)))) all
+    (own_or_past test records crossings (λ entry caller ordinal. of_entry test crossings records taken entry caller ordinal (inr (finished, left)) (passed_less records crossings 1 1 1 finished)
+    (let one = one_most (is_of_running entry.reply) in omega (arith, restarted, one)))) all
 
 one_earlier : (test : Option (Crossing → Bool)) (records : List FaultRecord) (crossings : Crossings) (answered : Bool) (entry : Entry) → IsPast test records crossings answered entry → entry.caller ≡ crossings.caller → entry.ordinal < crossings.ordinal + 1
 one_earlier test records crossings answered entry (inl mine) own = (let here = mine.1 in omega (arith, here))
@@ -167,23 +177,31 @@ passed_leave records crossings are was =
 
 -- its reply is handed out, and nothing else changes
 module _ (test : Option (Crossing → Bool)) (old new : Sight) (runner : Runner) (records : new.records ≡ old.records) (on : new.stage ≡ old.stage) where
-  tallied_still : AreTallied old.records → (m : ℕ) → m + one_if (awaits_remount old.stage) ≤ length old.records → AllByRecursion (EntryTakesFaults test old.records) new.history → HasTallied test new
-  tallied_still are m fewer taken =
+  tallied_still : AreTallied old.records new.history → (awaits_remount old.stage ≡ true → is_owed old.records (has_device new.history) ≡ true) → (m : ℕ) → m + one_if (awaits_remount old.stage) ≤ length old.records → AllByRecursion (EntryTakesFaults test old.records) new.history → HasTallied test new
+  tallied_still are owes m fewer taken =
       let same : one_if (awaits_remount new.stage) ≡ one_if (awaits_remount old.stage) = ap (λ (s : Stage). one_if (awaits_remount s)) on in
       let size : length new.records ≡ length old.records = ap length records in
       record {
-        records = subst AreTallied (sym records) are;
+        records = rw records are;
         remounts = omega (arith, fewer, same, size);
+        owed = rw (records, on) owes;
         taken = subst (λ (rs : List FaultRecord). AllByRecursion (EntryTakesFaults test rs) new.history) (sym records) taken;
       }
 
   -- a call that was struck where it left
+  -- the entries stay
+  are_still : new.history ≡ old.history → AreTallied old.records old.history → AreTallied old.records new.history
+  are_still history are = subst (AreTallied old.records) (sym history) are
+
+  owes_still : new.history ≡ old.history → (stand : At) → IsTallied test old runner stand → runner.answered ≡ true → awaits_remount old.stage ≡ true → is_owed old.records (has_device new.history) ≡ true
+  owes_still history stand tally answered awaits = subst (λ (es : List Entry). is_owed old.records (has_device es) ≡ true) (sym history) (tally.owed answered awaits)
+
   pub ends_outside : IsTallied test old runner at.Outside → runner.answered ≡ true → new.history ≡ old.history → IsBetween test new (advanced runner)
   ends_outside tally answered history =
       let passed = left_passed old.records runner.crossings runner.pages runner.answered answered tally.passed in
       let past = subst (λ (b : Bool). AllByRecursion (IsPast test old.records runner.crossings b) old.history) answered tally.entries in
       let taken = all_taken test runner.crossings old.records tally.taken passed.0 passed.1 (restarted_all old.records runner.crossings old.stage runner.answered answered tally.restarted) old.history past in
-      between test new runner (tallied_still tally.records (count_of runner.crossings Remount) tally.remounts (subst (λ (es : List Entry). AllByRecursion (EntryTakesFaults test old.records) es) (sym history) taken))
+      between test new runner (tallied_still (are_still history tally.records) (owes_still history at.Outside tally answered) (count_of runner.crossings Remount) tally.remounts (subst (λ (es : List Entry). AllByRecursion (EntryTakesFaults test old.records) es) (sym history) taken))
       (subst (λ (es : List Entry). AllByRecursion (λ (entry : Entry). entry.caller ≡ runner.crossings.caller → entry.ordinal < runner.crossings.ordinal + 1) es) (sym history) (all_earlier test old.records runner.crossings true old.history past))
 
   -- a call that left
@@ -196,18 +214,21 @@ module _ (test : Option (Crossing → Bool)) (old new : Sight) (runner : Runner)
       let same : count_of crossings Remount ≡ count_of runner.crossings Remount = counted_there runner.crossings Leave are Remount (λ same. omega (arith, same)) in
       let all = restarted_all old.records runner.crossings old.stage runner.answered answered tally.restarted in
       let taken = all_taken test crossings old.records (taken_go runner.crossings Leave are test old.records tally.taken unfired) finished (counted_some runner.crossings Leave are) (omega (arith, all, same)) old.history past in
-      between test new (with_counted runner Leave) (tallied_still tally.records (count_of runner.crossings Remount) tally.remounts (subst (λ (es : List Entry). AllByRecursion (EntryTakesFaults test old.records) es) (sym history) taken))
+      between test new (with_counted runner Leave) (tallied_still (are_still history tally.records) (owes_still history (at.Logged ticket) tally answered) (count_of runner.crossings Remount) tally.remounts (subst (λ (es : List Entry). AllByRecursion (EntryTakesFaults test old.records) es) (sym history) taken))
       (subst (λ (es : List Entry). AllByRecursion (λ (entry : Entry). entry.caller ≡ runner.crossings.caller → entry.ordinal < runner.crossings.ordinal + 1) es) (sym history) (all_earlier test old.records crossings true old.history past))
 
   -- a call that ends with an entry which is no step of the model
-  pub ends_unplain : (stand : At) → IsTallied test old runner stand → runner.answered ≡ false → (entry : Entry) → entry.caller ≡ runner.crossings.caller → entry.ordinal ≡ runner.crossings.ordinal → is_plain entry.reply ≡ false → new.history ≡ old.history ++ entry ∷ []
+  pub ends_unplain : (stand : At) → IsTallied test old runner stand → runner.answered ≡ false → (entry : Entry) → entry.caller ≡ runner.crossings.caller → entry.ordinal ≡ runner.crossings.ordinal → is_plain entry.reply ≡ false
+      → (is_of_running entry.reply ≡ true → old.stage ≡ stage.Running) → (awaits_remount old.stage ≡ true → is_device entry.reply ≡ true) → new.history ≡ old.history ++ entry ∷ []
       → IsBetween test new (advanced runner)
-  ends_unplain stand tally lacks entry caller ordinal unplain history =
+  ends_unplain stand tally lacks entry caller ordinal unplain runs ended history =
       let past = subst (λ (b : Bool). AllByRecursion (IsPast test old.records runner.crossings b) old.history) lacks tally.entries in
       let taken : AllByRecursion (EntryTakesFaults test old.records) old.history = all_map (IsPast test old.records runner.crossings false) (EntryTakesFaults test old.records) old.history unanswered past in
-      let its = of_entry test runner.crossings old.records tally.taken entry caller ordinal (inl unplain) (passed_any old.records runner.crossings runner.pages runner.answered stand tally.passed) (restarted_most old.records runner.crossings old.stage runner.answered tally.restarted) in
+      let its = of_entry test runner.crossings old.records tally.taken entry caller ordinal (inl unplain) (passed_any old.records runner.crossings runner.pages runner.answered stand tally.passed) (restarted_by old.records runner.crossings old.stage runner.answered (is_of_running entry.reply) runs tally.restarted) in
       let all = all_both (EntryTakesFaults test old.records) old.history (entry ∷ []) taken (its, tt) in
-      between test new runner (tallied_still tally.records (count_of runner.crossings Remount) tally.remounts (subst (λ (es : List Entry). AllByRecursion (EntryTakesFaults test old.records) es) (sym history) all))
+      between test new runner (tallied_still (subst (AreTallied old.records) (sym history) (tallied_later old.records old.history entry tally.records))
+      (λ starts. subst (λ (es : List Entry). is_owed old.records (has_device es) ≡ true) (sym history) (owed_device old.records old.history entry (ended starts)))
+      (count_of runner.crossings Remount) tally.remounts (subst (λ (es : List Entry). AllByRecursion (EntryTakesFaults test old.records) es) (sym history) all))
       (subst (λ (es : List Entry). AllByRecursion (λ (e : Entry). e.caller ≡ runner.crossings.caller → e.ordinal < runner.crossings.ordinal + 1) es) (sym history)
       (all_both (λ (e : Entry). e.caller ≡ runner.crossings.caller → e.ordinal < runner.crossings.ordinal + 1) old.history (entry ∷ []) (all_earlier test old.records runner.crossings false old.history past) ((λ own. omega (arith, ordinal)), tt)))
     where
@@ -260,6 +281,7 @@ pub tally_on : (test : Option (Crossing → Bool)) (old new : Sight) (before now
 tally_on test old new before now from to tally records on history crossings answered asked present passed inner later =
     let size : length new.records ≡ length old.records = ap length records in
     let struck : strikes_inside new.records now.crossings.caller now.crossings.ordinal ≡ strikes_inside old.records before.crossings.caller before.crossings.ordinal = rw (records, crossings) refl in
+    let there : strikes_of new.records now.crossings.caller now.crossings.ordinal Finish ≡ strikes_of old.records before.crossings.caller before.crossings.ordinal Finish = rw (records, crossings) refl in
     let gone = entered_more before.answered from to inner in
     let done = finished_more before.answered from to later in
     let same : (kind : Kind) → count_of now.crossings kind ≡ count_of before.crossings kind = λ kind. ap (λ (c : Crossings). count_of c kind) crossings in
@@ -267,10 +289,12 @@ tally_on test old new before now from to tally records on history crossings answ
     record {
       asked = asked;
       present = present;
-      records = rw records tally.records;
+      records = rw (records, history) tally.records;
       enters = rw answered (let was = tally.enters in omega (arith, struck, same Enter, was, gone));
-      finishes = rw answered (let was = tally.finishes in omega (arith, struck, same Finish, was, done));
+      finishes = rw answered (let was = tally.finishes in omega (arith, there, same Finish, was, done));
       remounts = (let was = tally.remounts in omega (arith, size, same Remount, was, awaits));
+      own_remounts = rw (crossings, answered, records, history, on) tally.own_remounts;
+      owed = rw (answered, records, history, on) tally.owed;
       passed = rw records passed;
       taken = rw (crossings, records) tally.taken;
       restarted = rw (crossings, answered, records, on) tally.restarted;
@@ -286,7 +310,7 @@ module _ (test : Option (Crossing → Bool)) (old : Sight) (runner : Runner) (ki
   -- the call goes on
   pub tally_go : IfSome test (λ fires. fires (next_of kind runner.crossings) ≡ false) → (to : At) → IsUpToDate old runner.crossings.caller to
       → count_of (counted runner.crossings kind) Enter ≤ strikes_inside old.records runner.crossings.caller runner.crossings.ordinal + has_entered runner.answered to
-      → count_of (counted runner.crossings kind) Finish ≤ strikes_inside old.records runner.crossings.caller runner.crossings.ordinal + has_finished runner.answered to → HasPassedPoints old.records (counted runner.crossings kind) runner.pages runner.answered to → IsTallied test old (with_counted runner kind) to
+      → count_of (counted runner.crossings kind) Finish ≤ strikes_of old.records runner.crossings.caller runner.crossings.ordinal Finish + has_finished runner.answered to → HasPassedPoints old.records (counted runner.crossings kind) runner.pages runner.answered to → IsTallied test old (with_counted runner kind) to
   tally_go unfired to present enters finishes passed = record {
     asked = tally.asked;
     present = present;
@@ -294,6 +318,8 @@ module _ (test : Option (Crossing → Bool)) (old : Sight) (runner : Runner) (ki
     enters = enters;
     finishes = finishes;
     remounts = (let was = tally.remounts in omega (arith, same_remounts, was));
+    own_remounts = λ lacks. (let was = tally.own_remounts lacks in omega (arith, same_remounts, was));
+    owed = tally.owed;
     passed = passed;
     taken = taken_go runner.crossings kind are test old.records tally.taken unfired;
     restarted = restarted_same old.records runner.crossings (counted runner.crossings kind) old.stage runner.answered refl refl same_remounts tally.restarted;
@@ -316,9 +342,9 @@ module _ (test : Option (Crossing → Bool)) (old : Sight) (runner : Runner) (ki
 
   -- the call is struck
   pub tally_struck : (new : Sight) (ticket : Ticket) → ticket.caller ≡ runner.crossings.caller → ticket.ordinal ≡ runner.crossings.ordinal → old.stage ≡ stage.Running → StrikesCall old new ticket kind (next_nth runner.crossings.counts kind)
-      → is_near old.records runner.crossings.caller runner.crossings.ordinal kind (next_nth runner.crossings.counts kind) ≡ true
+      → is_near (has_device old.history) old.records runner.crossings.caller runner.crossings.ordinal kind (next_nth runner.crossings.counts kind) ≡ true
       → count_of (counted runner.crossings kind) Enter ≤ strikes_inside old.records runner.crossings.caller runner.crossings.ordinal + 1
-      → count_of (counted runner.crossings kind) Finish ≤ strikes_inside old.records runner.crossings.caller runner.crossings.ordinal + 1
+      → count_of (counted runner.crossings kind) Finish ≤ strikes_of struck_records runner.crossings.caller runner.crossings.ordinal Finish + one_if runner.answered
       → strikes_inside old.records runner.crossings.caller runner.crossings.ordinal + 1 ≤ strikes_inside struck_records runner.crossings.caller runner.crossings.ordinal + one_if runner.answered
       → HasPassedPoints struck_records (counted runner.crossings kind) no_pages runner.answered at.Outside → (runner.answered ≡ false) ⊎ (place_of kind ≡ 3) → IsTallied test new (backed (with_counted runner kind)) at.Outside
   tally_struck new ticket own ordinal runs strikes near enters finishes counts passed late =
@@ -332,12 +358,19 @@ module _ (test : Option (Crossing → Bool)) (old : Sight) (runner : Runner) (ki
       record {
         asked = refl;
         present = tt;
-        records = subst AreTallied (sym more) (tallied_push old.records fault tally.records near (next_more runner.crossings.counts kind).1);
+        records = rw (more, strikes.counts.history) (tallied_push old.records old.history fault tally.records near (next_more runner.crossings.counts kind).1);
         enters = subst (λ (rs : List FaultRecord). count_of (counted runner.crossings kind) Enter ≤ strikes_inside rs runner.crossings.caller runner.crossings.ordinal + has_entered runner.answered at.Outside) (sym more)
             (let out = entered_outside runner.answered in omega (arith, enters, counts, out));
-        finishes = subst (λ (rs : List FaultRecord). count_of (counted runner.crossings kind) Finish ≤ strikes_inside rs runner.crossings.caller runner.crossings.ordinal + has_finished runner.answered at.Outside) (sym more)
-            (let out = finished_outside runner.answered in omega (arith, finishes, counts, out));
+        finishes = subst (λ (rs : List FaultRecord). count_of (counted runner.crossings kind) Finish ≤ strikes_of rs runner.crossings.caller runner.crossings.ordinal Finish + has_finished runner.answered at.Outside) (sym more)
+            (let out = finished_outside runner.answered in omega (arith, finishes, out));
         remounts = (let was = tally.remounts in omega (arith, same_remounts, was, size, one));
+        own_remounts = λ lacks. rw (more, strikes.counts.history)
+            (let was = tally.own_remounts lacks in let out = ap one_if lacks in let r = strikes_more old.records runner.crossings kind nth Remount in let p = strikes_more old.records runner.crossings kind nth Replay in
+            let grows = owed_grows old.records fault (has_device old.history) in omega (arith, same_remounts, was, one, counts, out, r, p, grows));
+        owed = λ has starts. rw (more, strikes.counts.history) (elim late [
+          | inl lacks ↦ absurd (let wrong : true ≡ false = sym has ∙ lacks in cc)
+          | inr third ↦ owed_left old.records fault (has_device old.history) third
+        ]);
         passed = subst (λ (rs : List FaultRecord). HasPassedPoints rs (counted runner.crossings kind) no_pages runner.answered at.Outside) (sym more) passed;
         taken = subst (λ (rs : List FaultRecord). (other : Kind) → TakesUpTo test rs runner.crossings.caller runner.crossings.ordinal other (count_of (counted runner.crossings kind) other)) (sym more)
             (taken_struck runner.crossings kind are test old.records tally.taken);
@@ -349,8 +382,11 @@ module _ (test : Option (Crossing → Bool)) (old : Sight) (runner : Runner) (ki
 
 -- ---- by its kinds
 
-near_next : (records : List FaultRecord) (caller ordinal nth : ℕ) → nth ≤ strikes_inside records caller ordinal + 1 → is_near records caller ordinal Enter nth ≡ true
-near_next records caller ordinal nth low = le-leb nth (strikes_inside records caller ordinal + 1) low
+near_next : (ended : Bool) (records : List FaultRecord) (caller ordinal nth : ℕ) → nth ≤ strikes_inside records caller ordinal + 1 → is_near ended records caller ordinal Enter nth ≡ true
+near_next ended records caller ordinal nth low = le-leb nth (strikes_inside records caller ordinal + 1) low
+
+near_finish : (ended : Bool) (records : List FaultRecord) (caller ordinal nth : ℕ) → nth ≤ strikes_of records caller ordinal Finish + 1 → is_near ended records caller ordinal Finish nth ≡ true
+near_finish ended records caller ordinal nth low = le-leb nth (strikes_of records caller ordinal Finish + 1) low
 
 never_remount : (n : ℕ) → n < 4 → 4 ≢ n
 never_remount n low same = omega (arith, low, same)
@@ -393,7 +429,7 @@ module _ (test : Option (Crossing → Bool)) (old : Sight) (runner : Runner) (ar
     one_more : count_of (after Enter) Enter ≤ n + 1
     one_more = let most = counted_most runner.crossings Enter are in let was = tally.enters in let out = none_entered runner.answered lacks in omega (arith, most, was, out)
 
-    same_finishes : count_of (after Enter) Finish ≤ n
+    same_finishes : count_of (after Enter) Finish ≤ struck Finish
     same_finishes = let is = counted_there runner.crossings Enter are Finish (λ same. omega (arith, same)) in let was = tally.finishes in let out = none_finished runner.answered at.Outside lacks refl in omega (arith, is, was, out)
 
     gathers_still : count_of (after Enter) Gather ≡ count_of runner.crossings Gather
@@ -433,7 +469,7 @@ module _ (test : Option (Crossing → Bool)) (old : Sight) (runner : Runner) (ar
         → StrikesCall old new ticket Enter (next_nth runner.crossings.counts Enter) → IsTallied test new (backed (with_counted runner Enter)) at.Outside
     enter_struck new own ordinal once strikes =
         let here = counted_here runner.crossings Enter are in
-        tally_struck test old runner Enter are at.Outside tally (never_remount 0 (omega arith)) new ticket own ordinal runs strikes (near_next old.records runner.crossings.caller runner.crossings.ordinal (next_nth runner.crossings.counts Enter) (omega (arith, one_more, here))) one_more (omega (arith, same_finishes))
+        tally_struck test old runner Enter are at.Outside tally (never_remount 0 (omega arith)) new ticket own ordinal runs strikes (near_next (has_device old.history) old.records runner.crossings.caller runner.crossings.ordinal (next_nth runner.crossings.counts Enter) (omega (arith, one_more, here))) one_more (let f = same_of Enter Finish (λ same. omega (arith, same)) in omega (arith, same_finishes, f))
         (let e = more_of Enter in let g = same_of Enter Gather (λ same. omega (arith, same)) in let f = same_of Enter Finish (λ same. omega (arith, same)) in omega (arith, e, g, f))
         (passed_back (with_fault Enter) (after Enter) no_pages runner.answered lacks (struck_in once) no_leave) (inl lacks)
 
@@ -496,10 +532,10 @@ module _ (test : Option (Crossing → Bool)) (old : Sight) (runner : Runner) (ar
         let e = same_of Gather Enter (λ same. omega (arith, same)) in
         let g = more_of Gather in
         let f = same_of Gather Finish (λ same. omega (arith, same)) in
-        tally_struck test old runner Gather are (at.Inside ticket) tally (never_remount 1 (omega arith)) new ticket own ordinal runs strikes refl (inside_enters Gather (λ same. omega (arith, same))) (omega (arith, same, was, none)) (omega (arith, e, g, f))
+        tally_struck test old runner Gather are (at.Inside ticket) tally (never_remount 1 (omega arith)) new ticket own ordinal runs strikes refl (inside_enters Gather (λ same. omega (arith, same))) (omega (arith, same, was, none, f)) (omega (arith, e, g, f))
         (passed_back (with_fault Gather) (after Gather) no_pages runner.answered lacks struck_gathering (inside_leave Gather (λ same. omega (arith, same)))) (inl lacks)
 
-    finish_most : count_of (after Finish) Finish ≤ n + 1
+    finish_most : count_of (after Finish) Finish ≤ struck Finish + 1
     finish_most = let most = counted_most runner.crossings Finish are in let was = tally.finishes in let none = none_finished runner.answered (at.Inside ticket) lacks refl in omega (arith, most, was, none)
 
     -- it has the tables, and comes to finish
@@ -542,8 +578,8 @@ module _ (test : Option (Crossing → Bool)) (old : Sight) (runner : Runner) (ar
       pub finish_struck : (new : Sight) → ticket.caller ≡ runner.crossings.caller → ticket.ordinal ≡ runner.crossings.ordinal → StrikesCall old new ticket Finish (next_nth runner.crossings.counts Finish) → IsTallied test new (backed (with_counted runner Finish)) at.Outside
       finish_struck new own ordinal strikes =
           let here = counted_here runner.crossings Finish are in
-          tally_struck test old runner Finish are (at.Inside ticket) tally (never_remount 2 (omega arith)) new ticket own ordinal runs strikes (near_next old.records runner.crossings.caller runner.crossings.ordinal (next_nth runner.crossings.counts Finish) (omega (arith, finish_most, here)))
-          (inside_enters Finish (λ same. omega (arith, same))) finish_most
+          tally_struck test old runner Finish are (at.Inside ticket) tally (never_remount 2 (omega arith)) new ticket own ordinal runs strikes (near_finish (has_device old.history) old.records runner.crossings.caller runner.crossings.ordinal (next_nth runner.crossings.counts Finish) (omega (arith, finish_most, here)))
+          (inside_enters Finish (λ same. omega (arith, same))) (let f = more_of Finish in omega (arith, finish_most, f))
           (let e = same_of Finish Enter (λ same. omega (arith, same)) in let g = same_of Finish Gather (λ same. omega (arith, same)) in let f = more_of Finish in omega (arith, e, g, f)) (passed_back (with_fault Finish) (after Finish) no_pages runner.answered lacks struck_finishing (inside_leave Finish (λ same. omega (arith, same)))) (inl lacks)
 
   -- a call that has its entry
@@ -551,7 +587,7 @@ module _ (test : Option (Crossing → Bool)) (old : Sight) (runner : Runner) (ar
     leave_enters : count_of (after Leave) Enter ≤ n + 1
     leave_enters = let is = counted_there runner.crossings Leave are Enter (λ same. omega (arith, same)) in let was = tally.enters in let in_it = entered_logged runner.answered ticket in omega (arith, is, was, in_it)
 
-    leave_finishes : count_of (after Leave) Finish ≤ n + 1
+    leave_finishes : count_of (after Leave) Finish ≤ struck Finish + 1
     leave_finishes = let is = counted_there runner.crossings Leave are Finish (λ same. omega (arith, same)) in let was = tally.finishes in let done = finished_logged runner.answered ticket in omega (arith, is, was, done)
 
     struck_leaving : HasPassedAtLeast (with_fault Leave) (after Leave) 1 1 1
@@ -569,6 +605,6 @@ module _ (test : Option (Crossing → Bool)) (old : Sight) (runner : Runner) (ar
     pub leave_struck : (new : Sight) → ticket.caller ≡ runner.crossings.caller → ticket.ordinal ≡ runner.crossings.ordinal → StrikesCall old new ticket Leave (next_nth runner.crossings.counts Leave) → IsTallied test new (backed (with_counted runner Leave)) at.Outside
     leave_struck new own ordinal strikes =
         let first : next_nth runner.crossings.counts Leave ≡ 1 = (let none = tally.passed.1 in omega (arith, none)) in
-        tally_struck test old runner Leave are (at.Logged ticket) tally (never_remount 3 (omega arith)) new ticket own ordinal runs strikes (ap (λ nth. is_near old.records runner.crossings.caller runner.crossings.ordinal Leave nth) first) leave_enters leave_finishes
+        tally_struck test old runner Leave are (at.Logged ticket) tally (never_remount 3 (omega arith)) new ticket own ordinal runs strikes (ap (λ nth. is_near (has_device old.history) old.records runner.crossings.caller runner.crossings.ordinal Leave nth) first) leave_enters (let f = same_of Leave Finish (λ same. omega (arith, same)) in let has = ap one_if has_it in omega (arith, leave_finishes, f, has))
         (let e = same_of Leave Enter (λ same. omega (arith, same)) in let g = same_of Leave Gather (λ same. omega (arith, same)) in let f = same_of Leave Finish (λ same. omega (arith, same)) in let has = ap one_if has_it in omega (arith, e, g, f, has))
         (passed_left (with_fault Leave) (after Leave) no_pages runner.answered has_it struck_leaving (counted_some runner.crossings Leave are)) (inr (omega arith))

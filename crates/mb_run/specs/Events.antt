@@ -33,6 +33,7 @@ use Rattle.mb_core_state.specs.declared.answers.Left.TheVariants as left
 use Rattle.mb_core_state.specs.declared.answers.Fault.{Fault}
 use Rattle.mb_core_state.specs.declared.answers.Fault.TheVariants as fault
 use Rattle.mb_iface.specs.declared.replies.Need.{Need}
+use Rattle.mb_core_spec.specs.declared.stages.Stage.{Stage}
 use Rattle.mb_core_spec.specs.declared.stages.Stage.TheVariants as stage
 
 -- what every event of one caller but a fault leaves as it is
@@ -97,6 +98,13 @@ IsUnplain reply.Device = Unit {0}
 IsUnplain (reply.Failed faults) = Unit {0}
 IsUnplain _ = ⊥
 
+-- EIO for a restart is the answer of a volume that runs, where the recovery before it came to its end, and FAILED that of one that
+-- failed
+abbrev pub IsAnsweredAt : Stage → Reply → Type 0
+IsAnsweredAt now (reply.Restart first second) = now ≡ stage.Running
+IsAnsweredAt now (reply.Failed faults) = now ≡ stage.Failed
+IsAnsweredAt now _ = Unit {0}
+
 -- an entry of that call has this reply
 pub record IsReplyOf (history : List Entry) (caller ordinal : ℕ) (answer : Reply) : Type 0 where
   pub entry : Entry
@@ -123,7 +131,8 @@ pub record EntersInside (old new : Sight) (caller : ℕ) (call : Call) (ticket :
 abbrev pub EntersInSight : Sight → Sight → ℕ → Call → Enter → Type 0
 EntersInSight old new caller call (enter.Done answer) =
     ((flight : Flight) × EndsFlight caller flight old new × IsReplyOf old.history caller flight.ordinal answer)
-    ⊎ (((flight_of old caller call (old.seats caller).flight).answered ≡ false) × IsUnplain answer × Answers caller (flight_of old caller call (old.seats caller).flight) answer old new)
+    ⊎ (((flight_of old caller call (old.seats caller).flight).answered ≡ false) × IsUnplain answer
+    × Answers caller (flight_of old caller call (old.seats caller).flight) answer old new × IsAnsweredAt old.stage answer)
 EntersInSight old new caller call enter.Shut =
     (recovers old.stage ≡ true) × ((flight_of old caller call (old.seats caller).flight).answered ≡ false) × BeginsFlight caller (flight_of old caller call (old.seats caller).flight) old new
 EntersInSight old new caller call (enter.Inside ticket) = EntersInside old new caller call ticket

@@ -71,12 +71,15 @@ abbrev pub struck : List FaultRecord
 struck = record { caller = 0; ordinal = 2; kind = Gather; nth = 1 } ∷ record { caller = 0; ordinal = 2; kind = Gather; nth = 2 } ∷ []
 
 -- it was struck twice before it had its entry, at both of them and at no third; a finish struck at its third crossing is no first
--- record, and behind faults of another call nothing is struck where it enters the second time, nor a recovery without a fault before
+-- record, nor one at the second behind faults where the call gathered, and behind faults of another call nothing is struck where it
+-- enters the second time. It starts the file system anew twice for these faults; another call does not, but where the disk ended one
 abbrev pub WorkedFaults : Type 0
 WorkedFaults =
-    AreNear [] struck × (strikes_inside struck 0 2 ≡ 2)
+    AreNear false [] struck × (strikes_inside struck 0 2 ≡ 2)
     × (is_struck_at struck 0 2 Gather 2 ≡ true) × (is_struck_at struck 0 2 Gather 3 ≡ false)
-    × (is_near [] 0 2 Finish 3 ≡ false) × (is_near struck 0 1 Enter 2 ≡ false) × (is_near [] 0 2 Remount 1 ≡ false)
+    × (is_near false [] 0 2 Finish 3 ≡ false) × (is_near false struck 0 1 Enter 2 ≡ false) × (is_near false struck 0 2 Finish 2 ≡ false)
+    × (is_near false [] 0 2 Remount 1 ≡ false) × (is_near false struck 1 1 Remount 1 ≡ false) × (is_near true struck 1 1 Remount 1 ≡ true)
+    × (is_near false struck 0 2 Remount 2 ≡ true) × (is_near false struck 0 2 Remount 3 ≡ false)
 
 -- the rule `1 enter 0 2`, which strikes a call where it enters for the first and the second time
 abbrev pub twice_entering : List Rule
@@ -88,13 +91,20 @@ entered_once = record { caller = 0; ordinal = 1; kind = Enter; nth = 1 } ∷ []
 abbrev pub entered_twice : List FaultRecord
 entered_twice = record { caller = 0; ordinal = 1; kind = Enter; nth = 1 } ∷ record { caller = 0; ordinal = 1; kind = Enter; nth = 2 } ∷ []
 
+-- with `1 remount 1 1` beside it, which strikes where the file system is started anew behind the second fault
+abbrev pub then_remounting : List Rule
+then_remounting = record { caller = 0; ordinal = 1; kind = Remount; skip = 1; times = 1; damage = [] } ∷ twice_entering
+
 -- a call that both faults ended took them; one with a plain reply behind the first passed the second over, and none has a plain reply
--- behind both
+-- behind both. One that a running volume told of them was struck once more where the file system was started anew, and one that the
+-- disk ended need not have been
 abbrev pub WorkedTaken : Type 0
 WorkedTaken =
-    TakesFaults (Some (fires twice_entering)) entered_twice 0 1 0
-    × (TakesFaults (Some (fires twice_entering)) entered_once 0 1 1 → ⊥)
-    × (TakesFaults None entered_twice 0 1 1 → ⊥)
+    TakesFaults (Some (fires twice_entering)) entered_twice 0 1 0 1
+    × (TakesFaults (Some (fires twice_entering)) entered_once 0 1 1 1 → ⊥)
+    × (TakesFaults None entered_twice 0 1 1 1 → ⊥)
+    × (TakesFaults (Some (fires then_remounting)) entered_twice 0 1 0 1 → ⊥)
+    × TakesFaults (Some (fires then_remounting)) entered_twice 0 1 0 0
     × (IsStruckOnceIfPlain entered_twice (entry 0 1 1) → ⊥)
     × IsStruckOnceIfPlain entered_once (entry 0 1 1)
 

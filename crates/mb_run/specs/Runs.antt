@@ -1,7 +1,7 @@
 -- What a run of a job over a core was: the clauses of the headline, over the readers of a core and the job alone.
 use Rattle.std.specs.Prelude.{ℕ, ◌+◌, ◌-◌, ◌<◌, ◌≤◌, ◌≡◌, ◌≢◌, List, [], ◌∷◌, ◌++◌, length, filter, nat_eq, nat_lt, nat_le, ◌&&◌, ◌||◌, not, slice_get, Bool, true, false, cond, Option, Some, None, IfSome, count_by}
 use Rattle.std.specs.List.{AllByRecursion, list_any}
-use Rattle.mb_core_spec.specs.Faults.{IsTwice}
+use Rattle.mb_core_spec.specs.Faults.{IsTwice, is_device}
 use Rattle.mb_edge.specs.declared.crossings.Crossing.{Crossing}
 use Rattle.mb_kinds.specs.declared.entries.Entry.{Entry}
 use Rattle.mb_kinds.specs.declared.faults.FaultRecord.{FaultRecord}
@@ -103,36 +103,54 @@ TakesUpTo test records caller ordinal kind most = IfSome test (λ fires. (nth : 
 -- a call took the faults of its fault points; `plain` is 1 where it came to a plain reply, and else 0. It entered anew after each
 -- fault before it had its entry; each time that it came to gather it gathered once at least, and to finish, once. A second such
 -- fault ended it, so that a call with a plain reply met one at most. After each of them, and after each fault of the recovery that
--- it runs, but not after the last one of a call that was ended, the file system was started anew
-pub record TakesFaults (test : Option (Crossing → Bool)) (records : List FaultRecord) (caller ordinal plain : ℕ) : Type 0 where
+-- it runs, the file system was started anew, but for the last one of a call that no running volume answered (`runs` is 0 then)
+pub record TakesFaults (test : Option (Crossing → Bool)) (records : List FaultRecord) (caller ordinal plain runs : ℕ) : Type 0 where
   pub twice : strikes_inside records caller ordinal + plain ≤ 2
   pub enters : TakesUpTo test records caller ordinal Enter (strikes_inside records caller ordinal + plain)
   pub gathers : TakesUpTo test records caller ordinal Gather (strikes_of records caller ordinal Gather + strikes_of records caller ordinal Finish + plain)
   pub finishes : TakesUpTo test records caller ordinal Finish (strikes_of records caller ordinal Finish + plain)
   pub leaves : TakesUpTo test records caller ordinal Leave plain
-  pub remounts : TakesUpTo test records caller ordinal Remount (recoveries_of records caller ordinal + plain - 1)
+  pub remounts : TakesUpTo test records caller ordinal Remount (recoveries_of records caller ordinal + runs - 1)
+
+-- a reply of a volume that runs: a plain one, or EIO for a restart
+abbrev pub is_of_running : Reply → Bool
+is_of_running reply.Device = false
+is_of_running (reply.Failed faults) = false
+is_of_running _ = true
 
 -- the call of an entry
 abbrev pub EntryTakesFaults : Option (Crossing → Bool) → List FaultRecord → Entry → Type 0
-EntryTakesFaults test records entry = TakesFaults test records entry.caller entry.ordinal (one_if (is_plain entry.reply))
+EntryTakesFaults test records entry =
+    TakesFaults test records entry.caller entry.ordinal (one_if (is_plain entry.reply)) (one_if (is_of_running entry.reply))
+
+-- the disk ended a call
+abbrev pub has_device : List Entry → Bool
+has_device history = list_any (λ (entry : Entry). is_device entry.reply) history
+
+-- a recovery may be in progress where a call is made: a fault struck one before where it left, or the disk ended one
+abbrev pub is_owed : List FaultRecord → Bool → Bool
+is_owed before ended = list_any (λ (fault : FaultRecord). same_kind fault.kind Leave) before || ended
 
 -- no fault point was counted to which its call did not come: with these faults before, it entered once more than it was struck since
--- it was made, and finished no more often; it leaves once; and each recovery began with a fault
-abbrev pub is_near : List FaultRecord → ℕ → ℕ → Kind → ℕ → Bool
-is_near before caller ordinal Gather nth = true
-is_near before caller ordinal Replay nth = true
-is_near before caller ordinal Leave nth = nat_eq nth 1
-is_near before caller ordinal Remount nth = nat_le nth (length before)
-is_near before caller ordinal _ nth = nat_le nth (strikes_inside before caller ordinal + 1)
+-- it was made, and finished once more than it was struck there; it leaves once; and it started the file system anew once for each
+-- fault that began its own recoveries, or began them anew, and once where one was in progress before
+abbrev pub is_near : Bool → List FaultRecord → ℕ → ℕ → Kind → ℕ → Bool
+is_near ended before caller ordinal Gather nth = true
+is_near ended before caller ordinal Replay nth = true
+is_near ended before caller ordinal Leave nth = nat_eq nth 1
+is_near ended before caller ordinal Remount nth = nat_le nth (recoveries_of before caller ordinal + one_if (is_owed before ended))
+is_near ended before caller ordinal Finish nth = nat_le nth (strikes_of before caller ordinal Finish + 1)
+is_near ended before caller ordinal Enter nth = nat_le nth (strikes_inside before caller ordinal + 1)
 
-abbrev pub AreNear : List FaultRecord → List FaultRecord → Type 0
-AreNear before [] = Unit {0}
-AreNear before (fault ∷ later) = (is_near before fault.caller fault.ordinal fault.kind fault.nth ≡ true) × AreNear (before ++ fault ∷ []) later
+abbrev pub AreNear : Bool → List FaultRecord → List FaultRecord → Type 0
+AreNear ended before [] = Unit {0}
+AreNear ended before (fault ∷ later) =
+    (is_near ended before fault.caller fault.ordinal fault.kind fault.nth ≡ true) × AreNear ended (before ++ fault ∷ []) later
 
 -- each call that has its entry took its faults
 pub record HasTakenFaults (test : Option (Crossing → Bool)) (history : List Entry) (records : List FaultRecord) : Type 0 where
   pub taken : AllByRecursion (EntryTakesFaults test records) history
-  pub near : AreNear [] records
+  pub near : AreNear (has_device history) [] records
 
 -- ---- a disk that failed, a volume that failed
 

@@ -14,7 +14,7 @@ use Rattle.mb_kinds.specs.declared.faults.Kind.TheVariants.{Enter, Gather, Finis
 use Rattle.mb_kinds.specs.declared.faults.Ticket.{Ticket}
 use Rattle.mb_run.specs.Pages.{has}
 use Rattle.mb_run.specs.Recovering.{awaits_remount}
-use Rattle.mb_run.specs.Runs.{AreNear, EntryTakesFaults, TakesUpTo, recoveries_of, strikes_inside, strikes_of}
+use Rattle.mb_run.specs.Runs.{AreNear, EntryTakesFaults, TakesUpTo, has_device, is_owed, recoveries_of, strikes_inside, strikes_of}
 use Rattle.mb_run.specs.Sights.{Sight, one_if}
 use Rattle.mb_run.specs.declared.progress.Went.{Went}
 use Rattle.mb_run.specs.declared.progress.Went.TheVariants as went
@@ -36,8 +36,8 @@ abbrev pub is_logged : At → ℕ
 is_logged (at.Logged ticket) = 1
 is_logged _ = 0
 
--- it entered once more than it was struck before it had its entry, where it is inside or has that; and so it finished, where it is
--- about to have it
+-- it entered once more than it was struck before it had its entry, where it is inside or has that; and finished once more than it
+-- was struck there, where it is about to have it
 abbrev pub has_entered : Bool → At → ℕ
 has_entered true stand = 1
 has_entered false stand = is_in stand
@@ -81,19 +81,23 @@ IsPast test records crossings answered entry =
     ((entry.caller ≡ crossings.caller) × (entry.ordinal ≡ crossings.ordinal) × (answered ≡ true))
     ⊎ ((entry.caller ≡ crossings.caller → entry.ordinal < crossings.ordinal) × EntryTakesFaults test records entry)
 
--- of the records alone
-pub record AreTallied (records : List FaultRecord) : Type 0 where
-  pub near : AreNear [] records
+-- of the records, and whether the disk ended a call
+pub record AreTallied (records : List FaultRecord) (history : List Entry) : Type 0 where
+  pub near : AreNear (has_device history) [] records
   pub positive : AllByRecursion (λ (fault : FaultRecord). 1 ≤ fault.nth) records
 
 -- a call under way, which stands there or is on its way there
 pub record IsTallied (test : Option (Crossing → Bool)) (sight : Sight) (runner : Runner) (stand : At) : Type 0 where
   pub asked : runner.asked ≡ false
   pub present : IsUpToDate sight runner.crossings.caller stand
-  pub records : AreTallied sight.records
+  pub records : AreTallied sight.records sight.history
   pub enters : count_of runner.crossings Enter ≤ strikes_inside sight.records runner.crossings.caller runner.crossings.ordinal + has_entered runner.answered stand
-  pub finishes : count_of runner.crossings Finish ≤ strikes_inside sight.records runner.crossings.caller runner.crossings.ordinal + has_finished runner.answered stand
+  pub finishes : count_of runner.crossings Finish ≤ strikes_of sight.records runner.crossings.caller runner.crossings.ordinal Finish + has_finished runner.answered stand
   pub remounts : count_of runner.crossings Remount + one_if (awaits_remount sight.stage) ≤ length sight.records
+  -- it runs its own recoveries, and one that was in progress before
+  pub own_remounts : runner.answered ≡ false → count_of runner.crossings Remount + one_if (awaits_remount sight.stage)
+      ≤ recoveries_of sight.records runner.crossings.caller runner.crossings.ordinal + one_if (is_owed sight.records (has_device sight.history))
+  pub owed : runner.answered ≡ true → awaits_remount sight.stage ≡ true → is_owed sight.records (has_device sight.history) ≡ true
   pub passed : HasPassedPoints sight.records runner.crossings runner.pages runner.answered stand
   pub taken : (kind : Kind) → TakesUpTo test sight.records runner.crossings.caller runner.crossings.ordinal kind (count_of runner.crossings kind)
   pub restarted : IsRestarted sight.records runner.crossings sight.stage runner.answered
@@ -111,8 +115,9 @@ pub record IsRested (history : List Entry) (runner : Runner) : Type 0 where
 
 -- every call that has its entry took its faults
 pub record HasTallied (test : Option (Crossing → Bool)) (sight : Sight) : Type 0 where
-  pub records : AreTallied sight.records
+  pub records : AreTallied sight.records sight.history
   pub remounts : one_if (awaits_remount sight.stage) ≤ length sight.records
+  pub owed : awaits_remount sight.stage ≡ true → is_owed sight.records (has_device sight.history) ≡ true
   pub taken : AllByRecursion (EntryTakesFaults test sight.records) sight.history
 
 pub record AreRested (test : Option (Crossing → Bool)) (sight : Sight) (runners : List Runner) : Type 0 where

@@ -29,7 +29,7 @@ pub enum DriveEnd {
     AllDone,
     /// Each call of the job has its entry, and the volume has failed.
     VolumeFailed,
-    /// A call or a step met want of memory. Not every call has its entry.
+    /// A call or a step met want of memory, so there may be calls without an entry.
     NoMemory,
 }
 
@@ -216,8 +216,10 @@ fn drive_core<C: EventCore, H: Hook>(
 /// faults, no two at one whose `nth` is below 4294967295. Where no fault came, as many checkpoints were taken at least as an
 /// order asks for. In list order, over a core that runs at the beginning, no fault was passed over (`TakesFaults`): a call has
 /// a record of each crossing where the injector's test holds, as far as its records tell how often it entered, gathered,
-/// finished, left and started the file system anew; with a plain reply it met one fault of its own at most; and a record of
-/// Enter, Finish or Remount has an `nth` of at most one more than the records before it.
+/// finished, left and started the file system anew; with a plain reply it met one fault of its own at most. And no fault
+/// struck where its call did not come (`AreNear`): a record of Enter has an `nth` of at most one more than its call's records of
+/// Enter, Gather and Finish before it, one of Finish of at most one more than those of Finish, one of Leave of 1, and one of Remount
+/// of at most as many as its call's records but those of Leave, and one more behind a record of Leave or an entry `Device`.
 pub fn drive<C: EventCore, H: Hook>(alloc: Global, core: C, job: &Job, hook: &mut H) -> Driven<C>
     requires runnable { IsRunnable job.now }
     requires begun { IsBegun job.now (C.sight core) }

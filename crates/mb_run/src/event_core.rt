@@ -44,7 +44,7 @@ pub trait EventCore {
     fn config(&self) -> &Config
         ensures { limits_of result.now ≡ (sight self.now).config };
 
-    /// How many operations were logged since the last checkpoint.
+    /// How many operations the log has: those since the last checkpoint, as they were logged or folded.
     fn logged(&self) -> u32
         ensures { result ≡ (sight self.now).ops };
 

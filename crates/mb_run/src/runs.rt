@@ -110,8 +110,8 @@ pub(crate) fn give_up<C: EventCore>(core: &mut C, runner: &Runner)
     }
 }
 
-/// A recovery, run by a call that waits. Its steps since it began, or since the last fault that came, are steps forward, of
-/// which `recovers_soon` says how many there can be.
+/// A recovery, run by a call that waits. Unless the volume was given up, its steps since it began, or since the last fault that
+/// came, are steps forward, of which `recovers_soon` says how many there can be.
 pub fn recover<C: EventCore, H: Hook>(
     alloc: Global,
     core: &mut C,

@@ -23,7 +23,7 @@ use Rattle.mb_core_state.specs.declared.answers.Enter.{Enter as Entered}
 use Rattle.mb_core_state.specs.declared.answers.Enter.TheVariants as entered
 use Rattle.mb_core_events.specs.Callings.{MayCall}
 use Rattle.mb_run.specs.CoreSight.{is_fresh, pages_kept, seat_of, sight_of, stales_of}
-use Rattle.mb_run.specs.Events.{Answers, BeginsFlight, EntersInSight, EntersInside, IsReplyOf, IsUnplain, KeepsLog, EndsFlight, LeavesOthersAlone}
+use Rattle.mb_run.specs.Events.{Answers, BeginsFlight, EntersInSight, EntersInside, IsAnsweredAt, IsReplyOf, IsUnplain, KeepsLog, EndsFlight, LeavesOthersAlone}
 use Rattle.mb_run.specs.Served.{MayBeginOrGoOn, MayEnterInSight}
 use Rattle.mb_run.specs.Sights.{IsOld, Seat, flight_of, is_new, one_if as one_where, recovers}
 use Rattle.mb_volume_core.specs.Answers.{entered_as}
@@ -58,6 +58,15 @@ unplain core caller ordinal (reply.Num number) cause = absurd cause
 unplain core caller ordinal (reply.Got bytes) cause = absurd cause
 unplain core caller ordinal (reply.Info stat) cause = absurd cause
 unplain core caller ordinal (reply.Refused e) cause = absurd cause
+
+answered_at : {F D : Type 0} (core : CoreState F D) (caller ordinal : ℕ) (answer : Reply) → IsCause core caller ordinal answer → IsAnsweredAt core.stage answer
+answered_at core caller ordinal (reply.Restart first second) cause = cause.0
+answered_at core caller ordinal (reply.Failed faults) cause = cause.0
+answered_at core caller ordinal reply.Device cause = tt
+answered_at core caller ordinal (reply.Num number) cause = tt
+answered_at core caller ordinal (reply.Got bytes) cause = tt
+answered_at core caller ordinal (reply.Info stat) cause = tt
+answered_at core caller ordinal (reply.Refused e) cause = tt
 
 module _ {F D : Type 0} (told : D → Option Image) (faults : D → ℕ) (core : CoreState F D) (r : Right told faults core) (caller : ℕ) (mine : CallerState) (here : slice_get core.callers caller ≡ Some mine) (given : Call) where
   seat_is : (sight_of core).seats caller ≡ record { begun = mine.begun; flight = mine.flight }
@@ -286,6 +295,7 @@ module _ {F D : Type 0} (told : D → Option Image) (faults : D → ℕ) (core :
       lacks_here up.0,
       unplain core caller (the_flight mine.flight).ordinal answer up.1,
       subst (λ (f : Flight). Answers caller f answer (sight_of core) (sight_of new)) (sym flight_same) (given_up_if new answer mine.flight refl up.0 up.2.event),
+      answered_at core caller (the_flight mine.flight).ordinal answer up.1,
     )
   ]
   enters_by new entered.Shut by = (
