@@ -112,6 +112,11 @@ abbrev pub SealsAsOrdered : Option (List ℕ) → List FaultRecord → List Step
 SealsAsOrdered None records trail = Unit {0}
 SealsAsOrdered (Some order) records trail = records ≡ [] → asked_in order ≤ count_by is_seal trail
 
+-- and of a run to its end one more, which ends it
+abbrev pub SealsBesideEnd : Option (List ℕ) → List FaultRecord → List Step → Type 0
+SealsBesideEnd None records trail = Unit {0}
+SealsBesideEnd (Some order) records trail = records ≡ [] → asked_in order < count_by is_seal trail
+
 -- where one thread ran the job: without an order its calls stand in the job's order, entry by entry and moment by moment, and
 -- the faults of its plan were taken; by an order the first calls begin as the callers' letters first stand in it, and without
 -- faults the trace begins with these calls, and checkpoints were taken where it asks for them. No call was told more than four times,

@@ -1,5 +1,5 @@
 -- What comes of a run, from the laws on its path.
-use Rattle.std.proofs.Common.{List, ℕ, ◌≤◌, ◌≡◌, ◌≢◌, ◌⊎◌, Option, None, Some, inl, inr, ap, arith, sym, subst, ◌∙◌, refl}
+use Rattle.std.proofs.Common.{List, ℕ, ◌<◌, ◌≤◌, count_by, ◌≡◌, ◌≢◌, ◌⊎◌, Option, None, Some, inl, inr, ap, arith, sym, subst, ◌∙◌, refl}
 use Rattle.mb_core_events.specs.Beginning.{TellsVolume}
 use Rattle.mb_core_spec.specs.Right.{Right}
 use Rattle.mb_core_spec.specs.State.{CoreState}
@@ -7,7 +7,7 @@ use Rattle.mb_core_spec.specs.declared.stages.Stage.{Stage}
 use Rattle.mb_core_spec.specs.declared.stages.Stage.TheVariants as stage
 use Rattle.mb_edge.specs.Causes.{Rose}
 use Rattle.mb_fsops.specs.declared.v7.V7.{V7}
-use Rattle.mb_headline.specs.Headline.{EntersAsOrdered, FewerDevices, IsDone, IsGivenUp, IsRun, KeepsOrder, LeavesImage, SealsAsOrdered}
+use Rattle.mb_headline.specs.Headline.{EntersAsOrdered, FewerDevices, IsDone, IsGivenUp, IsRun, KeepsOrder, LeavesImage, SealsAsOrdered, SealsBesideEnd}
 use Rattle.mb_headline.specs.Laws.{DrivesKeepOrder, DrivesApart, IsBegunFor, IsFitJob, IsPath, PathsAreRuns, PathsEnd, PathsFail}
 use Rattle.mb_jobs.specs.declared.jobs.Job.{Job}
 use Rattle.mb_kinds.specs.Image.{Image}
@@ -21,6 +21,7 @@ use Rattle.mb_run.proofs.Calm.{enters_on}
 use Rattle.mb_run.proofs.Taking.{seals_more}
 use Rattle.mb_run.specs.CoreSight.{sight_of}
 use Rattle.mb_run.specs.Letters.{letters_of}
+use Rattle.mb_run.specs.Runs.{is_seal}
 use Rattle.mb_run.specs.Seals.{TrailGoesOn}
 use Rattle.mb_run.specs.Drives.{IsDriven, IsDrivenApart}
 use Rattle.mb_run.specs.Orders.{asked_by}
@@ -33,15 +34,16 @@ use Rattle.mb_program.specs.declared.finish.Held.{Held}
 use Rattle.mb_program.specs.declared.finish.Held.TheVariants as held
 use Rattle.mb_program.specs.declared.manners.Manner.{Manner}
 use Rattle.mb_program.specs.declared.manners.Manner.TheVariants as manners
-use Rattle.mb_program.specs.Outcomes.{ComesOfCore, ComesOfJob, ComesOfRunWords, IsAlone, IsDiskFailure, KeepsOrderIfAlone, IsDrivenFor, asked_for, SaysText, told_text, unsettled_text}
+use Rattle.mb_program.specs.Outcomes.{ClosesIfAlone, ComesOfCore, ComesOfJob, ComesOfRunWords, IsAlone, IsDiskFailure, KeepsOrderIfAlone, IsDrivenFor, asked_for, SaysText, told_text, unsettled_text}
 use Rattle.mb_program.specs.declared.outcomes.Outcome.{Outcome}
 use Rattle.mb_program.specs.declared.outcomes.Outcome.TheVariants.{WordsRefused, InputFault, JobRefused, DiskFault, OutOfMemory, Made, Checked, Unsound, Unsettled, GivenUp, Ran}
 
 comes_done : {D : Type 0} (told : D → Option Image) (faults : D → ℕ) (manner : Manner) (job : Job) (disk : D) (core : CoreState V7 D) (outcome : Outcome)
-    → IsRun told faults (asked_for manner job) job disk core → KeepsOrderIfAlone manner job core → IsDone job core → LeavesImage told job disk core → SaysText Ran (told_text manner end_text job core) outcome → ComesOfCore told faults manner job disk core outcome
-comes_done told faults manner job disk core outcome run order all left said =
+    → IsRun told faults (asked_for manner job) job disk core → KeepsOrderIfAlone manner job core → ClosesIfAlone manner job core → IsDone job core → LeavesImage told job disk core → SaysText Ran (told_text manner end_text job core) outcome
+    → ComesOfCore told faults manner job disk core outcome
+comes_done told faults manner job disk core outcome run order closes all left said =
     elim said [
-      | inl is ↦ subst (ComesOfCore told faults manner job disk core) (sym is) (record { run = run; order = order; done = all; left = left; printed = refl })
+      | inl is ↦ subst (ComesOfCore told faults manner job disk core) (sym is) (record { run = run; order = order; closes = closes; done = all; left = left; printed = refl })
       | inr none ↦ subst (ComesOfCore told faults manner job disk core) (sym none) (run.first, run.right)
     ]
 
@@ -59,13 +61,13 @@ is_failed _ = ⊥
 
 -- a run that was settled, by whether the volume failed
 pub settled : {D : Type 0} (told : D → Option Image) (faults : D → ℕ) (manner : Manner) (job : Job) (disk : D) (core : CoreState V7 D) (outcome : Outcome)
-    → IsRun told faults (asked_for manner job) job disk core → KeepsOrderIfAlone manner job core → (IsDone job core ⊎ IsGivenUp job core) × LeavesImage told job disk core
+    → IsRun told faults (asked_for manner job) job disk core → KeepsOrderIfAlone manner job core → (core.stage ≡ stage.Running → ClosesIfAlone manner job core) → (IsDone job core ⊎ IsGivenUp job core) × LeavesImage told job disk core
     → (core.stage ≡ stage.Failed → SaysText GivenUp (told_text manner failed_text job core) outcome)
     → (core.stage ≢ stage.Failed → SaysText Ran (told_text manner end_text job core) outcome)
     → ComesOfCore told faults manner job disk core outcome
-settled told faults manner job disk core outcome run order ends failed runs =
+settled told faults manner job disk core outcome run order closes ends failed runs =
     elim ends.0 [
-      | inl is ↦ comes_done told faults manner job disk core outcome run order is ends.1 (runs (λ wrong. subst is_failed (sym wrong ∙ is.runs) tt))
+      | inl is ↦ comes_done told faults manner job disk core outcome run order (closes is.runs) is ends.1 (runs (λ wrong. subst is_failed (sym wrong ∙ is.runs) tt))
       | inr is ↦ comes_given_up told faults manner job disk core outcome run order is ends.1 (failed is.failed)
     ]
 
@@ -137,6 +139,17 @@ order_stays manners.Threads job driven ended keeps order = tt
 order_stays manners.Alone job driven ended keeps order = kept_stays job driven ended keeps order
 order_stays manners.Soak job driven ended keeps order = kept_stays job driven ended keeps order
 
+-- the checkpoint that ends a run comes beside those
+beside_end : (order : Option (List ℕ)) (records now : List FaultRecord) (before after : List Step) → now ≡ records → count_by is_seal before < count_by is_seal after → SealsAsOrdered order records before → SealsBesideEnd order now after
+beside_end None records now before after same more asked = tt
+beside_end (Some order) records now before after same more asked = λ none. (let few = asked (sym same ∙ none) in omega (arith, few, more))
+
+closes_beside : {D : Type 0} (manner : Manner) (job : Job) (driven ended : CoreState V7 D) → KeepsHistory (sight_of driven) (sight_of ended) → IsSettled (sight_of driven) (sight_of ended) → KeepsOrderIfAlone manner job driven
+    → ended.stage ≡ stage.Running → ClosesIfAlone manner job ended
+closes_beside manners.Threads job driven ended keeps is order runs = tt
+closes_beside manners.Alone job driven ended keeps is order runs = beside_end job.order driven.journal.records ended.journal.records driven.journal.trail ended.journal.trail keeps.records (is.closes runs) order.asked
+closes_beside manners.Soak job driven ended keeps is order runs = beside_end job.order driven.journal.records ended.journal.records driven.journal.trail ended.journal.trail keeps.records (is.closes runs) order.asked
+
 module _ {D : Type 0} (told : D → Option Image) (faults : D → ℕ) (manner : Manner) (job : Job) (disk : D) (fs : V7) (driven ended : CoreState V7 D)
     (drives : IsDrivenFor told faults manner fs job disk driven) (ended_on : origin_of ended ≡ origin_of driven)
     (keeps : KeepsHistory (sight_of driven) (sight_of ended)) (at_end : SealsAtEnd (sight_of driven) (sight_of ended)) (right : Right told faults ended) (orderly : IsOrderlyInSight (sight_of ended)) where
@@ -160,7 +173,8 @@ module _ {D : Type 0} (told : D → Option Image) (faults : D → ℕ) (manner :
       → (ended.stage ≢ stage.Failed → SaysText Ran (told_text manner end_text job ended) outcome)
       → ComesOfCore told faults manner job disk ended outcome
   comes_settled outcome runs ends fit is failed done =
-      settled told faults manner job disk ended outcome (runs fs (asked_for manner job) job disk drives.begun driven ended fit path) order (ends fs (asked_for manner job) job disk drives.begun driven ended path is) failed done
+      settled told faults manner job disk ended outcome (runs fs (asked_for manner job) job disk drives.begun driven ended fit path) order
+      (closes_beside manner job driven ended keeps is drives.order) (ends fs (asked_for manner job) job disk drives.begun driven ended path is) failed done
 
   -- the count of faults did not fall before the end
   before : Right told faults driven → faults disk ≤ faults driven.cache.disk

@@ -16,7 +16,7 @@ use Rattle.mb_core_events.specs.Beginning.{TellsVolume}
 use Rattle.mb_core_spec.specs.State.{CoreState}
 use Rattle.mb_fsops.specs.declared.v7.V7.{V7}
 use Rattle.mb_gen.specs.Generator.{generated}
-use Rattle.mb_headline.specs.Headline.{FewerDevices, IsDone, IsGivenUp, IsRun, KeepsOrder, LeavesImage}
+use Rattle.mb_headline.specs.Headline.{FewerDevices, IsDone, IsGivenUp, IsRun, KeepsOrder, LeavesImage, SealsBesideEnd}
 use Rattle.mb_headline.specs.Laws.{IsBegunFor}
 use Rattle.mb_jobs.specs.Job.{job_in}
 use Rattle.mb_jobs.specs.declared.jobs.Job.{Job}
@@ -91,6 +91,12 @@ KeepsOrderIfAlone manners.Alone job core = KeepsOrder job core.journal.history c
 KeepsOrderIfAlone manners.Threads job core = Unit {0}
 KeepsOrderIfAlone manners.Soak job core = KeepsOrder job core.journal.history core.journal.records core.journal.trail
 
+-- and where it ran it to its end, the checkpoint that ends the run is none of those that an order asks for
+abbrev pub ClosesIfAlone : {D : Type 0} → Manner → Job → CoreState V7 D → Type 0
+ClosesIfAlone manners.Alone job core = SealsBesideEnd job.order core.journal.records core.journal.trail
+ClosesIfAlone manners.Threads job core = Unit {0}
+ClosesIfAlone manners.Soak job core = SealsBesideEnd job.order core.journal.records core.journal.trail
+
 -- how many checkpoints a job asks for: as many as its order does, where one thread runs it, and none without an order or with threads
 abbrev pub asked_for : Manner → Job → ℕ
 asked_for manners.Alone job = asked_by job.order
@@ -101,6 +107,7 @@ asked_for manners.Soak job = asked_by job.order
 pub record IsRunToEnd {D : Type 0} (told : D → Option Image) (faults : D → ℕ) (manner : Manner) (job : Job) (disk : D) (text : List ℕ) (core : CoreState V7 D) : Type 0 where
   pub run : IsRun told faults (asked_for manner job) job disk core
   pub order : KeepsOrderIfAlone manner job core
+  pub closes : ClosesIfAlone manner job core
   pub done : IsDone job core
   pub left : LeavesImage told job disk core
   pub printed : text ≡ told_text manner end_text job core

@@ -6,7 +6,7 @@ use Rattle.mb_core_spec.specs.declared.stages.Stage.TheVariants as stage
 use Rattle.mb_edge.specs.declared.crossings.Crossing.{Crossing}
 use Rattle.mb_edge.specs.declared.crossings.Crossings.{Crossings}
 use Rattle.mb_run.specs.Events.{sealed}
-use Rattle.mb_run.specs.Orders.{IsSealedNow}
+use Rattle.mb_run.specs.Orders.{IsSealedNow, seals_in}
 use Rattle.mb_run.specs.Recovering.{GoOn, Steps, StrikesBy}
 use Rattle.mb_run.specs.Settling.{IsCutShort, IsFlushed, IsSettled, KeepsHistory}
 use Rattle.mb_run.specs.Sights.{IsOrderlyInSight, Sight, recovers}
@@ -15,6 +15,7 @@ use Rattle.mb_run.specs.declared.settles.SettleEnd.{SettleEnd}
 use Rattle.mb_run.specs.declared.settles.SettleEnd.TheVariants as end
 use Rattle.mb_run.proofs.Quiet.{quiet_alone}
 use Rattle.mb_run.proofs.Stales.{put_beyond}
+use Rattle.mb_run.proofs.Taking.{seals_more, takes_one}
 use Rattle.mb_run.proofs.Timely.{alone_told, timely_alone, timely_seal}
 use Rattle.mb_run.proofs.Trails.{trail_put, trail_same, trail_then}
 
@@ -96,6 +97,10 @@ settled first a b d came kept over right seal flush clean = record {
   sealed_at = λ runs. elim seal [
     | inl taken ↦ (ap (λ (s : Sight). s.sealed_at) flush.rest ∙ ap (λ (s : Sight). s.sealed_at) taken.1
         ∙ ap length (sym (ap (λ (s : Sight). s.history) flush.rest ∙ ap (λ (s : Sight). s.history) taken.1)))
+    | inr none ↦ absurd (none.0 (sym (ap (λ (s : Sight). s.stage) flush.rest ∙ ap (λ (s : Sight). s.stage) none.1) ∙ runs))
+  ];
+  closes = λ runs. elim seal [
+    | inl taken ↦ (let low = seals_more first.trail a.trail kept.trail in let one = takes_one 1 a b refl (inl taken) taken.0 in let same = ap (λ (s : Sight). seals_in s) flush.rest in omega (arith, low, one, same))
     | inr none ↦ absurd (none.0 (sym (ap (λ (s : Sight). s.stage) flush.rest ∙ ap (λ (s : Sight). s.stage) none.1) ∙ runs))
   ];
 }

@@ -1,5 +1,6 @@
 -- What the end of a run leaves.
 use Rattle.std.specs.Prelude.{ℕ, ◌<◌, ◌≤◌, ◌≡◌, ◌≢◌, ◌⊎◌, true, false, length, Option, None, Some}
+use Rattle.mb_run.specs.Orders.{seals_in}
 use Rattle.mb_run.specs.Seals.{AreAskedFor, TrailGoesOn}
 use Rattle.mb_core_spec.specs.declared.stages.Stage.TheVariants as stage
 use Rattle.mb_run.specs.Sights.{Sight, omitted_in, recovers, undue_in}
@@ -31,13 +32,14 @@ pub record IsFlushed (old new : Sight) (came : SettleEnd) : Type 0 where
   pub all : came ≡ end.Clean → new.sealed ≡ 0
   pub some : came ≡ end.Device → new.sealed ≢ 0
 
--- no recovery is in progress, and no page waits; a running volume has a checkpoint of all entries
+-- no recovery is in progress, and no page waits; a running volume has a checkpoint of all entries, which was taken there
 pub record IsSettled (old new : Sight) : Type 0 where
   pub keeps : KeepsHistory old new
   pub over : recovers new.stage ≡ false
   pub current : new.current ≡ 0
   pub sealed : new.sealed ≡ 0
   pub sealed_at : new.stage ≡ stage.Running → new.sealed_at ≡ length new.history
+  pub closes : new.stage ≡ stage.Running → seals_in old < seals_in new
 
 -- no recovery is in progress, and pages wait to be written back; a running volume has a checkpoint of all entries
 pub record HasPagesLeft (now : Sight) : Type 0 where
