@@ -37,21 +37,21 @@ IsLeftOver status = (status ≡ 0) ⊎ (status ≡ 4) ⊎ (status ≡ 6) ⊎ (st
 told_is : {told : Option Image} {image : Image} (Fact : Image → Type 0) → told ≡ Some image → IfSome told Fact → Fact image
 told_is Fact is fact = subst (λ (t : Option Image). IfSome t Fact) is fact
 
-left_over : {D : Type 0} (told : D → Option Image) (faults : D → ℕ) (manner : Manner) (bytes : List ℕ) (disk : D) (image : Image) (tree : Tree) (job : Job) (held : Held D) (outcome : Outcome)
-    → ComesOfRunWords told faults manner (Some bytes) disk held outcome → job_in (take 4194305 bytes) ≡ Ok job → told disk ≡ Some image → IsVolume image tree → IsLeftOver (status_of outcome)
-left_over told faults manner bytes disk image tree job held WordsRefused is good tells volume = absurd is
-left_over told faults manner bytes disk image tree job held (Made line) is good tells volume = absurd is
-left_over told faults manner bytes disk image tree job held (Checked line) is good tells volume = absurd is
-left_over told faults manner bytes disk image tree job held InputFault is good tells volume = inr (inr (inr (inr refl)))
-left_over told faults manner bytes disk image tree job held (JobRefused line) is good tells volume =
+left_over : {D : Type 0} (told : D → Option Image) (faults : D → ℕ) (manner : Manner) (bytes : List ℕ) (now : Option (List ℕ)) (disk : D) (image : Image) (tree : Tree) (job : Job) (held : Held D) (outcome : Outcome)
+    → ComesOfRunWords told faults manner (Some bytes) now disk held outcome → job_in (take 4194305 bytes) ≡ Ok job → told disk ≡ Some image → IsVolume image tree → IsLeftOver (status_of outcome)
+left_over told faults manner bytes now disk image tree job held WordsRefused is good tells volume = absurd is
+left_over told faults manner bytes now disk image tree job held (Made line) is good tells volume = absurd is
+left_over told faults manner bytes now disk image tree job held (Checked line) is good tells volume = absurd is
+left_over told faults manner bytes now disk image tree job held InputFault is good tells volume = inr (inr (inr (inr refl)))
+left_over told faults manner bytes now disk image tree job held (JobRefused line) is good tells volume =
     absurd (subst (λ (found : Result Job JobFault). SaysWhy found line) good (subst (λ (b : List ℕ). SaysWhy (job_in b) line) is.1.first is.1.fact))
-left_over told faults manner bytes disk image tree job held (Unsound line) is good tells volume =
+left_over told faults manner bytes now disk image tree job held (Unsound line) is good tells volume =
     absurd ((told_is (λ image. IsUnsound image is.fact.over.1.block is.fact.over.1.rule) tells is.fact.over.1.unsound).no_volume tree volume)
-left_over told faults manner bytes disk image tree job held DiskFault is good tells volume = inr (inr (inr (inl refl)))
-left_over told faults manner bytes disk image tree job held OutOfMemory is good tells volume = inr (inr (inl refl))
-left_over told faults manner bytes disk image tree job held (Unsettled text) is good tells volume = inr (inr (inr (inl refl)))
-left_over told faults manner bytes disk image tree job held (GivenUp text) is good tells volume = inr (inl refl)
-left_over told faults manner bytes disk image tree job held (Ran text) is good tells volume = inl refl
+left_over told faults manner bytes now disk image tree job held DiskFault is good tells volume = inr (inr (inr (inl refl)))
+left_over told faults manner bytes now disk image tree job held OutOfMemory is good tells volume = inr (inr (inl refl))
+left_over told faults manner bytes now disk image tree job held (Unsettled text) is good tells volume = inr (inr (inr (inl refl)))
+left_over told faults manner bytes now disk image tree job held (GivenUp text) is good tells volume = inr (inl refl)
+left_over told faults manner bytes now disk image tree job held (Ran text) is good tells volume = inl refl
 
 settle : (status left : ℕ) → (status ≡ left) ⊎ (status ≡ 7) → IsLeftOver left → status ≢ 5 → status ≢ 7 → status ≢ 8 → (status ≡ 0) ⊎ (status ≡ 4) ⊎ (status ≡ 6)
 settle status left ended is no_disk no_output no_input =
@@ -80,9 +80,9 @@ ended_at ended =
     ]
 
 pub runs_complete : {D : Type 0} (told : D → Option Image) (faults : D → ℕ) → RunsComplete told faults
-runs_complete told faults words bytes disk job held old new status ended smooth =
-    settle status (status_of ended.outcome) (ended_at ended.printed.ended) (left_over told faults (manner_of smooth.threads) bytes disk smooth.image smooth.tree job held ended.outcome
-    (subst (λ (c : Option Command). ComesOfCommand told faults c (Some bytes) disk held ended.outcome) smooth.command ended.is) smooth.read smooth.tells smooth.volume)
+runs_complete told faults words bytes disk job held now old new status ended smooth =
+    settle status (status_of ended.outcome) (ended_at ended.printed.ended) (left_over told faults (manner_of smooth.threads) bytes now disk smooth.image smooth.tree job held ended.outcome
+    (subst (λ (c : Option Command). ComesOfCommand told faults c (Some bytes) now disk held ended.outcome) smooth.command ended.is) smooth.read smooth.tells smooth.volume)
     smooth.disk_works smooth.output_works smooth.input_works
 
 -- a volume that was given up recorded more faults than the plan has times
@@ -100,27 +100,27 @@ same_ok one other same = cc
 same_job : (bytes read : List ℕ) (one other : Job) → read ≡ take 4194305 bytes → job_in read ≡ Ok one → job_in (take 4194305 bytes) ≡ Ok other → one ≡ other
 same_job bytes read one other first gives good = same_ok one other (sym gives ∙ ap job_in first ∙ good)
 
-no_failure : {D : Type 0} (told : D → Option Image) (faults : D → ℕ) (manner : Manner) (bytes : List ℕ) (disk : D) (job : Job) (given : Held D) (text : List ℕ) → FiresAtMost
-    → ComesOfRunWords told faults manner (Some bytes) disk given (GivenUp text) → job_in (take 4194305 bytes) ≡ Ok job → sum_by (λ (rule : Rule). rule.times) job.plan ≤ job.limit → ⊥
-no_failure told faults manner bytes disk job given text law is good survives =
+no_failure : {D : Type 0} (told : D → Option Image) (faults : D → ℕ) (manner : Manner) (bytes : List ℕ) (now : Option (List ℕ)) (disk : D) (job : Job) (given : Held D) (text : List ℕ) → FiresAtMost
+    → ComesOfRunWords told faults manner (Some bytes) now disk given (GivenUp text) → job_in (take 4194305 bytes) ≡ Ok job → sum_by (λ (rule : Rule). rule.times) job.plan ≤ job.limit → ⊥
+no_failure told faults manner bytes now disk job given text law is good survives =
     let over = given_up_over told faults manner is.fact.job disk text given law is.fact.over.1 in
     let same = same_job bytes is.bytes is.fact.job job is.first is.fact.read good in
     let short = subst (λ (j : Job). j.limit + 1 ≤ sum_by (λ (rule : Rule). rule.times) j.plan) same over in
     omega (arith, short, survives)
 
-no_four : {D : Type 0} (told : D → Option Image) (faults : D → ℕ) (manner : Manner) (bytes : List ℕ) (disk : D) (job : Job) (given : Held D) (outcome : Outcome) → FiresAtMost
-    → ComesOfRunWords told faults manner (Some bytes) disk given outcome → job_in (take 4194305 bytes) ≡ Ok job → sum_by (λ (rule : Rule). rule.times) job.plan ≤ job.limit → status_of outcome ≢ 4
-no_four told faults manner bytes disk job given (GivenUp text) law is good survives = λ four. no_failure told faults manner bytes disk job given text law is good survives
-no_four told faults manner bytes disk job given WordsRefused law is good survives = λ four. omega (arith, four)
-no_four told faults manner bytes disk job given InputFault law is good survives = λ four. omega (arith, four)
-no_four told faults manner bytes disk job given (JobRefused line) law is good survives = λ four. omega (arith, four)
-no_four told faults manner bytes disk job given DiskFault law is good survives = λ four. omega (arith, four)
-no_four told faults manner bytes disk job given OutOfMemory law is good survives = λ four. omega (arith, four)
-no_four told faults manner bytes disk job given (Made line) law is good survives = λ four. omega (arith, four)
-no_four told faults manner bytes disk job given (Checked line) law is good survives = λ four. omega (arith, four)
-no_four told faults manner bytes disk job given (Unsound line) law is good survives = λ four. omega (arith, four)
-no_four told faults manner bytes disk job given (Unsettled text) law is good survives = λ four. omega (arith, four)
-no_four told faults manner bytes disk job given (Ran text) law is good survives = λ four. omega (arith, four)
+no_four : {D : Type 0} (told : D → Option Image) (faults : D → ℕ) (manner : Manner) (bytes : List ℕ) (now : Option (List ℕ)) (disk : D) (job : Job) (given : Held D) (outcome : Outcome) → FiresAtMost
+    → ComesOfRunWords told faults manner (Some bytes) now disk given outcome → job_in (take 4194305 bytes) ≡ Ok job → sum_by (λ (rule : Rule). rule.times) job.plan ≤ job.limit → status_of outcome ≢ 4
+no_four told faults manner bytes now disk job given (GivenUp text) law is good survives = λ four. no_failure told faults manner bytes now disk job given text law is good survives
+no_four told faults manner bytes now disk job given WordsRefused law is good survives = λ four. omega (arith, four)
+no_four told faults manner bytes now disk job given InputFault law is good survives = λ four. omega (arith, four)
+no_four told faults manner bytes now disk job given (JobRefused line) law is good survives = λ four. omega (arith, four)
+no_four told faults manner bytes now disk job given DiskFault law is good survives = λ four. omega (arith, four)
+no_four told faults manner bytes now disk job given OutOfMemory law is good survives = λ four. omega (arith, four)
+no_four told faults manner bytes now disk job given (Made line) law is good survives = λ four. omega (arith, four)
+no_four told faults manner bytes now disk job given (Checked line) law is good survives = λ four. omega (arith, four)
+no_four told faults manner bytes now disk job given (Unsound line) law is good survives = λ four. omega (arith, four)
+no_four told faults manner bytes now disk job given (Unsettled text) law is good survives = λ four. omega (arith, four)
+no_four told faults manner bytes now disk job given (Ran text) law is good survives = λ four. omega (arith, four)
 
 -- a status that is neither the output's fault nor 4 for a reason
 not_four : (status left : ℕ) → (status ≡ left) ⊎ (status ≡ 7) → left ≢ 4 → status ≢ 7 → (status ≡ 0) ⊎ (status ≡ 4) ⊎ (status ≡ 6) → (status ≡ 0) ⊎ (status ≡ 6)
@@ -137,11 +137,11 @@ not_four status left ended no_failure no_output ends =
     ]
 
 pub survivors_complete : {D : Type 0} (told : D → Option Image) (faults : D → ℕ) → FiresAtMost → SurvivorsComplete told faults
-survivors_complete told faults law words bytes disk job given old new status ended smooth survives =
+survivors_complete told faults law words bytes disk job given now old new status ended smooth survives =
     not_four status (status_of ended.outcome) (ended_at ended.printed.ended)
-    (no_four told faults (manner_of smooth.threads) bytes disk job given ended.outcome law
-    (subst (λ (c : Option Command). ComesOfCommand told faults c (Some bytes) disk given ended.outcome) smooth.command ended.is) smooth.read survives)
-    smooth.output_works (runs_complete told faults words bytes disk job given old new status ended smooth)
+    (no_four told faults (manner_of smooth.threads) bytes now disk job given ended.outcome law
+    (subst (λ (c : Option Command). ComesOfCommand told faults c (Some bytes) now disk given ended.outcome) smooth.command ended.is) smooth.read survives)
+    smooth.output_works (runs_complete told faults words bytes disk job given now old new status ended smooth)
 
 -- ---- mkfs
 
@@ -171,9 +171,9 @@ settle_disk status left ended is no_disk no_output =
     ]
 
 pub makes_complete : {D : Type 0} (told : D → Option Image) (faults : D → ℕ) → MakesComplete told faults
-makes_complete told faults words left disk held old new status blocks inodes ended command sizes no_disk no_output =
+makes_complete told faults words left now disk held old new status blocks inodes ended command sizes no_disk no_output =
     settle_disk status (status_of ended.outcome) (ended_at ended.printed.ended) (left_of_mkfs told faults disk blocks inodes held ended.outcome
-    (subst (λ (c : Option Command). ComesOfCommand told faults c left disk held ended.outcome) command ended.is) sizes) no_disk no_output
+    (subst (λ (c : Option Command). ComesOfCommand told faults c left now disk held ended.outcome) command ended.is) sizes) no_disk no_output
 
 -- ---- check
 
@@ -187,9 +187,9 @@ left_of_check told faults disk image tree held DiskFault is tells volume = inr (
 left_of_check told faults disk image tree held _ is tells volume = absurd is
 
 pub check_completes : {D : Type 0} (told : D → Option Image) (faults : D → ℕ) → CheckCompletes told faults
-check_completes told faults words left disk image tree held old new status ended command tells volume no_disk no_output =
+check_completes told faults words left now disk image tree held old new status ended command tells volume no_disk no_output =
     settle_disk status (status_of ended.outcome) (ended_at ended.printed.ended) (left_of_check told faults disk image tree held ended.outcome
-    (subst (λ (c : Option Command). ComesOfCommand told faults c left disk held ended.outcome) command ended.is) tells volume) no_disk no_output
+    (subst (λ (c : Option Command). ComesOfCommand told faults c left now disk held ended.outcome) command ended.is) tells volume) no_disk no_output
 
 -- ---- soak
 
@@ -222,7 +222,7 @@ left_of_soak told faults disk image tree number calls faulty held (Made line) la
 left_of_soak told faults disk image tree number calls faulty held (Checked line) law fits many few is tells volume = absurd (nobody held is.1)
 
 pub soaks_complete : {D : Type 0} (told : D → Option Image) (faults : D → ℕ) → FiresAtMost → GeneratedAreFit → SoaksComplete told faults
-soaks_complete told faults law fits words left disk image tree held old new status number calls faulty ended command tells volume no_disk no_output =
+soaks_complete told faults law fits words left now disk image tree held old new status number calls faulty ended command tells volume no_disk no_output =
     let range = subst IsInRange command (command_range words) in
     settle_disk status (status_of ended.outcome) (ended_at ended.printed.ended) (left_of_soak told faults disk image tree number calls faulty held ended.outcome law fits range.1 range.2
-    (subst (λ (c : Option Command). ComesOfCommand told faults c left disk held ended.outcome) command ended.is) tells volume) no_disk no_output
+    (subst (λ (c : Option Command). ComesOfCommand told faults c left now disk held ended.outcome) command ended.is) tells volume) no_disk no_output

@@ -242,8 +242,8 @@ pub no_input : {D : Type 0} (told : D → Option Image) (faults : D → ℕ) (ma
     → ComesOfJob told faults manner job disk given outcome → outcome ≢ InputFault
 no_input told faults manner job disk given outcome is same = nobody given (subst (ComesOfJob told faults manner job disk given) same is).1
 
-pub fault_of_words : {D : Type 0} (told : D → Option Image) (faults : D → ℕ) (manner : Manner) (left : Option (List ℕ)) (disk : D) (given : Held D) (outcome : Outcome)
-    → ComesOfRunWords told faults manner left disk given outcome → IsDiskFailure outcome → Rose (faults disk) (faults (held_disk given))
-fault_of_words told faults manner left disk given DiskFault is failed = is.fact.over.1
-fault_of_words told faults manner left disk given (Unsettled text) is failed = fault_held told faults manner is.fact.job disk given text is.fact.over.1
-fault_of_words told faults manner left disk given _ is failed = absurd failed
+pub fault_of_words : {D : Type 0} (told : D → Option Image) (faults : D → ℕ) (manner : Manner) (left now : Option (List ℕ)) (disk : D) (given : Held D) (outcome : Outcome)
+    → ComesOfRunWords told faults manner left now disk given outcome → IsDiskFailure outcome → Rose (faults disk) (faults (held_disk given))
+fault_of_words told faults manner left now disk given DiskFault is failed = is.fact.over.1
+fault_of_words told faults manner left now disk given (Unsettled text) is failed = fault_held told faults manner is.fact.job disk given text is.fact.over.1
+fault_of_words told faults manner left now disk given _ is failed = absurd failed

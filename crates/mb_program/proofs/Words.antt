@@ -14,19 +14,19 @@ use Rattle.mb_program.specs.declared.manners.Manner.TheVariants as manners
 use Rattle.mb_program.specs.declared.outcomes.Outcome.{Outcome}
 use Rattle.mb_program.specs.declared.outcomes.Outcome.TheVariants.{WordsRefused, InputFault, JobRefused, DiskFault, OutOfMemory, Made, Checked, Unsound, Unsettled, GivenUp, Ran}
 
-pub of_job : {D : Type 0} (told : D → Option Image) (faults : D → ℕ) (manner : Manner) (left : Option (List ℕ)) (disk : D) (given : Held D) (outcome : Outcome)
-    → OfBytes left (λ bytes. IsJobRun told faults manner bytes disk given outcome) → ComesOfRunWords told faults manner left disk given outcome
-of_job told faults manner left disk given WordsRefused is = absurd (nobody given is.fact.over.1)
-of_job told faults manner left disk given InputFault is = absurd (nobody given is.fact.over.1)
-of_job told faults manner left disk given (JobRefused line) is = absurd (nobody given is.fact.over.1)
-of_job told faults manner left disk given DiskFault is = is
-of_job told faults manner left disk given OutOfMemory is = is.fact.over
-of_job told faults manner left disk given (Made line) is = absurd (nobody given is.fact.over.1)
-of_job told faults manner left disk given (Checked line) is = absurd (nobody given is.fact.over.1)
-of_job told faults manner left disk given (Unsound line) is = is
-of_job told faults manner left disk given (Unsettled text) is = is
-of_job told faults manner left disk given (GivenUp text) is = is
-of_job told faults manner left disk given (Ran text) is = is
+pub of_job : {D : Type 0} (told : D → Option Image) (faults : D → ℕ) (manner : Manner) (left now : Option (List ℕ)) (disk : D) (given : Held D) (outcome : Outcome)
+    → OfBytes left now (λ bytes. IsJobRun told faults manner bytes disk given outcome) → ComesOfRunWords told faults manner left now disk given outcome
+of_job told faults manner left now disk given WordsRefused is = absurd (nobody given is.fact.over.1)
+of_job told faults manner left now disk given InputFault is = absurd (nobody given is.fact.over.1)
+of_job told faults manner left now disk given (JobRefused line) is = absurd (nobody given is.fact.over.1)
+of_job told faults manner left now disk given DiskFault is = is
+of_job told faults manner left now disk given OutOfMemory is = is.fact.over
+of_job told faults manner left now disk given (Made line) is = absurd (nobody given is.fact.over.1)
+of_job told faults manner left now disk given (Checked line) is = absurd (nobody given is.fact.over.1)
+of_job told faults manner left now disk given (Unsound line) is = is
+of_job told faults manner left now disk given (Unsettled text) is = is
+of_job told faults manner left now disk given (GivenUp text) is = is
+of_job told faults manner left now disk given (Ran text) is = is
 
 no_threads : false ≡ true → ⊥
 no_threads asked = cc
@@ -40,14 +40,14 @@ threads_read (Some (Run threads)) asked unread = no_threads (sym unread)
 threads_read (Some (Soak number calls faulty)) asked unread = no_threads asked
 
 -- words that ask for threads are a `run`
-pub of_threads : {D : Type 0} (told : D → Option Image) (faults : D → ℕ) (command : Option Command) (left : Option (List ℕ)) (disk : D) (given : Held D) (outcome : Outcome)
-    → is_threaded command ≡ true → ComesOfRunWords told faults manners.Threads left disk given outcome → ComesOfCommand told faults command left disk given outcome
-of_threads told faults None left disk given outcome asked is = absurd (no_threads asked)
-of_threads told faults (Some (Mkfs blocks inodes)) left disk given outcome asked is = absurd (no_threads asked)
-of_threads told faults (Some Check) left disk given outcome asked is = absurd (no_threads asked)
-of_threads told faults (Some (Run true)) left disk given outcome asked is = is
-of_threads told faults (Some (Run false)) left disk given outcome asked is = absurd (no_threads asked)
-of_threads told faults (Some (Soak number calls faulty)) left disk given outcome asked is = absurd (no_threads asked)
+pub of_threads : {D : Type 0} (told : D → Option Image) (faults : D → ℕ) (command : Option Command) (left now : Option (List ℕ)) (disk : D) (given : Held D) (outcome : Outcome)
+    → is_threaded command ≡ true → ComesOfRunWords told faults manners.Threads left now disk given outcome → ComesOfCommand told faults command left now disk given outcome
+of_threads told faults None left now disk given outcome asked is = absurd (no_threads asked)
+of_threads told faults (Some (Mkfs blocks inodes)) left now disk given outcome asked is = absurd (no_threads asked)
+of_threads told faults (Some Check) left now disk given outcome asked is = absurd (no_threads asked)
+of_threads told faults (Some (Run true)) left now disk given outcome asked is = is
+of_threads told faults (Some (Run false)) left now disk given outcome asked is = absurd (no_threads asked)
+of_threads told faults (Some (Soak number calls faulty)) left now disk given outcome asked is = absurd (no_threads asked)
 
 -- ---- soaks
 

@@ -1,6 +1,6 @@
 -- How the program ends: the order of the causes, and for each of them its status and its text.
 use Rattle.std.specs.Prelude.{List, ◌++◌, ℕ, ◌≡◌, ◌≢◌, ◌≤◌, ◌⊎◌, codes, Bool, true, false, length, Option, Some, None, Result, Ok, Err, IfSome}
-use Rattle.std.specs.Io.KnownBytes.{Appends}
+use Rattle.std.specs.Io.KnownBytes.{Appends, Consumes}
 use Rattle.mb_edge.specs.Causes.{Rose}
 use Rattle.mb_edge.specs.Transfers.{AreFirst, TakesFront}
 use Rattle.mb_check.specs.Whole.{IsSoundAs, IsUnsound}
@@ -182,10 +182,11 @@ SaysText made text outcome = (outcome ≡ made text) ⊎ (outcome ≡ OutOfMemor
 
 -- ---- the job
 
--- some bytes, which are the first 4,194,305 of the source where it tells them, or all
-pub record OfBytes (left : Option (List ℕ)) (Fact : List ℕ → Type 0) : Type 0 where
+-- some bytes, which are the first 4,194,305 of the source where it tells them, or all; what stands behind them is left now
+pub record OfBytes (left now : Option (List ℕ)) (Fact : List ℕ → Type 0) : Type 0 where
   pub bytes : List ℕ
   pub first : AreFirst left 4194305 bytes
+  pub rest : Consumes left now bytes
   pub few : length bytes ≤ 4194305
   pub fact : Fact bytes
 
@@ -201,11 +202,11 @@ IsRefusal found OutOfMemory = Unit {0}
 IsRefusal found _ = ⊥
 
 -- why no job is run
-abbrev pub IsJobRefused : Option (List ℕ) → Outcome → Type 0
-IsJobRefused left InputFault = Unit {0}
-IsJobRefused left OutOfMemory = Unit {0}
-IsJobRefused left (JobRefused line) = OfBytes left (λ bytes. SaysWhy (job_in bytes) line)
-IsJobRefused left _ = ⊥
+abbrev pub IsJobRefused : Option (List ℕ) → Option (List ℕ) → Outcome → Type 0
+IsJobRefused left now InputFault = Unit {0}
+IsJobRefused left now OutOfMemory = Unit {0}
+IsJobRefused left now (JobRefused line) = OfBytes left now (λ bytes. SaysWhy (job_in bytes) line)
+IsJobRefused left now _ = ⊥
 
 -- the job of some bytes, and what came of it
 pub record IsJobRun {D : Type 0} (told : D → Option Image) (faults : D → ℕ) (manner : Manner) (bytes : List ℕ) (disk : D) (held : Held D) (outcome : Outcome) : Type 0 where
@@ -213,15 +214,16 @@ pub record IsJobRun {D : Type 0} (told : D → Option Image) (faults : D → ℕ
   pub read : job_in bytes ≡ Ok job
   pub over : ComesOfJob told faults manner job disk held outcome
 
--- what comes of a `run`, by the causes in their order: the input, the job, and then what comes of it
-abbrev pub ComesOfRunWords : {D : Type 0} → (D → Option Image) → (D → ℕ) → Manner → Option (List ℕ) → D → Held D → Outcome → Type 0
-ComesOfRunWords told faults manner left disk held WordsRefused = ⊥
-ComesOfRunWords told faults manner left disk held (Made line) = ⊥
-ComesOfRunWords told faults manner left disk held (Checked line) = ⊥
-ComesOfRunWords told faults manner left disk held InputFault = IsUntouched disk held
-ComesOfRunWords told faults manner left disk held OutOfMemory = KeepsImage told faults disk held
-ComesOfRunWords told faults manner left disk held (JobRefused line) = IsUntouched disk held × OfBytes left (λ bytes. SaysWhy (job_in bytes) line)
-ComesOfRunWords told faults manner left disk held outcome = OfBytes left (λ bytes. IsJobRun told faults manner bytes disk held outcome)
+-- what comes of a `run`, by the causes in their order: the input, the job, and then what comes of it; `left` are
+-- the source's bytes before, and `now` those that it has left
+abbrev pub ComesOfRunWords : {D : Type 0} → (D → Option Image) → (D → ℕ) → Manner → Option (List ℕ) → Option (List ℕ) → D → Held D → Outcome → Type 0
+ComesOfRunWords told faults manner left now disk held WordsRefused = ⊥
+ComesOfRunWords told faults manner left now disk held (Made line) = ⊥
+ComesOfRunWords told faults manner left now disk held (Checked line) = ⊥
+ComesOfRunWords told faults manner left now disk held InputFault = IsUntouched disk held
+ComesOfRunWords told faults manner left now disk held OutOfMemory = KeepsImage told faults disk held
+ComesOfRunWords told faults manner left now disk held (JobRefused line) = IsUntouched disk held × OfBytes left now (λ bytes. SaysWhy (job_in bytes) line)
+ComesOfRunWords told faults manner left now disk held outcome = OfBytes left now (λ bytes. IsJobRun told faults manner bytes disk held outcome)
 
 -- ---- the other commands
 
@@ -276,16 +278,16 @@ manner_of true = manners.Threads
 manner_of false = manners.Alone
 
 -- what comes of a command, or of words that are none; a `soak` runs the job of its numbers
-abbrev pub ComesOfCommand : {D : Type 0} → (D → Option Image) → (D → ℕ) → Option Command → Option (List ℕ) → D → Held D → Outcome → Type 0
-ComesOfCommand told faults None left disk held outcome = (outcome ≡ WordsRefused) × IsUntouched disk held
-ComesOfCommand told faults (Some (Mkfs blocks inodes)) left disk held outcome = ComesOfMkfs told faults disk blocks inodes held outcome
-ComesOfCommand told faults (Some Check) left disk held outcome = ComesOfCheck told faults disk held outcome
-ComesOfCommand told faults (Some (Run threads)) left disk held outcome = ComesOfRunWords told faults (manner_of threads) left disk held outcome
-ComesOfCommand told faults (Some (Soak number calls faulty)) left disk held outcome = ComesOfJob told faults manners.Soak (generated number calls faulty) disk held outcome
+abbrev pub ComesOfCommand : {D : Type 0} → (D → Option Image) → (D → ℕ) → Option Command → Option (List ℕ) → Option (List ℕ) → D → Held D → Outcome → Type 0
+ComesOfCommand told faults None left now disk held outcome = (outcome ≡ WordsRefused) × IsUntouched disk held
+ComesOfCommand told faults (Some (Mkfs blocks inodes)) left now disk held outcome = ComesOfMkfs told faults disk blocks inodes held outcome
+ComesOfCommand told faults (Some Check) left now disk held outcome = ComesOfCheck told faults disk held outcome
+ComesOfCommand told faults (Some (Run threads)) left now disk held outcome = ComesOfRunWords told faults (manner_of threads) left now disk held outcome
+ComesOfCommand told faults (Some (Soak number calls faulty)) left now disk held outcome = ComesOfJob told faults manners.Soak (generated number calls faulty) disk held outcome
 
 -- how the program ends
-abbrev pub IsOutcome : {D : Type 0} → (D → Option Image) → (D → ℕ) → List (List ℕ) → Option (List ℕ) → D → Held D → Outcome → Type 0
-IsOutcome told faults words left disk held outcome = ComesOfCommand told faults (command_of words) left disk held outcome
+abbrev pub IsOutcome : {D : Type 0} → (D → Option Image) → (D → ℕ) → List (List ℕ) → Option (List ℕ) → Option (List ℕ) → D → Held D → Outcome → Type 0
+IsOutcome told faults words left now disk held outcome = ComesOfCommand told faults (command_of words) left now disk held outcome
 
 -- the disk failed, at the opening, in a `mkfs` or a `check`, or in the end of a run
 abbrev pub IsDiskFailure : Outcome → Type 0
@@ -299,8 +301,8 @@ pub record IsPrinted (outcome : Outcome) (old new : Option (List ℕ)) (status :
   pub whole : status ≢ 7 → outcome ≢ OutOfMemory → Appends old new (text_of outcome)
   pub front : TakesFront old new (text_of outcome)
 
--- how the program ended
-pub record HasEnded {D : Type 0} (told : D → Option Image) (faults : D → ℕ) (words : List (List ℕ)) (left : Option (List ℕ)) (disk : D) (held : Held D) (old new : Option (List ℕ)) (status : ℕ) : Type 0 where
+-- how the program ended, by the bytes that the source had left and has now, and those that the sink had taken and has now
+pub record HasEnded {D : Type 0} (told : D → Option Image) (faults : D → ℕ) (words : List (List ℕ)) (left now : Option (List ℕ)) (disk : D) (held : Held D) (old new : Option (List ℕ)) (status : ℕ) : Type 0 where
   pub outcome : Outcome
-  pub is : IsOutcome told faults words left disk held outcome
+  pub is : IsOutcome told faults words left now disk held outcome
   pub printed : IsPrinted outcome old new status

@@ -34,7 +34,8 @@ pub struct Decided<D: Disk> {
 /// Does what the words ask for, up to what is to be printed, with one thread.
 pub fn decide<S: Source, D: Disk>(alloc: Global, words: &Words, job: &mut S, disk: D) -> Decided<D>
     requires { is_threaded (command_of words.now) ≡ false }
-    ensures outcome { IsOutcome D.told D.faults words.now (S.left job.old) disk result.held result.outcome }
+    ensures outcome { IsOutcome D.told D.faults words.now (S.left job.old) (S.left job.new)
+        disk result.held result.outcome }
     ensures unread { reads_job (command_of words.now) ≡ false → job.new ≡ job.old }
     ensures input { result.outcome ≡ Outcome.InputFault → Rose (S.faults job.old) (S.faults job.new) }
     ensures device { IsDiskFailure result.outcome → Rose (D.faults disk) (D.faults (held_disk result.held)) }
@@ -62,7 +63,8 @@ pub fn decide_by_threads<S: Source, D: Disk + Send, R: Threads + Wait + Sync>(
     job: &mut S,
     disk: D,
 ) -> Decided<D>
-    ensures comes { ComesOfRunWords D.told D.faults manners.Threads (S.left job.old) disk result.held result.outcome }
+    ensures comes { ComesOfRunWords D.told D.faults manners.Threads
+        (S.left job.old) (S.left job.new) disk result.held result.outcome }
     ensures input { result.outcome ≡ Outcome.InputFault → Rose (S.faults job.old) (S.faults job.new) }
     ensures device { IsDiskFailure result.outcome → Rose (D.faults disk) (D.faults (held_disk result.held)) }
     ensures later { D.faults disk ≤ D.faults (held_disk result.held) }
@@ -162,7 +164,8 @@ pub fn refused_as(alloc: Global, fault: OpenFault) -> Outcome
 
 // Reads the job and runs it with one thread.
 fn run_job<S: Source, D: Disk>(alloc: Global, job: &mut S, disk: D) -> Decided<D>
-    ensures comes { ComesOfRunWords D.told D.faults manners.Alone (S.left job.old) disk result.held result.outcome }
+    ensures comes { ComesOfRunWords D.told D.faults manners.Alone
+        (S.left job.old) (S.left job.new) disk result.held result.outcome }
     ensures input { result.outcome ≡ Outcome.InputFault → Rose (S.faults job.old) (S.faults job.new) }
     ensures device { IsDiskFailure result.outcome → Rose (D.faults disk) (D.faults (held_disk result.held)) }
     ensures later { D.faults disk ≤ D.faults (held_disk result.held) }
@@ -174,10 +177,11 @@ fn run_job<S: Source, D: Disk>(alloc: Global, job: &mut S, disk: D) -> Decided<D
     }
 }
 
-// The job that the source holds, or why there is none.
+// The job that the source holds, or why there is none. What stands behind the job's bytes stays in the source.
 fn read_job<S: Source>(alloc: Global, source: &mut S) -> Result<Job, Outcome>
-    ensures job { IfOk result (λ job. OfBytes (S.left source.old) (λ bytes. job_in bytes ≡ Ok job)) }
-    ensures refused { IfErr result (IsJobRefused (S.left source.old)) }
+    ensures job { IfOk result (λ job.
+        OfBytes (S.left source.old) (S.left source.new) (λ bytes. job_in bytes ≡ Ok job)) }
+    ensures refused { IfErr result (IsJobRefused (S.left source.old) (S.left source.new)) }
     ensures input { IfErr result (λ outcome. outcome ≡ Outcome.InputFault → Rose (S.faults source.old) (S.faults source.new)) }
 {
     let bytes = match read_whole(alloc, source, 4194305) {

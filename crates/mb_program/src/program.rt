@@ -1,4 +1,5 @@
-ghost use Rattle.std.specs.Prelude.{◌≡◌, ◌≤◌, false};
+ghost use Rattle.std.specs.Prelude.{◌≡◌, ◌≤◌, ◌⊎◌, false};
+ghost use Rattle.std.specs.Io.KnownBytes.{Appends};
 ghost use Rattle.mb_commands.specs.Words.{command_of, is_threaded};
 ghost use Rattle.mb_edge.specs.Causes.{Rose};
 ghost use Rattle.mb_program.specs.Held.{held_disk};
@@ -25,8 +26,8 @@ use std::thread::Threads;
 /// `check`, or in the end of the run; 6 want of memory; 7 the output failed; 8 the input failed. `specs/Outcomes.antt`
 /// says when each comes.
 ///
-/// Only a `run` reads from the source. With `--threads` a caller may wait for another, so the promise is kept if the call
-/// returns. All else is `membrane_alone`, which always returns.
+/// Only a `run` reads from the source, and what stands behind the job's bytes stays there. With `--threads` a caller may
+/// wait for another, so the promise is kept if the call returns. All else is `membrane_alone`, which always returns.
 pub fn membrane<S: Source, D: Disk + Send, K: Sink, R: Threads + Wait + Sync>(
     rt: &R,
     alloc: Global,
@@ -35,11 +36,15 @@ pub fn membrane<S: Source, D: Disk + Send, K: Sink, R: Threads + Wait + Sync>(
     disk: D,
     out: &mut K,
 ) -> Finish<D>
-    ensures ended { HasEnded D.told D.faults words.now (S.left job.old) disk result.held (K.taken out.old) (K.taken out.new) result.status }
+    ensures ended { HasEnded D.told D.faults words.now (S.left job.old) (S.left job.new)
+        disk result.held (K.taken out.old) (K.taken out.new) result.status }
     ensures unread { reads_job (command_of words.now) ≡ false → job.new ≡ job.old }
     ensures input { result.status ≡ 8 → Rose (S.faults job.old) (S.faults job.new) }
     ensures device { result.status ≡ 5 → Rose (D.faults disk) (D.faults (held_disk result.held)) }
     ensures output { result.status ≡ 7 → Rose (K.faults out.old) (K.faults out.new) }
+    ensures memory { result.status ≡ 6
+        → Appends (K.taken out.old) (K.taken out.new) (text_of Outcome.OutOfMemory)
+        ⊎ Rose (K.faults out.old) (K.faults out.new) }
     ensures later { D.faults disk ≤ D.faults (held_disk result.held) }
 {
     if asks_threads(words) {
@@ -59,11 +64,15 @@ pub fn membrane_alone<S: Source, D: Disk, K: Sink>(
     out: &mut K,
 ) -> Finish<D>
     requires { is_threaded (command_of words.now) ≡ false }
-    ensures ended { HasEnded D.told D.faults words.now (S.left job.old) disk result.held (K.taken out.old) (K.taken out.new) result.status }
+    ensures ended { HasEnded D.told D.faults words.now (S.left job.old) (S.left job.new)
+        disk result.held (K.taken out.old) (K.taken out.new) result.status }
     ensures unread { reads_job (command_of words.now) ≡ false → job.new ≡ job.old }
     ensures input { result.status ≡ 8 → Rose (S.faults job.old) (S.faults job.new) }
     ensures device { result.status ≡ 5 → Rose (D.faults disk) (D.faults (held_disk result.held)) }
     ensures output { result.status ≡ 7 → Rose (K.faults out.old) (K.faults out.new) }
+    ensures memory { result.status ≡ 6
+        → Appends (K.taken out.old) (K.taken out.new) (text_of Outcome.OutOfMemory)
+        ⊎ Rose (K.faults out.old) (K.faults out.new) }
     ensures later { D.faults disk ≤ D.faults (held_disk result.held) }
 {
     let Decided { outcome, held } = decide(alloc, words, job, disk);
@@ -75,6 +84,9 @@ pub fn membrane_alone<S: Source, D: Disk, K: Sink>(
 pub fn print<K: Sink>(out: &mut K, outcome: &Outcome) -> u8
     ensures printed { IsPrinted outcome.now (K.taken out.old) (K.taken out.new) result }
     ensures output { result ≡ 7 → Rose (K.faults out.old) (K.faults out.new) }
+    ensures memory { result ≡ 6
+        → Appends (K.taken out.old) (K.taken out.new) (text_of Outcome.OutOfMemory)
+        ⊎ Rose (K.faults out.old) (K.faults out.new) }
 {
     let status = status_of(outcome);
     match write_whole(out, text_of(outcome)) {

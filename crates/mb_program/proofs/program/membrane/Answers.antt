@@ -6,7 +6,7 @@ use Rattle.mb_program.proofs.program.membrane.Goals as goal
 pub returns-then-asks_threads-clause-ended : goal.returns-then-asks_threads-clause-ended
 returns-then-asks_threads-clause-ended g c = record {
   outcome = c.decide_by_threads-outcome.result.outcome;
-  is = of_threads g.D.Disk.told g.D.Disk.faults (command_of c.args.words.now) (g.S.Source.left c.args.job.now) c.args.disk c.decide_by_threads-outcome.result.held c.decide_by_threads-outcome.result.outcome
+  is = of_threads g.D.Disk.told g.D.Disk.faults (command_of c.args.words.now) (g.S.Source.left c.args.job.now) (g.S.Source.left c.decide_by_threads-outcome.new.job) c.args.disk c.decide_by_threads-outcome.result.held c.decide_by_threads-outcome.result.outcome
       (sym c.if-asks_threads.ensures) c.decide_by_threads-outcome.ensures.comes;
   printed = c.print-status.ensures.printed;
 }
