@@ -1,3 +1,4 @@
+pub mod Caching
 pub mod Erasings
 pub mod Freeings
 pub mod Picking

@@ -76,7 +76,7 @@ free_prefix blocks m (suc n) low full = elim (cases_eq m (suc n)) [
       take-append-le 100 (free_below blocks n) (cond (is_free_number blocks n) (n ∷ []) []) (omega (arith, more, full)) ∙ free_prefix blocks m n (omega (arith, low, apart)) full
 ]
 
-all_free : (blocks : ℕ → List ℕ) (n : ℕ) → All (λ k. is_free_number blocks k ≡ true) (free_below blocks n)
+pub all_free : (blocks : ℕ → List ℕ) (n : ℕ) → All (λ k. is_free_number blocks k ≡ true) (free_below blocks n)
 all_free blocks zero = All-nil (λ k. is_free_number blocks k ≡ true)
 all_free blocks (suc n) = All-append (λ k. is_free_number blocks k ≡ true) (free_below blocks n) (cond (is_free_number blocks n) (n ∷ []) []) (all_free blocks n) (one (is_free_number blocks n) refl)
   where

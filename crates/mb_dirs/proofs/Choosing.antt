@@ -1,17 +1,20 @@
 -- Free numbers of a stored tree, and V7's pick of one.
-use Rattle.std.proofs.Common.{ℕ, zero, suc, ◌≡◌, ◌⊎◌, inl, inr, ◌+◌, ◌<◌, ◌≤◌, Bool, true, false, cond, nat_eq, nat_lt, ◌&&◌, List, [], ◌∷◌, length, Option, Some, None, refl, ap, subst, arith, length-take, unwrap_or}
+use Rattle.std.proofs.Common.{ℕ, zero, suc, ◌≡◌, ◌⊎◌, inl, inr, ◌+◌, ◌<◌, ◌≤◌, Bool, true, false, cond, nat_eq, nat_lt, ◌&&◌, List, [], ◌∷◌, length, Option, Some, None, All, refl, ap, subst, arith, length-take, unwrap_or}
 use Rattle.std.specs.FinMap as fin
 use Rattle.std.specs.Option.{option_or}
 use Rattle.std.proofs.lemmas.Bool.Decides.{nat_tests}
+use Rattle.std.proofs.lemmas.List.Elements.{All-tail, All-take, All-weaker}
 use Rattle.mb_kinds.specs.Image.{Image}
 use Rattle.mb_word.specs.Fields.{inode_block, inode_place, isize_of, mode_of, ninode_of}
 use Rattle.mb_tree.specs.Step.{IsFreeNumber}
-use Rattle.mb_tree.specs.Views.{over}
+use Rattle.mb_tree.specs.Views.{MayCache, over}
 use Rattle.mb_tree.specs.Volume.{HasInode, last_inode}
 use Rattle.mb_tree.specs.declared.nodes.Node.{Node}
 use Rattle.mb_tree.specs.declared.trees.Tree.{Tree}
 use Rattle.mb_alloc.specs.Numbers.{Picks, cached_below, cached_in, free_numbers, free_below, is_free_number, pick_from, pick_of}
 use Rattle.mb_alloc.specs.declared.picks.Picked.TheVariants as picked
+use Rattle.mb_alloc.proofs.Caching.{cache_set, cached_own}
+use Rattle.mb_alloc.proofs.Scanning.{all_free}
 use Rattle.mb_iface.specs.Acting.{with_changes}
 use Rattle.mb_kinds.specs.Changed.{ChangeList, changed}
 use Rattle.mb_iface.specs.declared.replies.Need.{Need}
@@ -89,6 +92,31 @@ module _ (image : Image) (tree : Tree) (chain : List ℕ) (stored : IsStored ima
       let third : nat_eq (mode_of (image.at (inode_block ino)) (inode_place ino)) 0 ≡ true = grind (arith, nat_tests) in
       and_both _ _ first (and_both _ _ second third)
 
+-- what is behind the pick
+pick_rest : (P : ℕ → Type 0) (free : ℕ → Bool) (xs : List ℕ) (n : ℕ) (rest : List ℕ) → pick_from free xs ≡ Some (n, rest) → All P xs → All P rest
+pick_rest P free [] n rest is all = cc
+pick_rest P free (x ∷ xs) n rest is all = by_test (λ e. pick_rest P free xs n rest e (All-tail P x xs all)) (free x) refl is
+  where
+    by_test : (pick_from free xs ≡ Some (n, rest) → All P rest) → (b : Bool) → free x ≡ b → cond b (Some (x, xs)) (pick_from free xs) ≡ Some (n, rest) → All P rest
+    by_test later true t e = subst (All P) (ap (λ (o : Option (ℕ × List ℕ)). (unwrap_or o (0, xs)).1) e) (All-tail P x xs all)
+    by_test later false t e = later e
+
+-- the numbers that it leaves were cached, or are of the i-list
+left_numbers : (image : Image) (tree : Tree) (chain : List ℕ) → IsStored image tree chain → (n : ℕ) (rest : List ℕ) → pick_of image.at ≡ Some (n, rest) → All (MayCache (image.at 1)) rest
+left_numbers image tree chain stored n rest is = elim (either_pick (pick_from (is_free_number image.at) (cached_in image.at)) (pick_from (is_free_number image.at) (free_numbers image.at)) n rest is) [
+  | inl e ↦ pick_rest (MayCache (image.at 1)) (is_free_number image.at) (cached_in image.at) n rest e (cached_own (image.at 1) (ninode_of (image.at 1)) (omega arith))
+  | inr e ↦ pick_rest (MayCache (image.at 1)) (is_free_number image.at) (free_numbers image.at) n rest e
+      (All-take (MayCache (image.at 1)) 100 (free_below image.at (last_inode image.at + 1))
+      (All-weaker (λ k. is_free_number image.at k ≡ true) (MayCache (image.at 1)) may_cache (free_below image.at (last_inode image.at + 1)) (all_free image.at (last_inode image.at + 1))))
+] where
+  may_cache : (k : ℕ) → is_free_number image.at k ≡ true → MayCache (image.at 1) k
+  may_cache k free =
+      let number = free_is image tree chain stored k free in
+      let above = number.above in
+      let within = number.within in
+      let last = stored.last in
+      inr (omega (arith, above), omega (arith, within, last))
+
 pub picked_number : (shown : ℕ → Option (List ℕ)) (old new : ChangeList) (ino : ℕ) → Picks shown old new (picked.Ino ino) → PicksNumberOf shown old new (chosen.Number ino)
 picked_number shown old new ino picks = (
   picks.0,
@@ -102,6 +130,7 @@ picked_number shown old new ino picks = (
         few = (let many = length-cached (over image.at (changed new) 1) (ninode_of (over image.at (changed new) 1)) in let l = ap length set.list in let s = says.1 in omega (arith, many, l, s));
         front = set.front;
         back = set.back;
+        cached = cache_set (over image.at (changed old) 1) (over image.at (changed old)) (over image.at (changed new)) got.0 set (left_numbers blocks tree chain stored ino got.0 got.1);
         others = set.others;
       } in (
         free_is blocks tree chain stored ino says.0,

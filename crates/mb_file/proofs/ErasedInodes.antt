@@ -1,13 +1,15 @@
 -- An inode freed and its number cached: the cache first, then the inode, and then its blocks.
-use Rattle.std.proofs.Common.{ℕ, zero, suc, ◌≡◌, ◌≢◌, ◌⊎◌, inl, inr, ◌+◌, ◌*◌, ◌≤◌, Bool, true, List, ◌∷◌, length, slice_index, nat_eq, Some, refl, sym, ap, subst, ◌∙◌, arith}
+use Rattle.std.proofs.Common.{ℕ, zero, suc, ◌≡◌, ◌≢◌, ◌⊎◌, inl, inr, ◌+◌, ◌-◌, ◌*◌, ◌≤◌, Bool, true, All, List, ◌∷◌, length, slice_index, nat_eq, Some, refl, sym, ap, subst, ◌∙◌, arith}
 use Rattle.std.specs.FinMap as fin
 use Rattle.std.specs.List.{Contains}
 use Rattle.std.proofs.lemmas.Bool.{cases_eq}
+use Rattle.std.proofs.lemmas.List.Elements.{All-cons}
 use Rattle.mb_kinds.specs.Image.{Image}
-use Rattle.mb_word.specs.Fields.{ninode_of, inode_block, inode_place, mode_of, address_of}
+use Rattle.mb_word.specs.Fields.{isize_of, ninode_of, inode_block, inode_place, mode_of, address_of}
 use Rattle.mb_word.specs.Numbers.{SameFrom, word_at}
 use Rattle.mb_tree.specs.Blocks.{pointers}
 use Rattle.mb_tree.specs.Places.{Place, at, IsPlace}
+use Rattle.mb_tree.specs.Views.{IsWiped, KeepsCache, MayCache}
 use Rattle.mb_tree.specs.Volume.{body_has_addresses, has_addresses, node_has_addresses}
 use Rattle.mb_tree.specs.declared.nodes.Body.{Body}
 use Rattle.mb_tree.specs.declared.nodes.Node.{Node}
@@ -22,6 +24,7 @@ use Rattle.mb_blocks.proofs.Owning.{mine_place}
 use Rattle.mb_blocks.proofs.Pointing.{at_alike}
 use Rattle.mb_alloc.specs.Inodes.{Caches, IsErased}
 use Rattle.mb_alloc.specs.Numbers.{cached_below, cached_in}
+use Rattle.mb_alloc.proofs.Caching.{cache_set, cached_own}
 use Rattle.mb_nodes.specs.Bodies.{IsCacheWritten, LetsGo}
 use Rattle.mb_nodes.specs.Bodies.LetsGo.{listed, special}
 use Rattle.mb_nodes.specs.Stored.{IsStored, without_node}
@@ -78,8 +81,8 @@ module _ (old mid now : ℕ → List ℕ) (ino : ℕ) (long : length (old 1) ≡
     ]
   ]
 
-  pub cache_is_written : IsCacheWritten old cached_only
-  cache_is_written = record {
+  pub cache_is_written : ino ≤ 8 * (isize_of (old 1) - 2) → IsCacheWritten old cached_only
+  cache_is_written last = record {
     sized = ap length here ∙ elim caches [
       | inl same ↦ ap (λ f. length (f 1)) same.1 ∙ ap length first_mid ∙ long
       | inr set ↦ set.2.sized
@@ -87,6 +90,11 @@ module _ (old mid now : ℕ → List ℕ) (ino : ℕ) (long : length (old 1) ≡
     few = (let e = ap ninode_of here in let f = few_now in omega (arith, e, f));
     front = subst (λ (b : List ℕ). SameFrom b (old 1) 0 208) (sym here) (same_range 0 208 (inl (omega arith)));
     back = subst (λ (b : List ℕ). SameFrom b (old 1) 410 102) (sym here) (same_range 410 102 (inr (omega arith, omega arith)));
+    cached = subst (KeepsCache (old 1)) (sym here) (elim caches [
+      | inl same ↦ subst (KeepsCache (old 1)) (sym (ap (λ f. f 1) same.1 ∙ first_mid)) (λ k low. inl (k, low, refl))
+      | inr set ↦ cache_set (old 1) mid now (ino ∷ cached_in mid) set.2 (All-cons (MayCache (old 1)) ino (cached_in mid) (inr (set.1, last))
+          (subst (λ (b : List ℕ). All (MayCache (old 1)) (cached_below b (ninode_of b))) (sym first_mid) (cached_own (old 1) (ninode_of (old 1)) (omega arith))))
+    ]);
     others = elsewhere;
   }
 
@@ -116,6 +124,9 @@ module _ (old mid now : ℕ → List ℕ) (ino : ℕ) (long : length (old 1) ≡
       let b : slice_index (mid (inode_block ino)) (64 * inode_place ino + 1) ≡ 0 = z 1 (omega arith) (omega arith) in
       ap (λ (x : List ℕ). mode_of x (inode_place ino)) (other_now (inode_block ino) (in_i_list ino)) ∙ omega (arith, a, b)
 
+  pub inode_is_wiped : IsWiped (now (inode_block ino)) (inode_place ino)
+  inode_is_wiped k low apart = ap (λ (x : List ℕ). slice_index x (64 * inode_place ino + k)) (other_now (inode_block ino) (in_i_list ino)) ∙ erased.zero k low apart
+
 -- ---- the whole step
 
 module _ (image : Image) (tree : Tree) (chain : List ℕ) (stored : IsStored image tree chain) (ino : ℕ) (node : Node) (has : fin.get tree.nodes ino ≡ Some node)
@@ -124,7 +135,7 @@ module _ (image : Image) (tree : Tree) (chain : List ℕ) (stored : IsStored ima
   cached = cached_only image.at mid now ino (stored.bytes 1) stored.cached erased caches
 
   written : IsCacheWritten image.at cached
-  written = cache_is_written image.at mid now ino (stored.bytes 1) stored.cached erased caches
+  written = cache_is_written image.at mid now ino (stored.bytes 1) stored.cached erased caches (let low = (stored.numbers ino node has).1 in let last = stored.last in omega (arith, low, last))
 
   abbrev then : Image
   then = record image { at = cached }
@@ -165,4 +176,5 @@ module _ (image : Image) (tree : Tree) (chain : List ℕ) (stored : IsStored ima
   erased_whole looks looked new freed =
       one_after_another image tree tree (without_node tree ino) looks cached new chain (onto list chain)
       (cache_advances image tree chain looks stored cached written)
-      (erased_advances then tree chain looks stored_then ino node looked has now new list lets_then rewritten freed (inode_is_free image.at mid now ino (stored.bytes 1) stored.cached erased caches))
+      (erased_advances then tree chain looks stored_then ino node looked has now new list lets_then rewritten freed (inode_is_free image.at mid now ino (stored.bytes 1) stored.cached erased caches)
+      (inode_is_wiped image.at mid now ino (stored.bytes 1) stored.cached erased caches))

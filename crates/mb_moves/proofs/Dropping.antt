@@ -5,6 +5,7 @@ use Rattle.mb_kinds.specs.Image.{Image}
 use Rattle.mb_word.specs.Fields.{isize_of, inode_block, inode_place, mode_of, size_of, address_of}
 use Rattle.mb_tree.specs.Blocks.{pointers}
 use Rattle.mb_tree.specs.Places.{at, IsPlace}
+use Rattle.mb_tree.specs.Views.{IsWiped}
 use Rattle.mb_tree.specs.Volume.{body_has_addresses, has_addresses, node_has_addresses}
 use Rattle.mb_tree.specs.declared.nodes.Body.{Body}
 use Rattle.mb_tree.specs.declared.nodes.Body.TheVariants.{Regular}
@@ -80,12 +81,12 @@ module _ (image : Image) (tree : Tree) (chain : List ℕ) (looks : ℕ → Bool)
     | inr apart ↦ others_looked (without_node tree ino) i apart (gone_there tree.nodes ino i apart) t
   ]
 
-  pub erased_advances : mode_of (mid (inode_block ino)) (inode_place ino) ≡ 0 → Advances image tree looks new (without_node tree ino) (onto list chain)
-  erased_advances free =
+  pub erased_advances : mode_of (mid (inode_block ino)) (inode_place ino) ≡ 0 → IsWiped (mid (inode_block ino)) (inode_place ino) → Advances image tree looks new (without_node tree ino) (onto list chain)
+  erased_advances free wiped =
       advances_by image tree looks chain stored (without_node tree ino) new (onto list chain)
       (record {
         stored = erased image tree chain stored ino node has mid new list lets written freed free;
-        kept = erased_kept image tree chain stored ino node has mid new list lets written freed free;
+        kept = erased_kept image tree chain stored ino node has mid new list lets written freed free wiped;
       })
       (λ block some had. was_had node.body list refl lets freed block some (had_over (looked_at (without_node tree ino) looks) (without few ino) new (onto list chain) block gone_looked had))
 

@@ -13,6 +13,7 @@ use Rattle.mb_tree.specs.Fits.{Fits}
 use Rattle.mb_tree.specs.Maps.{Numbered}
 use Rattle.mb_tree.specs.Places.{place_of}
 use Rattle.mb_tree.specs.Sessions.{Counts}
+use Rattle.mb_tree.specs.Views.{IsWiped}
 use Rattle.mb_tree.specs.Volume.{IsVolume}
 use Rattle.mb_tree.specs.declared.nodes.Body.TheVariants.{Regular, Directory}
 use Rattle.mb_tree.specs.declared.nodes.Node.{Node}
@@ -129,7 +130,7 @@ ClearedAdvances = (image : Image) (tree : Tree) (chain : List ℕ) (looks : ℕ 
 abbrev pub ErasedAdvances : Type 0
 ErasedAdvances = (image : Image) (tree : Tree) (chain : List ℕ) (looks : ℕ → Bool) → IsStored image tree chain → (ino : ℕ) (node : Node) → looks ino ≡ true
     → fin.get tree.nodes ino ≡ Some node → (mid new : ℕ → List ℕ) (list : List ℕ) → LetsGo image.at ino node.body list → IsRewritten image.at mid ino → AreFreed mid new list
-    → mode_of (mid (inode_block ino)) (inode_place ino) ≡ 0
+    → mode_of (mid (inode_block ino)) (inode_place ino) ≡ 0 → IsWiped (mid (inode_block ino)) (inode_place ino)
     → Advances image tree looks new (without_node tree ino) (onto list chain)
 
 -- the size of a file set, with its other fields

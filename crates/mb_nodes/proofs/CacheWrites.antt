@@ -4,7 +4,7 @@ use Rattle.std.specs.FinMap as fin
 use Rattle.std.proofs.lemmas.Bool.{cases_eq}
 use Rattle.std.proofs.lemmas.List.Elements.{All-weaker}
 use Rattle.mb_kinds.specs.Image.{Image}
-use Rattle.mb_word.specs.Fields.{isize_of, fsize_of, inode_block, inode_place, address_of}
+use Rattle.mb_word.specs.Fields.{isize_of, fsize_of, inode_block, inode_place, mode_of, address_of}
 use Rattle.mb_word.specs.Numbers.{SameFrom}
 use Rattle.mb_word.proofs.Values.{word_at-same, long_at-same}
 use Rattle.mb_tree.specs.Blocks.{pointers, first_list, list_in, IsFreeChain}
@@ -106,6 +106,7 @@ module _ (image : Image) (tree : Tree) (chain : List ℕ) (stored : IsStored ima
   pub cache_written : Follows image tree new tree chain
   cache_written = record {
     stored = stored_now;
-    kept = kept_conserved image (record image { at = new }) tree tree chain chain stored stored_now conserves written.back
-        (λ ino some low. ap (λ (b : List ℕ). slice_index b (64 * inode_place ino + 51)) (block_same ino));
+    kept = kept_conserved image (record image { at = new }) tree tree chain chain stored stored_now conserves written.back written.cached
+        (λ ino some low. ap (λ (b : List ℕ). slice_index b (64 * inode_place ino + 51)) (block_same ino))
+        (λ ino some low none. inr (ap (λ (b : List ℕ). mode_of b (inode_place ino)) (sym (block_same ino)) ∙ none, λ k from to. ap (λ (b : List ℕ). slice_index b k) (block_same ino)));
   }

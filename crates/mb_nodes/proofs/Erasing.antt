@@ -18,7 +18,7 @@ use Rattle.mb_tree.specs.declared.nodes.Body.TheVariants.{Regular, Directory, Sp
 use Rattle.mb_tree.specs.declared.nodes.Node.{Node}
 use Rattle.mb_tree.specs.declared.trees.Tree.{Tree}
 use Rattle.mb_tree.proofs.FiniteMaps.{get_here, get_there, gone_here, gone_there, one_or_not, entries_none}
-use Rattle.mb_tree.specs.Views.{Kept}
+use Rattle.mb_tree.specs.Views.{IsWiped, Kept}
 use Rattle.std.specs.List.{Contains}
 use Rattle.mb_blocks.specs.Conserved.{Conserves}
 use Rattle.mb_blocks.specs.FreeLists.{AreFreed, HasFreed, onto}
@@ -40,7 +40,7 @@ use Rattle.mb_nodes.specs.Bodies.{LetsGo}
 use Rattle.mb_nodes.specs.Bodies.LetsGo.{listed, special}
 use Rattle.mb_nodes.specs.Stored.{IsStored}
 use Rattle.mb_nodes.specs.Underway.{KeepsOthers}
-use Rattle.mb_nodes.proofs.KeptFrom.{kept_bytes, kept_conserved}
+use Rattle.mb_nodes.proofs.KeptFrom.{kept_bytes, kept_cache, kept_conserved, kept_free, kept_unused}
 use Rattle.mb_nodes.proofs.NodeParts.{addressed, node_cost}
 use Rattle.mb_nodes.proofs.OneInode.{in_list, in_tree, laid_stored, leads_stored, stored_by_one}
 
@@ -137,7 +137,7 @@ module _ (image : Image) (tree : Tree) (chain : List ℕ) (stored : IsStored ima
     others_stay = record {
       bytes = λ j some below apart k from to. ap (λ (b : List ℕ). slice_index b k) (block_same j some below) ∙ written.beside j some apart k from to;
       held = keeps;
-      unused = λ k from to. all.rest.back k (omega (arith, from)) (omega (arith, to)) ∙ ap (λ (b : List ℕ). slice_index b k) first;
+      back = λ k from to. all.rest.back k from to ∙ ap (λ (b : List ℕ). slice_index b k) first;
       byte = ap (λ (b : List ℕ). slice_index b (64 * inode_place ino + 51)) (block_same ino (let n = within in omega (arith, n.0)) within.1) ∙ written.byte;
       front = λ k from to. all.rest.front k from to ∙ ap (λ (b : List ℕ). slice_index b k) first;
       cached =
@@ -201,11 +201,13 @@ module _ (image : Image) (tree : Tree) (chain : List ℕ) (stored : IsStored ima
         conserved_then (has_addresses tree) rest rest image.at image.at new chain (list ++ chain) (onto list chain) wide (let_conserved node.body list refl lets)
         (conserved_then rest rest rest image.at mid new (list ++ chain) ((list ++ []) ++ chain) (onto list chain) wide middle all.conserves)
 
-    pub erased_kept : mode_of (mid (inode_block ino)) (inode_place ino) ≡ 0 → Kept tree image gone (record image { at = new })
-    erased_kept free =
+    pub erased_kept : mode_of (mid (inode_block ino)) (inode_place ino) ≡ 0 → IsWiped (mid (inode_block ino)) (inode_place ino) → Kept tree image gone (record image { at = new })
+    erased_kept free wiped =
         kept_conserved image (record image { at = new }) tree gone chain (onto list chain) stored (erased free)
         (subst (λ h. Conserves (has_addresses tree) h image.at new chain (onto list chain)) (sym gone_has) gone_conserved)
-        others_stay.unused (kept_bytes image tree chain stored ino new others_stay)
+        (kept_unused image tree ino new others_stay) (kept_cache image tree chain stored ino new others_stay) (kept_bytes image tree chain stored ino new others_stay)
+        (kept_free image tree chain stored ino new others_stay
+        (λ none. inl (λ k low apart. ap (λ (b : List ℕ). slice_index b (64 * inode_place ino + k)) (block_same ino (let n = within in omega (arith, n.0)) within.1) ∙ wiped k low apart)))
 
     -- ---- the node is an empty file
 
@@ -275,4 +277,5 @@ module _ (image : Image) (tree : Tree) (chain : List ℕ) (stored : IsStored ima
           kept_conserved image (record image { at = new }) tree blank chain (onto list chain) stored cleared
           (conserved_then (has_addresses tree) rest (has_addresses blank) image.at new new chain (onto list chain) (onto list chain) stored.sizes.some_inodes gone_conserved
           (conserved_more rest (has_addresses blank) new (onto list chain) more_still adds))
-          others_stay.unused (kept_bytes image tree chain stored ino new others_stay)
+          (kept_unused image tree ino new others_stay) (kept_cache image tree chain stored ino new others_stay) (kept_bytes image tree chain stored ino new others_stay)
+          (kept_free image tree chain stored ino new others_stay (λ none. absurd (node_now.used none)))

@@ -55,7 +55,7 @@ others_then tree old mid new ino one two = record {
   held = held_then (without (has_addresses tree) ino) old mid new one.held two.held;
   front = λ k from to. two.front k from to ∙ one.front k from to;
   cached = two.cached;
-  unused = λ k from to. two.unused k from to ∙ one.unused k from to;
+  back = λ k from to. two.back k from to ∙ one.back k from to;
   byte = two.byte ∙ one.byte;
 }
 

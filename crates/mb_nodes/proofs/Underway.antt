@@ -30,7 +30,7 @@ use Rattle.mb_blocks.proofs.Reaching.{lead_reached}
 use Rattle.mb_blocks.specs.Inodes.{IsBorn, IsRewritten}
 use Rattle.mb_nodes.specs.Stored.{Follows, IsStored}
 use Rattle.mb_nodes.specs.Underway.{AgreesOff, IsUnderway}
-use Rattle.mb_nodes.proofs.KeptFrom.{kept_bytes, kept_conserved}
+use Rattle.mb_nodes.proofs.KeptFrom.{kept_bytes, kept_cache, kept_conserved, kept_free, kept_unused}
 use Rattle.mb_nodes.proofs.OneInode.{in_list, laid_stored, leads_stored, others_then, stored_by_one}
 use Rattle.mb_blocks.proofs.Reached as reached
 use Rattle.mb_blocks.proofs.PartWriting as writing
@@ -40,7 +40,7 @@ module _ (image : Image) (tree : Tree) (chain : List ℕ) (stored : IsStored ima
   begun = record {
     laid = laid_stored image tree chain stored;
     leads = leads_stored image tree chain stored;
-    keeps = record { bytes = λ j some low apart k from to. refl; held = held_same (without (has_addresses tree) ino) image.at; front = λ k from to. refl; cached = stored.cached; unused = λ k from to. refl; byte = refl };
+    keeps = record { bytes = λ j some low apart k from to. refl; held = held_same (without (has_addresses tree) ino) image.at; front = λ k from to. refl; cached = stored.cached; back = λ k from to. refl; byte = refl };
     conserves = conserved_same (has_addresses tree) image.at chain;
   }
 
@@ -80,7 +80,7 @@ module _ (image : Image) (tree : Tree) (chain : List ℕ) (stored : IsStored ima
                 (let same : ninode_of (new 1) ≡ ninode_of (old 1) = word_at-same (new 1) (old 1) 208 (λ k from to. fields.back k from (omega arith)) in
                 let was = under.keeps.cached in
                 omega (arith, same, was));
-            unused = λ k from to. fields.back k (omega (arith, from)) (omega (arith, to));
+            back = fields.back;
             byte = fields.tail (64 * inode_place ino + 51) (omega arith) (omega arith);
           });
           conserves = conserved_then (has_addresses tree) has has image.at old new chain left got.left stored.sizes.some_inodes under.conserves got.conserves;
@@ -100,7 +100,7 @@ module _ (image : Image) (tree : Tree) (chain : List ℕ) (stored : IsStored ima
             held = subst (λ h. KeepsHeld h old new) rest_same (writing.written_others has old new ino part [] left under.laid is below some others long);
             front = λ k from to. ap (λ (b : List ℕ). slice_index b k) first;
             cached = subst (λ (b : List ℕ). ninode_of b ≤ 100) (sym first) under.keeps.cached;
-            unused = λ k from to. ap (λ (b : List ℕ). slice_index b k) first;
+            back = λ k from to. ap (λ (b : List ℕ). slice_index b k) first;
             byte = ap (λ (b : List ℕ). slice_index b (64 * inode_place ino + 51)) (low_is (inode_block ino) mine_listed);
           });
           conserves = conserved_then (has_addresses tree) has has image.at old new chain left left stored.sizes.some_inodes under.conserves
@@ -125,7 +125,7 @@ module _ (image : Image) (tree : Tree) (chain : List ℕ) (stored : IsStored ima
             });
             front = λ k from to. ap (λ (b : List ℕ). slice_index b k) first;
             cached = subst (λ (b : List ℕ). ninode_of b ≤ 100) (sym first) under.keeps.cached;
-            unused = λ k from to. ap (λ (b : List ℕ). slice_index b k) first;
+            back = λ k from to. ap (λ (b : List ℕ). slice_index b k) first;
             byte = written.byte;
           });
           conserves = conserved_then (has_addresses tree) has has image.at old new chain left left stored.sizes.some_inodes under.conserves
@@ -155,5 +155,6 @@ module _ (image : Image) (tree : Tree) (chain : List ℕ) (stored : IsStored ima
         record {
           stored = after;
           kept = kept_conserved image (record image { at = old }) tree next chain left stored after (subst (λ h. Conserves (has_addresses tree) h image.at old chain left) (sym same) under.conserves)
-              under.keeps.unused (kept_bytes image tree chain stored ino old under.keeps);
+              (kept_unused image tree ino old under.keeps) (kept_cache image tree chain stored ino old under.keeps) (kept_bytes image tree chain stored ino old under.keeps)
+              (kept_free image tree chain stored ino old under.keeps (λ none. absurd (here.used none)));
         }

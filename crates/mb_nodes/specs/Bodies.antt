@@ -6,6 +6,7 @@ use Rattle.mb_word.specs.Numbers.{SameFrom}
 use Rattle.mb_layout.specs.declared.slots.Slot.{Slot}
 use Rattle.mb_tree.specs.Blocks.{pointers, part_in, slot_of, slot_in}
 use Rattle.mb_tree.specs.Cost.{most_parts}
+use Rattle.mb_tree.specs.Views.{KeepsCache}
 use Rattle.mb_tree.specs.Volume.{body_has_addresses}
 use Rattle.mb_tree.specs.declared.nodes.Body.{Body}
 use Rattle.mb_tree.specs.declared.nodes.PlainSlot.{PlainSlot}
@@ -55,4 +56,5 @@ pub record IsCacheWritten (old new : ℕ → List ℕ) : Type 0 where
   pub few : ninode_of (new 1) ≤ 100
   pub front : SameFrom (new 1) (old 1) 0 208
   pub back : SameFrom (new 1) (old 1) 410 102
+  pub cached : KeepsCache (old 1) (new 1)
   pub others : (other : ℕ) → other ≢ 1 → new other ≡ old other

@@ -15,6 +15,7 @@ use Rattle.mb_tree.specs.Effect.{fitting}
 use Rattle.mb_tree.specs.Maps.{Numbered}
 use Rattle.mb_tree.specs.Places.{place_of}
 use Rattle.mb_tree.specs.Trees.{IsSound}
+use Rattle.mb_tree.specs.Views.{IsWiped}
 use Rattle.mb_tree.specs.Volume.{IsVolume}
 use Rattle.mb_tree.specs.declared.nodes.Body.TheVariants.{Regular, Directory}
 use Rattle.mb_tree.specs.declared.nodes.Node.{Node}
@@ -102,7 +103,7 @@ Cleared = (image : Image) (tree : Tree) (chain : List ℕ) → IsStored image tr
 abbrev pub Erased : Type 0
 Erased = (image : Image) (tree : Tree) (chain : List ℕ) → IsStored image tree chain → (ino : ℕ) (node : Node) → fin.get tree.nodes ino ≡ Some node
     → (mid new : ℕ → List ℕ) (list : List ℕ) → LetsGo image.at ino node.body list → IsRewritten image.at mid ino → AreFreed mid new list
-    → mode_of (mid (inode_block ino)) (inode_place ino) ≡ 0
+    → mode_of (mid (inode_block ino)) (inode_place ino) ≡ 0 → IsWiped (mid (inode_block ino)) (inode_place ino)
     → Follows image tree new (without_node tree ino) (onto list chain)
 
 -- the size of a file set, with its other fields

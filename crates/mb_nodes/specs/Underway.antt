@@ -17,7 +17,7 @@ pub record KeepsOthers (tree : Tree) (old new : ℕ → List ℕ) (ino : ℕ) : 
   pub held : KeepsHeld (without (has_addresses tree) ino) old new
   pub front : SameFrom (new 1) (old 1) 0 6
   pub cached : ninode_of (new 1) ≤ 100
-  pub unused : SameFrom (new 1) (old 1) 410 102
+  pub back : SameFrom (new 1) (old 1) 208 304
   pub byte : slice_index (new (inode_block ino)) (64 * inode_place ino + 51) ≡ slice_index (old (inode_block ino)) (64 * inode_place ino + 51)
 
 -- the inodes with addresses are those of the tree, but perhaps at one
