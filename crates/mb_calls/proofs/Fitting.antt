@@ -2,8 +2,8 @@
 use Rattle.std.proofs.Common.{◌≡◌, ℕ, Bool, List, [], Option, Some, None, refl, sym, subst}
 use Rattle.std.specs.Prelude.{IsSome}
 use Rattle.mb_kinds.specs.Image.{Image}
-use Rattle.mb_iface.specs.Acting.{Acts}
-use Rattle.mb_kinds.specs.Changed.{IsWithinView, changed}
+use Rattle.mb_iface.specs.Acting.{Acts, KeepsIfHold}
+use Rattle.mb_kinds.specs.Changed.{ChangeList, IsWithinView, changed}
 use Rattle.mb_iface.specs.Near.{IsNear, IsTouched}
 use Rattle.mb_iface.specs.OpenCounts.{count_of}
 use Rattle.mb_iface.specs.declared.replies.Acted.TheVariants as acted
@@ -99,12 +99,20 @@ plain_reply (Restart first second) h = h
 plain_reply Device h = h
 plain_reply (Failed faults) h = h
 
+some_none : (op : FsOp) → Some op ≡ None → ⊥
+some_none op e = cc
+
+held_still : (acts : FsOp) (changes : ChangeList) (ino : ℕ) → Some acts ≡ Some (op.Hold ino) → KeepsIfHold acts changes → changes ≡ []
+held_still acts changes ino holds keeps = subst (λ o. KeepsIfHold o changes) (let e : acts ≡ op.Hold ino = cc in e) keeps
+
 pub fit_of : {shown : ℕ → Option (List ℕ)} {opens : CountMap} (seat : Seat) (shared : Bool) (planned : CallPlan) (ready : Ready) → IsPlanFor seat planned → IsEndOf shown opens shared planned ready → IsFit seat shared ready
-fit_of seat shared planned ready makes (alone none is) = subst (IsFit seat shared) (sym is) (record { plain = plain_reply planned.reply makes.1; session = can_apply seat planned.session makes.0; range = in_range seat planned.session (can_apply seat planned.session makes.0); shared = refl })
-fit_of seat shared planned ready makes (done op changes pick acts has is) = subst (IsFit seat shared) (sym is) (record {
+fit_of seat shared planned ready makes (alone none is) = subst (IsFit seat shared) (sym is) (record { plain = plain_reply planned.reply makes.1; session = can_apply seat planned.session makes.0; range = in_range seat planned.session (can_apply seat planned.session makes.0); shared = refl; still = λ none. refl; held = λ ino holds. refl })
+fit_of seat shared planned ready makes (done op changes pick acts has keeps is) = subst (IsFit seat shared) (sym is) (record {
   plain = plain_reply planned.reply makes.1;
   session = freshened seat op pick planned.session (can_apply seat planned.session makes.0);
   range = in_range seat (fresh_on op pick planned.session) (freshened seat op pick planned.session (can_apply seat planned.session makes.0));
   shared = refl;
+  still = λ none. absurd (some_none op none);
+  held = λ ino holds. held_still op changes ino holds keeps;
 })
-fit_of seat shared planned ready makes (refused op e acts has is) = subst (IsFit seat shared) (sym is) (record { plain = tt; session = tt; range = tt; shared = refl })
+fit_of seat shared planned ready makes (refused op e acts has is) = subst (IsFit seat shared) (sym is) (record { plain = tt; session = tt; range = tt; shared = refl; still = λ none. refl; held = λ ino holds. refl })

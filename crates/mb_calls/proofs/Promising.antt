@@ -101,7 +101,7 @@ module _ (tree : Tree) (op : FsOp) (free : IsFreeOfCounts tree op) (opens others
 
 shared_is : {shown : ℕ → Option (List ℕ)} {opens : CountMap} (shared : Bool) (planned : CallPlan) (ready : Ready) → IsEndOf shown opens shared planned ready → ready.shared ≡ shared
 shared_is shared planned ready (alone none is) = ap (λ (r : Ready). r.shared) is
-shared_is shared planned ready (done op changes pick acts has is) = ap (λ (r : Ready). r.shared) is
+shared_is shared planned ready (done op changes pick acts has keeps is) = ap (λ (r : Ready). r.shared) is
 shared_is shared planned ready (refused op e acts has is) = ap (λ (r : Ready). r.shared) is
 
 -- ---- the promise
@@ -161,7 +161,7 @@ module _ (shown : ℕ → Option (List ℕ)) (given : List Seat) (opens : CountM
       pub ready_for : (ready : Ready) → IsEndOf shown opens (is_shared_call made) planned ready → IsPerformed image machine caller made moment ready
       ready_for ready (alone none is) = subst (IsPerformed image machine caller made moment) (sym is)
           (performed_alone machine caller made moment planned plans plain image (is_shared_call made) volume (no_change image) (kept_same tree image) none)
-      ready_for ready (done op changes pick acts has is) = subst (IsPerformed image machine caller made moment) (sym is)
+      ready_for ready (done op changes pick acts has keeps is) = subst (IsPerformed image machine caller made moment) (sym is)
           (performed_done machine caller made moment planned plans plain op acts image shown changes pick (is_shared_call made) (had_done op acts changes pick has (is_shared_call made) refl agrees.others))
       ready_for ready (refused op e acts has is) = subst (IsPerformed image machine caller made moment) (sym is)
           (performed_refused machine caller made moment planned plans plain op acts image (is_shared_call made) e valid.tree (fits op acts) (had_refused op acts e has (is_shared_call made) refl agrees.others))
@@ -171,7 +171,7 @@ module _ (shown : ℕ → Option (List ℕ)) (given : List Seat) (opens : CountM
       (agrees : AreAlike (is_shared_call made) caller given opens seats) (valid : IsValidFor (record { tree = tree; seats = seats }) caller) where
     within_for : (ready : Ready) → IsEndOf shown opens (is_shared_call made) planned ready → IsWithinView shown ready.changes
     within_for ready (alone none is) = subst (λ (r : Ready). IsWithinView shown r.changes) (sym is) (none_within shown)
-    within_for ready (done op changes pick acts has is) = subst (λ (r : Ready). IsWithinView shown r.changes) (sym is)
+    within_for ready (done op changes pick acts has keeps is) = subst (λ (r : Ready). IsWithinView shown r.changes) (sym is)
         (had_done image tree seats part volume agrees valid planned says op acts changes pick has (is_shared_call made) refl agrees.others).within
     within_for ready (refused op e acts has is) = subst (λ (r : Ready). IsWithinView shown r.changes) (sym is) (none_within shown)
 

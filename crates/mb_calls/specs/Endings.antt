@@ -3,7 +3,7 @@ use Rattle.std.specs.Prelude.{List, [], ℕ, ◌≡◌, Bool, Option, Some, None
 use Rattle.mb_kinds.specs.Image.{Image}
 use Rattle.mb_kinds.specs.declared.errors.Errno.{Errno}
 use Rattle.mb_kinds.specs.declared.replies.Reply.TheVariants.{Refused}
-use Rattle.mb_iface.specs.Acting.{HasDone, HasRefused}
+use Rattle.mb_iface.specs.Acting.{HasDone, HasRefused, KeepsWhereHeld}
 use Rattle.mb_iface.specs.Near.{IsNear, IsTouched}
 use Rattle.mb_iface.specs.Needs.{IsNeed}
 use Rattle.mb_iface.specs.OpenCounts.{count_of}
@@ -16,6 +16,7 @@ use Rattle.mb_tree.specs.declared.plans.CallPlan.{CallPlan}
 use Rattle.mb_tree.specs.declared.seats.SessionChange.TheVariants.{Same}
 use Rattle.mb_tree.specs.declared.trees.Tree.{Tree}
 use Rattle.mb_calls.specs.Continuing.{CountMap}
+use Rattle.mb_iface.specs.declared.replies.Acted.TheVariants as acted
 use Rattle.mb_iface.specs.declared.replies.Need.{Need}
 use Rattle.mb_calls.specs.declared.performing.Ready.{Ready}
 use Rattle.mb_calls.specs.declared.performing.Performed.{Performed}
@@ -37,7 +38,7 @@ HasActed shown opens op Does = (image : Image) (tree : Tree) → IsPart shown im
 pub data IsEndOf (shown : ℕ → Option (List ℕ)) (opens : CountMap) (shared : Bool) (planned : CallPlan) (ready : Ready) : Type 0 where
   alone : planned.op ≡ None → ready ≡ ready_with shared planned → IsEndOf shown opens shared planned ready
   done : (op : FsOp) (changes : List (ℕ × List ℕ)) (pick : Option ℕ) → planned.op ≡ Some op → HasActed shown opens op (λ image tree. HasDone shown image tree (count_of opens) op None changes pick)
-      → ready ≡ record { reply = planned.reply; op = Some op; pick = pick; changes = changes; session = fresh_on op pick planned.session; shared = shared } → IsEndOf shown opens shared planned ready
+      → KeepsWhereHeld op (acted.Done changes pick) → ready ≡ record { reply = planned.reply; op = Some op; pick = pick; changes = changes; session = fresh_on op pick planned.session; shared = shared } → IsEndOf shown opens shared planned ready
   refused : (op : FsOp) (e : Errno) → planned.op ≡ Some op → HasActed shown opens op (λ image tree. HasRefused tree (count_of opens) op None e) → ready ≡ ready_refused shared e → IsEndOf shown opens shared planned ready
 
 -- on every view

@@ -21,6 +21,7 @@ use Rattle.mb_tree.specs.Step.{effect_of, serve, IsLawful}
 use Rattle.mb_tree.specs.Views.{Kept, IsPart}
 use Rattle.mb_tree.specs.Volume.{IsVolume}
 use Rattle.mb_tree.specs.declared.machines.Machine.{Machine}
+use Rattle.mb_tree.specs.declared.operations.FsOp.TheVariants.{Hold}
 use Rattle.mb_tree.specs.declared.seats.Seat.{Seat}
 use Rattle.mb_tree.specs.declared.seats.SessionChange.{SessionChange}
 use Rattle.mb_tree.specs.declared.seats.SessionChange.TheVariants.{Same, Fresh, Twin, Free, Move}
@@ -114,12 +115,15 @@ abbrev pub IsPlainReply : Reply → Type 0
 IsPlainReply (Refused e) = Unit {0}
 IsPlainReply reply = IsServedReply reply
 
--- what a Ready is whatever the view shows; looks says whether its call looks at other sessions
+-- what a Ready is whatever the view shows; looks says whether its call looks at other sessions. Without an operation no block
+-- is changed, nor by one that holds a file open.
 pub record IsFit (seat : Seat) (looks : Bool) (ready : Ready) : Type 0 where
   pub plain : IsPlainReply ready.reply
   pub session : CanApply seat ready.session
   pub range : HasDescriptorInRange ready.session
   pub shared : ready.shared ≡ looks
+  pub still : ready.op ≡ None → ready.changes ≡ []
+  pub held : (ino : ℕ) → ready.op ≡ Some (Hold ino) → ready.changes ≡ []
 
 abbrev pub FitsCall : List Seat → ℕ → Call → Performed → Type 0
 FitsCall given caller made (performed.Ready ready) = (seat : Seat) → slice_get given caller ≡ Some seat → IsFit seat (is_shared_call made) ready

@@ -5,7 +5,7 @@
 //! same and keeps how far the call's paths were followed, and a write's plan, for when the view has grown. Each
 //! returns on every view. `Performed::Ready` is the model's step of the call on every volume of which the view is
 //! a part, for all sessions that the call cannot tell from those it was given (`IsReadyFor` of `specs/Performed.antt`);
-//! `Performed::Need` names blocks that the view lacks, near the inodes at which the call looks; the only
+//! `Performed::Need` names blocks, the first of which the view lacks, near the inodes at which the call looks; the only
 //! other answer is want of memory. Nothing here waits, and nothing outside is called.
 //!
 //! `specs/Looked.antt` says at which inodes a call looks, `specs/Halts.antt` what a question's result stands

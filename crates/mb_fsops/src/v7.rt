@@ -1,4 +1,5 @@
 ghost use Rattle.std.specs.Prelude.{◌≡◌, true};
+ghost use Rattle.mb_iface.specs.Acting.{KeepsWhereHeld};
 ghost use Rattle.mb_tree.specs.PickLaws.{makes_inode};
 ghost use Rattle.mb_fsops.specs.Creating.{PicksAsV7};
 ghost use Rattle.mb_fsops.specs.Performing.{Performs};
@@ -54,6 +55,7 @@ pub fn perform<V: View>(
 ) -> Acted
     ensures performs { Performs (V.shown view.now) opens.now op.now demanded result }
     ensures picks { makes_inode op.now ≡ true → PicksAsV7 (V.shown view.now) demanded result }
+    ensures still { KeepsWhereHeld op.now result }
 {
     match op {
         FsOp::Create {

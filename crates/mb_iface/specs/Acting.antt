@@ -1,6 +1,6 @@
 -- What an answer to an operation says on a volume: with the changes over it the image is a volume of
 -- the tree after the operation's effect.
-use Rattle.std.specs.Prelude.{List, ℕ, ◌≡◌, Bool, true, false, Option, Some, None, Ok, Err, MatchOption}
+use Rattle.std.specs.Prelude.{List, [], ℕ, ◌≡◌, Bool, true, false, Option, Some, None, Ok, Err, MatchOption}
 use Rattle.std.specs.FinMap as fin
 use Rattle.std.specs.Ordering.{nat_cmp}
 use Rattle.mb_kinds.specs.Image.{Image}
@@ -12,6 +12,7 @@ use Rattle.mb_tree.specs.Step.{IsFreeNumber}
 use Rattle.mb_tree.specs.Views.{over, Kept}
 use Rattle.mb_tree.specs.Volume.{IsVolume}
 use Rattle.mb_tree.specs.declared.operations.FsOp.{FsOp}
+use Rattle.mb_tree.specs.declared.operations.FsOp.TheVariants.{Hold}
 use Rattle.mb_tree.specs.declared.trees.Tree.{Tree}
 use Rattle.mb_iface.specs.declared.replies.Acted.{Acted}
 use Rattle.mb_iface.specs.declared.replies.Acted.TheVariants as acted
@@ -61,3 +62,12 @@ Acts shown image tree opens op demanded acted.NoMemory = Unit {0}
 -- that of an operation which makes no inode and asks for no count: whatever is given of them
 abbrev pub ActsWhatever : (ℕ → Option (List ℕ)) → Image → Tree → FsOp → Acted → Type 0
 ActsWhatever shown image tree op acted = (opens : fin.FinMap nat_cmp ℕ) (demanded : Option ℕ) → Acts shown image tree opens op demanded acted
+
+-- holding a file open changes no block
+abbrev pub KeepsIfHold : FsOp → ChangeList → Type 0
+KeepsIfHold (Hold ino) changes = changes ≡ []
+KeepsIfHold op changes = Unit {0}
+
+abbrev pub KeepsWhereHeld : FsOp → Acted → Type 0
+KeepsWhereHeld op (acted.Done changes picked) = KeepsIfHold op changes
+KeepsWhereHeld op answer = Unit {0}

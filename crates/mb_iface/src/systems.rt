@@ -18,7 +18,7 @@ use std::alloc::Global;
 pub trait FileSys: Copy {
     ghost use Rattle.mb_iface.specs.Needs.{AsksFor, ActsFor};
     ghost use Rattle.mb_iface.specs.Asking.{Finds};
-    ghost use Rattle.mb_iface.specs.Acting.{Acts};
+    ghost use Rattle.mb_iface.specs.Acting.{Acts, KeepsWhereHeld};
     ghost use Rattle.mb_iface.specs.OnVolumes.{OnVolumes};
 
     /// Answers a query.
@@ -27,7 +27,8 @@ pub trait FileSys: Copy {
         ensures answer { OnVolumes (V.shown view.now) (λ image tree. Finds image tree query.now result) };
 
     /// Says what an operation changes. `opens` are the counts of open files before it. Where the
-    /// operation makes an inode it gets the number `pick`; where none is demanded, a free one.
+    /// operation makes an inode it gets the number `pick`; where none is demanded, a free one. Holding
+    /// a file open changes no block, on every view.
     fn act<V: View>(
         &self,
         alloc: Global,
@@ -38,5 +39,6 @@ pub trait FileSys: Copy {
     ) -> Acted
         ensures need { ActsFor (V.shown view.now) result }
         ensures answer { OnVolumes (V.shown view.now) (λ image tree.
-            Acts (V.shown view.now) image tree opens.now op.now pick result) };
+            Acts (V.shown view.now) image tree opens.now op.now pick result) }
+        ensures still { KeepsWhereHeld op.now result };
 }

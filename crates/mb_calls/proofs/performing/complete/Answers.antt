@@ -5,7 +5,7 @@ use Rattle.mb_calls.proofs.Fitting.{near_acted}
 use Rattle.mb_calls.proofs.performing.complete.Goals as goal
 
 pub returns-in-Done-clause-ends : goal.returns-in-Done-clause-ends
-returns-in-Done-clause-ends g c = done c.in-Some.op c.in-Done.changes c.in-Done.pick c.in-Some.is (λ image tree part volume fits. c.in-Done.ensures.answer image tree part volume fits)
+returns-in-Done-clause-ends g c = done c.in-Some.op c.in-Done.changes c.in-Done.pick c.in-Some.is (λ image tree part volume fits. c.in-Done.ensures.answer image tree part volume fits) c.in-Done.ensures.still
     (ap (λ s. record { reply = c.args.plan.reply; op = Some c.in-Some.op; pick = c.in-Done.pick; changes = c.in-Done.changes; session = s; shared = c.args.shared }) c.fresh_on-session.ensures)
 
 pub returns-in-Refused-clause-ends : goal.returns-in-Refused-clause-ends

@@ -30,7 +30,7 @@ returns-in-Ok-clause-fit g c =
 
 pub returns-in-Refused-clause-fit : goal.returns-in-Refused-clause-fit
 returns-in-Refused-clause-fit g c = λ seat is. subst (IsFit seat (is_shared_call c.args.call.now)) (ap (λ b. ready_refused b c.in-Refused.error) (sym c.is_shared_call-shared.ensures) ∙ sym c.refused.ensures)
-    (record { plain = tt; session = tt; range = tt; shared = refl })
+    (record { plain = tt; session = tt; range = tt; shared = refl; still = λ none. refl; held = λ ino holds. refl })
 
 pub returns-in-Need-clause-needed : goal.returns-in-Need-clause-needed
 returns-in-Need-clause-needed g c =
