@@ -37,13 +37,6 @@ impl PinMap {
         }
     }
 
-    /// The number of pins on a block.
-    pub fn of(&self, block: u32) -> u64
-        ensures { result ≡ stamp_of self.now.items block }
-    {
-        self.counts.of(block)
-    }
-
     /// Makes room for pins on so many more blocks. Nothing else changes.
     pub fn reserve(&mut self, more: usize) -> Result<(), NoMemory>
         ensures ok { OnOk result (more ≤ self.new.spare) }

@@ -34,6 +34,5 @@ pub fn make_volume<D: Disk>(alloc: Global, disk: &mut D, blocks: u32, inodes: u3
         },
         Err(MakeFault::Sizes) => Made::BadSizes,
         Err(MakeFault::Device) => Made::DiskFault,
-        Err(MakeFault::NoMemory) => Made::NoMemory,
     }
 }

@@ -23,9 +23,6 @@ fresh_part view stamps copies pages are fresh block = elim (kept_at pages block)
 ] refl
 
 -- an install, or whatever moves blocks so, keeps copies
-pub old_moves : (view : Image) (stamps : Stamps) (view2 : Image) (stamps2 : Stamps) (copies : CopyList) → Moves view stamps view2 stamps2 → AreOld stamps copies → AreOld stamps2 copies
-old_moves view stamps view2 stamps2 copies moves are block kept has = let one = are block kept has in elim (moves block) [ inl stays ↦ omega (arith, stays.1) | inr grows ↦ omega arith ]
-
 pub true_moves : (view : Image) (stamps : Stamps) (view2 : Image) (stamps2 : Stamps) (copies : CopyList) → Moves view stamps view2 stamps2
     → AreOld stamps copies → AreTrue view.at stamps copies → AreTrue view2.at stamps2 copies
 true_moves view stamps view2 stamps2 copies moves old are block kept has now = let one = old block kept has in elim (moves block) [

@@ -36,7 +36,7 @@ pub use hooks::{Hook, Word};
 pub use lists::{Bytes, Fails};
 pub use mb_kinds::NoMemory;
 pub use memory_disks::{MemDisk, SureDisk};
-pub use memory_sinks::{MemSink, SureSink};
+pub use memory_sinks::MemSink;
 pub use memory_sources::{MemSource, SureSource};
 pub use schedules::Schedule;
 pub use sinks::Sink;

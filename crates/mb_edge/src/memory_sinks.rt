@@ -1,4 +1,4 @@
-ghost use Rattle.std.specs.Prelude.{◌≡◌, ◌+◌, ◌<◌, ◌≤◌, ◌||◌, [], List, None, Some, OnOk, IfOk, IsOk, length, nat_lt};
+ghost use Rattle.std.specs.Prelude.{◌≡◌, ◌+◌, ◌<◌, ◌≤◌, ◌||◌, [], Some, IfOk, length, nat_lt};
 ghost use Rattle.std.specs.Result.{is_err};
 ghost use Rattle.mb_edge.specs.Causes.{HasCause, Rose};
 ghost use Rattle.mb_edge.specs.Schedule.{after_call, is_due};
@@ -11,32 +11,6 @@ use crate::sinks::Sink;
 use mb_kinds::NoMemory;
 use std::alloc::Global;
 use std::marker::Model;
-
-/// A sink that takes every byte, keeps none and tells none. It never fails.
-#[derive(Drop)]
-pub struct SureSink;
-
-impl SureSink {
-    /// Needs no memory.
-    pub fn new() -> SureSink {
-        SureSink
-    }
-}
-
-impl Sink for SureSink {
-    ghost taken = { λ _. None };
-
-    ghost faults = { λ _. 0 };
-
-    fn write(&mut self, from: &[u8]) -> Result<usize, Failed>
-        ensures bound { IfOk result (λ count. count ≤ length from.now) }
-        ensures stuck { IfOk result (λ count. count ≡ 0 → 0 < length from.now → Rose 0 0) }
-        ensures cause { HasCause 0 0 result }
-        ensures all { result ≡ Ok (length from.now) }
-    {
-        Ok(from.len())
-    }
-}
 
 /// A sink into memory, whose stated calls fail. Its room is taken when it is made, and a piece that does not
 /// fit is a fault.

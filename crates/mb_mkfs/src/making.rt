@@ -14,8 +14,6 @@ pub enum MakeFault {
     Sizes,
     /// The disk failed: its count of faults rose. What stands below the number of blocks is any mixture of old and new.
     Device,
-    /// There was no memory. `make` takes none and never answers this.
-    NoMemory,
 }
 
 impl From<Failed> for MakeFault {
@@ -35,7 +33,6 @@ pub fn make<D: Disk>(disk: &mut D, blocks: u32, inodes: u32) -> Result<(), MakeF
     ensures sizes { IsErrOf result MakeFault.Sizes ↔ (AreSizes blocks inodes → ⊥) }
     ensures untouched { IsErrOf result MakeFault.Sizes → disk.new ≡ disk.old }
     ensures device { IsErrOf result MakeFault.Device → Rose (D.faults disk.old) (D.faults disk.new) }
-    ensures memory { IsErrOf result MakeFault.NoMemory → ⊥ }
     ensures later { D.faults disk.old ≤ D.faults disk.new }
 {
     let Some(shape) = Shape::new(blocks, inodes) else {

@@ -1,3 +1,2 @@
 pub mod FirstRules
 pub mod Marking
-pub mod SingleRules

@@ -1,5 +1,5 @@
 -- At which fault points the rules of a plan fire, and the damage that is done there (this project's choice).
-use Rattle.std.specs.Prelude.{◌+◌, ◌≡◌, ◌&&◌, nat_eq, nat_lt, nat_le, Bool, true, List, [], Option, Some, None, All, find}
+use Rattle.std.specs.Prelude.{◌+◌, ◌&&◌, nat_eq, nat_lt, nat_le, Bool, List, [], Option, Some, None, find}
 use Rattle.std.specs.List.{list_any}
 use Rattle.mb_kinds.specs.declared.faults.Kind.{Kind}
 use Rattle.mb_edge.specs.Crossings.{place_of}
@@ -31,12 +31,3 @@ damage_of None = []
 -- where several rules fire, the first one's damage is done
 abbrev pub damage_at : List Rule → Crossing → List Stroke
 damage_at rules at = damage_of (find (λ (rule : Rule). rule_fires rule at) rules)
-
--- a rule that fires at its first crossing alone
-pub record IsSingle (rule : Rule) : Type 0 where
-  pub skip : rule.skip ≡ 0
-  pub times : rule.times ≡ 1
-
--- such rules fire at the first crossing of a call and a kind alone
-abbrev pub SingleFiresFirst : Type 0
-SingleFiresFirst = (rules : List Rule) (at : Crossing) → All IsSingle rules → fires rules at ≡ true → at.nth ≡ 1

@@ -7,12 +7,10 @@
 #![tactic(auto)]
 
 mod hooks;
-mod laws;
 mod marked;
 mod plans;
 mod rules;
 
 pub use hooks::PlanHook;
-pub use laws::single_fires_first;
 pub use plans::Plan;
 pub use rules::Rule;
