@@ -1,20 +1,21 @@
 -- Clean pages have the bytes that the disk holds, and go on having them.
-use Rattle.std.proofs.Common.{◌≡◌, ◌≢◌, ℕ, ◌-◌, true, false, cond, List, ◌∷◌, Contains, ◌⊎◌, take, Option, None, Some, Result, Ok, Err, OnOk, OnErr, nat_eq, inl, inr, refl, sym, ap, subst, ◌∙◌, arith, option_map}
+use Rattle.std.proofs.Common.{◌≡◌, ◌≢◌, ℕ, ◌-◌, true, false, cond, List, [], ◌∷◌, Contains, ◌⊎◌, take, Option, None, Some, Result, Ok, Err, OnOk, OnErr, nat_eq, inl, inr, refl, sym, ap, subst, ◌∙◌, arith, option_map}
 use Rattle.std.proofs.lemmas.Bool.Decides.{nat_tests}
 use Rattle.std.specs.Cmp.{nat_eq_equiv}
 use Rattle.std.specs.List.{IsDistinct}
 use Rattle.std.specs.Map.{keys_of, lookup, lookup_entry, remove_entry}
-use Rattle.std.specs.Option.{option_map_or}
+use Rattle.std.specs.Option.{option_map_or, option_or}
 use Rattle.std.proofs.lemmas.Map.{lookup-remove_entry}
 use Rattle.lru.specs.LruCache.{LruCache, lru_cache, promoted, put_entries}
 use Rattle.lru.proofs.CallerLemmas.{Contains-lookup, Contains-promoted, Contains-remove_entry, Contains-take}
 use Rattle.lru.proofs.Matching.{none_found}
 use Rattle.lru.proofs.Pairs.{lookup-lookup_entry}
-use Rattle.lru.proofs.Splits.{Contains-cons}
+use Rattle.lru.proofs.Splits.{Contains-cons, Contains-nil}
 use Rattle.mb_kinds.specs.Image.{Image}
 use Rattle.mb_edge.specs.Blocks.{GivesBlock, WritesBlock}
 use Rattle.mb_cache.specs.Clean.{AreClean, Rereads, fronted, most_clean}
 use Rattle.mb_cache.specs.Pages.{PageList, page_at}
+use Rattle.mb_cache.specs.State.{CacheState, ReadsThrough}
 use Rattle.mb_cache.specs.declared.answers.ReadFault.{ReadFault}
 
 -- ---- a block without a clean page
@@ -50,6 +51,23 @@ pub rereads_missing : {D : Type 0} (clean mid : PageList) (block : ℕ) (disk le
 rereads_missing clean mid block disk left kept result none first it =
     subst (λ found. Rereads None found block disk clean left kept result) (sym none)
     (subst (λ pages. Rereads None None block disk pages left kept result) (first ∙ promoted_missing clean block none) it)
+
+-- ---- a block that is read where there was no clean page
+
+first_read : {D : Type 0} (paged : Option (List ℕ)) (block : ℕ) (disk left : D) (kept : PageList) (result : Result (List ℕ) ReadFault) → Rereads paged None block disk [] left kept result → (page : ℕ × List ℕ) → Contains kept page → page.0 ≡ block
+first_read (Some bytes) block disk left kept result it page has = absurd (Contains-nil page (subst (λ pages. Contains pages page) it.1 has))
+first_read None block disk left kept (Ok bytes) (inl first) page has =
+    elim (Contains-cons (block, bytes) (take (most_clean - 1) []) page (subst (λ pages. Contains pages page) first has)) [
+      | inl is ↦ ap (λ (p : ℕ × List ℕ). p.0) (sym is)
+      | inr later ↦ absurd (Contains-nil page (Contains-take (most_clean - 1) [] page later))
+    ]
+first_read None block disk left kept (Ok bytes) (inr same) page has = absurd (Contains-nil page (subst (λ pages. Contains pages page) same has))
+first_read None block disk left kept (Err fault) same page has = absurd (Contains-nil page (subst (λ pages. Contains pages page) same has))
+
+-- a read of a block then leaves no clean page but its own
+pub reads_first : {D : Type 0} (old new : CacheState D) (block : ℕ) (result : Result (List ℕ) ReadFault) → old.room.clean ≡ [] → ReadsThrough old new block result → (page : ℕ × List ℕ) → Contains new.room.clean page → page.0 ≡ block
+reads_first old new block result none it = first_read (option_or (page_at old.current block) (page_at old.sealed block)) block old.disk new.disk new.room.clean result
+    (subst (λ clean. Rereads (option_or (page_at old.current block) (page_at old.sealed block)) (page_at clean block) block old.disk clean new.disk new.room.clean result) none it)
 
 -- ---- what clean pages hold
 

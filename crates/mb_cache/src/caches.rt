@@ -4,6 +4,7 @@ ghost use Rattle.mb_kinds.specs.Image.{Image};
 ghost use Rattle.mb_cache.specs.Clean.{AreClean, Rereads, read_as};
 ghost use Rattle.mb_cache.specs.Pages.{WritesAtMost, page_at, under, count_covered, installed, page_stroke, pages_damaged};
 ghost use Rattle.mb_cache.specs.Stamps.{LowersOne, RaisesOne, stamp_of, raised_by};
+ghost use Rattle.mb_cache.specs.declared.answers.ReadFault.TheVariants as fault;
 ghost use Rattle.mb_cache.specs.State.{after_reads, fresh_cache, moved_room, seen, Flushes, ReadHasCause, ReadsBelow, ReadsThrough, with_pins};
 
 use crate::answers::{Flushed, ReadFault};
@@ -86,13 +87,14 @@ impl<D: Disk> Cache<D> {
     }
 
     /// A block as it is seen: its current page, else its checkpointed one, else the disk's block. A block that has a clean
-    /// page is not read from the disk; one that is read gets a clean page, where memory suffices. `Device` comes only where
-    /// the disk's count of faults rose; `bytes` may then hold anything.
+    /// page is not read from the disk; one that is read gets a clean page, where memory suffices. The only error is `Device`,
+    /// and it comes only where the disk's count of faults rose; `bytes` may then hold anything.
     pub fn read(&mut self, block: u32, bytes: &mut [u8; 512]) -> Result<(), ReadFault>
         ensures bytes { OnOk result (IfSome (seen D.told self.old) (λ view. bytes.new ≡ view.at block)) }
         ensures rest { self.new ≡ after_reads self.old self.new }
         ensures told { D.told self.new.disk ≡ D.told self.old.disk }
         ensures cause { ReadHasCause (D.faults self.old.disk) (D.faults self.new.disk) result }
+        ensures only { IfErr result (λ cause. cause ≡ fault.Device) }
         ensures clean { ReadsThrough self.old self.new block (read_as result bytes.new) }
         ensures held { AreClean (D.told self.new.disk) self.new.room.clean }
     {
@@ -109,6 +111,7 @@ impl<D: Disk> Cache<D> {
         ensures rest { self.new ≡ after_reads self.old self.new }
         ensures told { D.told self.new.disk ≡ D.told self.old.disk }
         ensures cause { ReadHasCause (D.faults self.old.disk) (D.faults self.new.disk) result }
+        ensures only { IfErr result (λ cause. cause ≡ fault.Device) }
         ensures clean { ReadsBelow self.old self.new block (read_as result bytes.new) }
         ensures held { AreClean (D.told self.new.disk) self.new.room.clean }
     {
@@ -125,6 +128,7 @@ impl<D: Disk> Cache<D> {
         ensures rest { self.new ≡ after_reads self.old self.new }
         ensures told { D.told self.new.disk ≡ D.told self.old.disk }
         ensures cause { ReadHasCause (D.faults self.old.disk) (D.faults self.new.disk) result }
+        ensures only { IfErr result (λ cause. cause ≡ fault.Device) }
         ensures clean { Rereads None None block self.old.disk self.old.room.clean self.new.disk self.new.room.clean (read_as result bytes.new) }
         ensures held { AreClean (D.told self.new.disk) self.new.room.clean }
     {

@@ -1,4 +1,4 @@
-ghost use Rattle.std.specs.Prelude.{◌≡◌, ◌≤◌, ◌<◌, ◌+◌, ◌-◌, ◌∷◌, ◌++◌, [], ℕ, List, length, drop, OnOk, IsOk, IfSome, IfNone, Some, None, option_copied, nat_eq};
+ghost use Rattle.std.specs.Prelude.{◌≡◌, ◌≤◌, ◌<◌, ◌+◌, ◌-◌, ◌∷◌, ◌++◌, [], ℕ, List, length, drop, OnOk, IsOk, IfSome, IfNone, Some, None, option_copied, nat_eq, slice_get};
 ghost use Rattle.std.specs.List.{IsDistinct};
 ghost use Rattle.std.specs.Map.{keys_of};
 ghost use Rattle.indexmap.specs.IndexMap.{insert_entry};
@@ -69,6 +69,7 @@ impl Copies {
     /// The copy of a block, with the place where it stands, counted from 0; `None` exactly where there is none.
     pub fn find(&self, block: u32) -> Option<(usize, &KeptBlock)>
         ensures found { IfSome result (λ found. kept_at self.now.items block ≡ Some found.1.now) }
+        ensures place { IfSome result (λ found. slice_get (keys_of self.now.items) found.0 ≡ Some block) }
         ensures none { IfNone result (kept_at self.now.items block ≡ None) }
     {
         match self.numbers.find(block) {
@@ -88,7 +89,9 @@ impl Copies {
     }
 
     /// The blocks, in their order.
-    pub fn numbers(&self) -> &[u32] {
+    pub fn numbers(&self) -> &[u32]
+        ensures keys { result.now ≡ keys_of self.now.items }
+    {
         self.numbers.as_slice()
     }
 

@@ -1,4 +1,4 @@
-ghost use Rattle.std.specs.Prelude.{◌≡◌, ◌/◌, ◌<◌, ◌≤◌, ◌||◌, Some, IfOk, IsOk, OnOk, length, nat_le};
+ghost use Rattle.std.specs.Prelude.{◌≡◌, ◌/◌, ◌<◌, ◌≤◌, ◌||◌, Some, IfOk, IsOk, OnErr, OnOk, length, nat_le};
 ghost use Rattle.std.specs.Result.{is_err};
 ghost use Rattle.mb_edge.specs.Blocks.{CountsBlocks, GivesBlock, IsBlock, WritesBlock, image_of, image_of-past, image_of-sized};
 ghost use Rattle.mb_edge.specs.Causes.{HasCause};
@@ -96,7 +96,7 @@ impl Disk for SureDisk {
 }
 
 /// A disk in memory whose stated calls fail. Its room is taken when it is made, and a write past the room is
-/// a fault. A write that fails changes nothing.
+/// a fault. A write that fails changes no byte.
 #[derive(Drop)]
 pub struct MemDisk {
     store: Store,
@@ -187,6 +187,7 @@ impl Disk for MemDisk {
         ensures cause { HasCause self.old.faults self.new.faults result }
         ensures due { is_err result ≡ (is_due self.old.writes || nat_le self.old.room block) }
         ensures next { self.new ≡ record self.old { bytes = self.new.bytes; writes = after_call self.old.writes; faults = self.new.faults } }
+        ensures kept { OnErr result (self.new.bytes ≡ self.old.bytes) }
     {
         if self.writes.next_fails() || block >= self.store.room() {
             self.faults = self.faults.saturating_add(1);

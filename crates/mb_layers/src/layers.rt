@@ -145,6 +145,7 @@ impl Layers {
     /// Takes the last sealed page out, where there is one; needs no memory.
     pub fn drop_last(&mut self)
         ensures sealed { (front : PageList) (page : ℕ × List ℕ) → self.old.sealed ≡ front ++ page ∷ [] → self.new.sealed ≡ front }
+        ensures none { self.old.sealed ≡ [] → self.new.sealed ≡ [] }
         ensures current { self.new.current ≡ self.old.current }
         ensures spare { self.old.spare ≤ self.new.spare }
         ensures writes { WritesAtMost self.old.writes self.new.writes 8 }

@@ -1,6 +1,6 @@
 ghost use Rattle.std.specs.Prelude.{◌≡◌, Some, None, [], option_map};
 ghost use Rattle.mb_edge.specs.Hooks.{AnswersTest, HasFaultCause, strokes_at, struck_by};
-ghost use Rattle.mb_edge.specs.declared.hooks.Word.TheVariants.{Fault};
+ghost use Rattle.mb_edge.specs.declared.hooks.Word.TheVariants.{Fault, Go};
 ghost use Rattle.mb_plan.specs.Fires.{damage_at, fires};
 
 use crate::marked::MarkedRules;
@@ -63,6 +63,7 @@ impl<'a> Hook for PlanHook<'a> {
         ensures cause { HasFaultCause self.old.faults self.new.faults result }
         ensures strokes { self.new.strokes ≡ damage_at self.old.rules at.now }
         ensures rules { self.new.rules ≡ self.old.rules }
+        ensures calm { result ≡ Go → self.new.faults ≡ self.old.faults }
     {
         match self.rules.first_that_fires(at) {
             Some(rule) => {
