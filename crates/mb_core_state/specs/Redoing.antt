@@ -1,6 +1,7 @@
 -- What the steps of a recovery that read come to: the start of the file system, where the log is folded, and an operation of
 -- the log that is done again.
 use Rattle.std.specs.Prelude.{List, ℕ, ◌<◌, ◌≡◌, Option, None, Some, slice_get}
+use Rattle.std.specs.List.{Contains}
 use Rattle.mb_kinds.specs.Image.{Image}
 use Rattle.mb_kinds.specs.declared.entries.Flight.{Flight}
 use Rattle.mb_kinds.specs.declared.replies.Reply.TheVariants as reply
@@ -17,7 +18,7 @@ use Rattle.mb_iface.specs.Acting.{Acts}
 use Rattle.mb_kinds.specs.Changed.{AreChanges, ChangeList}
 use Rattle.mb_iface.specs.declared.replies.Acted.TheVariants as acted
 use Rattle.mb_oplog.specs.declared.oplogs.Logged.{Logged}
-use Rattle.mb_cache.specs.Pages.{installed, under}
+use Rattle.mb_cache.specs.Pages.{PageList, installed, under}
 use Rattle.mb_cache.specs.Stamps.{raised_by}
 use Rattle.mb_cache.specs.State.{CacheState, seen}
 use Rattle.mb_cache.specs.declared.answers.ReadFault.{ReadFault}
@@ -59,8 +60,13 @@ FailsStep faults old new by fault.Device = Rose (faults old.cache.disk) (faults 
 
 -- ---- the file system is started anew
 
+-- of what was read before nothing is kept: the only clean page is of block 1
+abbrev pub IsReadAnew : PageList → Type 0
+IsReadAnew clean = (page : ℕ × List ℕ) → Contains clean page → page.0 ≡ 1
+
 -- and the log was folded
 pub record IsRemounted {F D : Type 0} (old new : CoreState F D) : Type 0 where
+  pub anew : IsReadAnew new.cache.room.clean
   pub folds : picked_ops new.journal.oplog ≡ folded (picked_ops old.journal.oplog)
   pub event : new ≡ with_room (remounting old new.cache.disk new.journal.oplog) new
 

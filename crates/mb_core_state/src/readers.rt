@@ -42,7 +42,7 @@ impl<F: FileSys, D: Disk> Fields<F, D> {
         self.journal.sealed_at()
     }
 
-    /// How many operations were logged since the last checkpoint.
+    /// How many operations the log has: those since the last checkpoint, as they were logged or folded.
     pub fn logged(&self) -> u32
         requires { length self.now.journal.oplog < 4294967296 }
         ensures { result ≡ length self.now.journal.oplog }

@@ -6,7 +6,7 @@ ghost use Rattle.mb_core_spec.specs.Events.{Leaves, with_room};
 ghost use Rattle.mb_core_spec.specs.Numbers.{open_flight};
 ghost use Rattle.mb_core_state.specs.Mine.{HasMine, OfMine};
 ghost use Rattle.mb_core_state.specs.Answers.{with_disk, with_read};
-ghost use Rattle.mb_core_state.specs.Redoing.{EndsByDevice, FailsStep, HasOpenRoom, IsRemounted, ReplaysNext, StaysBut, ActsSeenFor, IsRedoneFor, IsReplayedFor};
+ghost use Rattle.mb_core_state.specs.Redoing.{EndsByDevice, FailsStep, HasOpenRoom, IsReadAnew, IsRemounted, ReplaysNext, StaysBut, ActsSeenFor, IsRedoneFor, IsReplayedFor};
 ghost use Rattle.mb_core_state.specs.Rooms.{HasPins};
 
 use crate::acting::act_seen;
@@ -51,6 +51,18 @@ impl<F: FileSys, D: Disk> Fields<F, D> {
 }
 
 impl<F: FileSys, D: Disk> Fields<F, D> {
+    /// Nothing is kept of what was read, and block 1 is read. `Device` comes only where the disk's count of faults rose.
+    #[tactic(auto, using(crate::proofs::Kept::still_seen))]
+    fn read_anew(&mut self) -> Result<(), ReadFault>
+        ensures rest { self.new ≡ with_read self.old self.new.cache }
+        ensures told { D.told self.new.cache.disk ≡ D.told self.old.cache.disk }
+        ensures cause { ReadHasCause (D.faults self.old.cache.disk) (D.faults self.new.cache.disk) result }
+        ensures anew { IsReadAnew self.new.cache.room.clean }
+    {
+        self.cache.forget_clean();
+        self.cache.read(1, &mut [0; 512])
+    }
+
     /// Nothing is kept of what was read, block 1 is read, and the log is folded. `Device` comes only where the disk's count
     /// of faults rose; on an error nothing has changed but the disk.
     #[tactic(auto, using(crate::proofs::Kept::still_seen))]
@@ -63,9 +75,7 @@ impl<F: FileSys, D: Disk> Fields<F, D> {
         ensures room { self.old.journal.room.history ≤ self.new.journal.room.history }
     {
         self.journal.reserve_steps(1)?;
-        self.cache.forget_clean();
-        let mut block = [0; 512];
-        self.cache.read(1, &mut block)?;
+        self.read_anew()?;
         self.journal.fold(alloc)?;
         self.journal.mark(Step::Remounted);
         self.stage = Stage::Remounted;
