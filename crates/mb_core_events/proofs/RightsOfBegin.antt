@@ -47,7 +47,7 @@ use Rattle.mb_core_order.proofs.Overlays.{same_some, under_held}
 use Rattle.mb_core_order.proofs.Redoing.{counts_are}
 use Rattle.mb_core_state.specs.Opening.{ActsOnNameless}
 use Rattle.mb_core_state.specs.Rooms.{fresh_cache}
-use Rattle.mb_core_events.specs.Beginning.{IsBegunOver, IsSweptIf}
+use Rattle.mb_core_events.specs.Beginning.{IsBegunOver, IsSweptIf, IsUnswept}
 use Rattle.mb_core_spec.specs.Right.{Right}
 use Rattle.mb_core_order.proofs.Begins.{right_begins}
 use Rattle.mb_tree.proofs.Opened.{opening_valid}
@@ -183,3 +183,13 @@ begun_right told faults fs given config core over may = subst (Right told faults
 pub names_told : (o : Option Image) (scan : Scan) → IfSome o (λ image. IsSoundAs image scan) → IfSome o (λ image. IsVolume image (tree_of image) × (scan.nameless ≡ nameless_in (tree_of image)))
 names_told None scan is = tt
 names_told (Some image) scan is = (is.volume, is.tells.nameless)
+
+-- nothing was to be reclaimed: no page waits
+pub unswept_begins : {F D : Type 0} (told : D → Option Image) (old new : CoreState F D) (inos : List ℕ) → old.cache.sealed ≡ [] → IsSweptIf told old new inos → (o : Option Image)
+    → IfSome o (λ image. IsVolume image (tree_of image) × (inos ≡ nameless_in (tree_of image))) → IsUnswept o new.cache.sealed
+unswept_begins told old new inos fresh swept None names = tt
+unswept_begins told old new inos fresh (inl none) (Some image) names = λ is. ap (λ (core : CoreState _ _). core.cache.sealed) none.1 ∙ fresh
+unswept_begins told old new inos fresh (inr some) (Some image) names = λ is.
+    let none : length inos ≡ 0 = ap length (names.1 ∙ is) in
+    let some = some.0 in
+    absurd (omega (arith, none, some))

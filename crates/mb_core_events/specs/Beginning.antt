@@ -5,9 +5,10 @@ use Rattle.mb_kinds.specs.Image.{Image}
 use Rattle.mb_tree.specs.Volume.{IsVolume}
 use Rattle.mb_edge.specs.Causes.{Rose}
 use Rattle.mb_rules.specs.TreeOf.{tree_of}
-use Rattle.mb_check.specs.Whole.{IsScanned}
+use Rattle.mb_check.specs.Whole.{IsScanned, nameless_in}
 use Rattle.mb_check.specs.declared.scans.OpenFault.{OpenFault}
 use Rattle.mb_check.specs.declared.scans.OpenFault.TheVariants.{Device, NoMemory}
+use Rattle.mb_cache.specs.Pages.{PageList}
 use Rattle.mb_cache.specs.declared.answers.ReadFault.{ReadFault}
 use Rattle.mb_cache.specs.declared.answers.ReadFault.TheVariants as read
 use Rattle.mb_core_spec.specs.Begun.{begun_core}
@@ -31,6 +32,10 @@ pub record IsBegunOver {F D : Type 0} (told : D → Option Image) (faults : D �
 -- what the disk tells is a volume of the tree that its bytes show
 abbrev pub TellsVolume : Option Image → Type 0
 TellsVolume told = IfSome told (λ image. IsVolume image (tree_of image))
+
+-- where no file is nameless, no page waits to be written
+abbrev pub IsUnswept : Option Image → PageList → Type 0
+IsUnswept told sealed = IfSome told (λ image. nameless_in (tree_of image) ≡ [] → sealed ≡ [])
 
 -- the scan says which rule is broken first; a fault of the device has its cause; and the disk given back tells what it told
 pub record IsRefused {D : Type 0} (told : D → Option Image) (faults : D → ℕ) (disk : D) (fault : OpenFault) (back : D) : Type 0 where

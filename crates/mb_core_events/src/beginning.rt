@@ -1,7 +1,7 @@
 ghost use Rattle.std.specs.Prelude.{◌≡◌, [], IfErr, IfOk, OnOk};
 ghost use Rattle.std.specs.FinMap as fin;
 ghost use Rattle.mb_cache.specs.State.{ReadHasCause};
-ghost use Rattle.mb_core_events.specs.Beginning.{IsBegunOver, IsRefused, IsSweptIf, TellsVolume, refused_by};
+ghost use Rattle.mb_core_events.specs.Beginning.{IsBegunOver, IsRefused, IsSweptIf, IsUnswept, TellsVolume, refused_by};
 ghost use Rattle.mb_core_spec.specs.Bounds.{IsConfig};
 ghost use Rattle.mb_core_spec.specs.Conditions.{MayBegin};
 ghost use Rattle.mb_core_spec.specs.Right.{Right};
@@ -25,11 +25,13 @@ pub struct Refusal<D: Disk> {
 impl<F: FileSys, D: Disk> Core<F, D> {
     /// A core begins over a disk: the image is scanned, and its nameless files are reclaimed. A refusal gives the disk back,
     /// which tells what it told: `Unsound` with the first broken rule in the order of the scan and its block, `Device` only
-    /// where the disk's count of faults rose, `NoMemory` for want of memory. Nothing is written.
+    /// where the disk's count of faults rose, `NoMemory` for want of memory. Nothing is written, and
+    /// where no file is nameless no page waits to be written.
     pub fn begin(alloc: Global, fs: F, disk: D, config: Config) -> Result<Core<F, D>, Refusal<D>>
         requires { IsConfig config }
         ensures begun { IfOk result (IsBegunOver D.told D.faults fs disk config) }
         ensures volume { IfOk result (λ core. TellsVolume (D.told disk)) }
+        ensures unswept { IfOk result (λ core. IsUnswept (D.told disk) core.cache.sealed) }
         ensures right { IfOk result (Right D.told D.faults) }
         ensures refused { IfErr result (λ refusal. IsRefused D.told D.faults disk refusal.fault refusal.disk) }
     {
@@ -49,6 +51,7 @@ fn begun_fields<F: FileSys, D: Disk>(
     ensures begun { IfOk result (IsBegunOver D.told D.faults fs disk config) }
     ensures may { IfOk result (λ core. MayBegin D.told D.faults core.first config core.cache fin.empty) }
     ensures volume { IfOk result (λ core. TellsVolume (D.told disk)) }
+    ensures unswept { IfOk result (λ core. IsUnswept (D.told disk) core.cache.sealed) }
     ensures refused { IfErr result (λ refusal. IsRefused D.told D.faults disk refusal.fault refusal.disk) }
 {
     let Scan {

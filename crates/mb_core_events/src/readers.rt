@@ -43,7 +43,7 @@ impl<F: FileSys, D: Disk> Core<F, D> {
         self.fields.sealed_at()
     }
 
-    /// How many operations were logged since the last checkpoint.
+    /// How many operations the log has: those since the last checkpoint, as they were logged or folded.
     pub fn logged(&self) -> u32
         ensures { result ≡ length self.now.journal.oplog }
     {

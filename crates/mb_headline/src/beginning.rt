@@ -1,5 +1,5 @@
 ghost use Rattle.std.specs.Prelude.{◌≡◌, ◌≤◌, length, IfOk, IfErr};
-ghost use Rattle.mb_core_events.specs.Beginning.{IsRefused, TellsVolume};
+ghost use Rattle.mb_core_events.specs.Beginning.{IsRefused, IsUnswept, TellsVolume};
 ghost use Rattle.mb_headline.specs.Headline.{IsConfigOf};
 ghost use Rattle.mb_headline.specs.Laws.{IsBegunFor, IsFitJob};
 ghost use Rattle.mb_run.specs.CoreSight.{sight_of};
@@ -27,6 +27,7 @@ pub fn begin_for<F: FileSys, D: Disk>(
     ensures begun { IfOk result (λ core. IsBegun job.now (sight_of core)) }
     ensures over { IfOk result (IsBegunFor D.told D.faults fs job.now disk) }
     ensures volume { IfOk result (λ core. TellsVolume (D.told disk)) }
+    ensures unswept { IfOk result (λ core. IsUnswept (D.told disk) core.cache.sealed) }
     ensures refused { IfErr result (λ refusal. IsRefused D.told D.faults disk refusal.fault refusal.disk) }
 {
     let Ok(config) = config_of(alloc, job) else {
