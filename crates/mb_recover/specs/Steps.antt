@@ -103,7 +103,7 @@ Plainly old new stepped.Idle = (phase_now old ≡ phase.Idle) × (new ≡ old)
 Plainly old new (stepped.Unwound ticket) = (phase_now old ≡ phase.Unwind) × Unwinds old new ticket
 Plainly old new stepped.Reopened = (phase_now old ≡ phase.Reopen) × (new ≡ with_room (reopening old new.tables.opens) new) × TellsCounts new.tables.opens (counts old.tables.saved)
 Plainly old new stepped.Resumed = (phase_now old ≡ phase.Resume) × (new ≡ with_room (resuming old) new)
-Plainly old new stepped.NoMemory = new ≡ with_room old new
+Plainly old new stepped.NoMemory = ((phase_now old ≡ phase.Reopen) ⊎ (phase_now old ≡ phase.Resume)) × (new ≡ with_room old new)
 Plainly old new _ = ⊥
 
 -- what a step comes to
@@ -115,6 +115,12 @@ abbrev pub CountsAt : Phase → Option Crossings → Option Crossings → Type 0
 CountsAt phase.Remount old new = new ≡ counted_if Remount old
 CountsAt (phase.Replay number) old new = new ≡ counted_if Replay old
 CountsAt _ old new = new ≡ old
+
+-- the hook is asked at a fault point alone, and for a call alone
+abbrev pub AsksAt : {H : Type 0} → Phase → Option Crossings → H → H → Type 0
+AsksAt phase.Remount by old new = by ≡ None → new ≡ old
+AsksAt (phase.Replay number) by old new = by ≡ None → new ≡ old
+AsksAt _ by old new = new ≡ old
 
 -- the hook's test, where it tells one, does not hold at the next crossing of a kind
 abbrev pub IsUnfired : Option (Crossing → Bool) → Kind → Crossings → Type 0

@@ -1,5 +1,5 @@
 ghost use Rattle.std.specs.Prelude.{◌≡◌, ◌≤◌, ◌⊎◌, true, None, Some, IfSome, length};
-ghost use Rattle.mb_recover.specs.Steps.{CountsAt, Drops, HasStruckCause, IsMet, IsStruck, IsUnfired, IsUnheard, PassesLimit, Recovers, Remounts, Replays, RunsFor, caller_of, counted_if, next_if};
+ghost use Rattle.mb_recover.specs.Steps.{AsksAt, CountsAt, Drops, HasStruckCause, IsMet, IsStruck, IsUnfired, IsUnheard, PassesLimit, Recovers, Remounts, Replays, RunsFor, caller_of, counted_if, next_if};
 ghost use Rattle.mb_core_events.specs.Callings.{HasCall, MayMeetFault, phase_now};
 ghost use Rattle.mb_edge.specs.Causes.{Rose};
 ghost use Rattle.mb_edge.specs.declared.crossings.Crossings.{Crossings};
@@ -41,8 +41,8 @@ pub enum Stepped {
 
 /// Makes the next step of a recovery. `by` holds the crossings of the call that runs the step, which is in flight and has
 /// no entry; where it is `None` no hook is asked. The start of the file system and each operation that is done again are
-/// fault points: there the hook is asked first, at the next crossing of that kind. Its count of faults never falls, and rose
-/// where the recovery was struck.
+/// fault points: there alone the hook is asked, before all else, at the next crossing of that kind. Its count of faults never
+/// falls, and rose where the recovery was struck.
 pub fn recover_step<F: FileSys, D: Disk, H: Hook>(
     alloc: Global,
     core: &mut Core<F, D>,
@@ -53,6 +53,7 @@ pub fn recover_step<F: FileSys, D: Disk, H: Hook>(
     ensures recovers { Recovers D.told D.faults core.old core.new by.old (H.test hook.old) (H.strokes hook.new) result }
     ensures later { D.faults core.old.cache.disk ≤ D.faults core.new.cache.disk }
     ensures counted { CountsAt (phase_now core.old) by.old by.new }
+    ensures asked { AsksAt (phase_now core.old) by.old hook.old hook.new }
     ensures heard { IsUnheard (H.test hook.old) (H.struck hook.new) by.old result }
     ensures cause { HasStruckCause (phase_now core.old) (H.faults hook.old) (H.faults hook.new) result }
     ensures test { H.test hook.new ≡ H.test hook.old }
@@ -103,6 +104,7 @@ fn remount<F: FileSys, D: Disk, H: Hook>(
         ⊎ IsMet core.old core.new by.old (H.test hook.old) (H.strokes hook.new) result }
     ensures later { D.faults core.old.cache.disk ≤ D.faults core.new.cache.disk }
     ensures counted { by.new ≡ counted_if Kind.Remount by.old }
+    ensures unasked { by.old ≡ None → hook.new ≡ hook.old }
     ensures heard { IsUnheard (H.test hook.old) (H.struck hook.new) by.old result }
     ensures cause { HasStruckCause (phase_now core.old) (H.faults hook.old) (H.faults hook.new) result }
     ensures test { H.test hook.new ≡ H.test hook.old }
@@ -132,6 +134,7 @@ fn replay<F: FileSys, D: Disk, H: Hook>(
         ⊎ IsMet core.old core.new by.old (H.test hook.old) (H.strokes hook.new) result }
     ensures later { D.faults core.old.cache.disk ≤ D.faults core.new.cache.disk }
     ensures counted { by.new ≡ counted_if Kind.Replay by.old }
+    ensures unasked { by.old ≡ None → hook.new ≡ hook.old }
     ensures heard { IsUnheard (H.test hook.old) (H.struck hook.new) by.old result }
     ensures cause { HasStruckCause (phase_now core.old) (H.faults hook.old) (H.faults hook.new) result }
     ensures test { H.test hook.new ≡ H.test hook.old }
@@ -167,6 +170,7 @@ fn caller_of(by: &Option<Crossings>) -> Option<u8>
 /// Asks the hook at the next crossing of that kind, which is counted: the crossing, where the hook faults there.
 fn meets<H: Hook>(by: &mut Option<Crossings>, hook: &mut H, kind: Kind) -> Option<Crossing>
     ensures counted { by.new ≡ counted_if kind by.old }
+    ensures unasked { by.old ≡ None → hook.new ≡ hook.old }
     ensures met { IfSome result (λ at. (at.kind ≡ kind) × (next_if kind by.old ≡ Some at) × (H.struck hook.new ≡ Some at)) }
     ensures tested { IfSome result (λ at. IfSome (H.test hook.old) (λ fires. fires at ≡ true)) }
     ensures heard { IfSome by.old (λ (passed : Crossings). H.struck hook.new ≡ result) }

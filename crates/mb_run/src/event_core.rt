@@ -1,4 +1,4 @@
-ghost use Rattle.std.specs.Prelude.{◌≡◌, ◌<◌, ◌≤◌, ℕ, Some, false, true, IfSome, OnErr, OnOk};
+ghost use Rattle.std.specs.Prelude.{◌≡◌, ◌<◌, ◌≤◌, ℕ, None, Some, false, true, IfSome, OnErr, OnOk};
 ghost use Rattle.mb_core_spec.specs.declared.stages.Stage.TheVariants as stage;
 ghost use Rattle.mb_cache.specs.declared.answers.Flushed.TheVariants as flushed;
 ghost use Rattle.mb_edge.specs.Causes.{Rose};
@@ -149,6 +149,7 @@ pub trait EventCore {
         requires by { IfSome by.old (RunsForFlight (sight self.old)) }
         requires right { IsOrderlyInSight (sight self.old) }
         ensures on { GoOn by.old by.new }
+        ensures unasked { by.old ≡ None → hook.new ≡ hook.old }
         ensures test { H.test hook.new ≡ H.test hook.old }
         ensures steps { Steps (H.test hook.old) by.old by.new (sight self.old) (sight self.new) result }
         ensures rises { RisesWith (H.faults hook.old) (H.faults hook.new) (sight self.old).records (sight self.new).records }

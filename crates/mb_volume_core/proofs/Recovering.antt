@@ -34,7 +34,7 @@ use Rattle.mb_core_state.specs.declared.answers.Phase.{Phase}
 use Rattle.mb_core_state.specs.declared.answers.Phase.TheVariants as phase
 use Rattle.mb_core_events.specs.Callings.{Unwinds, phase_now}
 use Rattle.mb_core_events.proofs.Phases.{drops_at, remounts_at, reopens_at, replays_at, resumes_at, unwinds_at}
-use Rattle.mb_recover.specs.Steps.{CountsAt, Drops, IsMet, IsPointOf, IsUnfired, IsUnheard, Plainly, Recovers, Remounts, Replays, RunsFor as HasFor, caller_of, counted_if, next_if, next_of, striking_at}
+use Rattle.mb_recover.specs.Steps.{AsksAt, CountsAt, Drops, IsMet, IsPointOf, IsUnfired, IsUnheard, Plainly, Recovers, Remounts, Replays, RunsFor as HasFor, caller_of, counted_if, next_if, next_of, striking_at}
 use Rattle.mb_recover.specs.declared.steps.Stepped.{Stepped as Recovered}
 use Rattle.mb_recover.specs.declared.steps.Stepped.TheVariants as recovered
 use Rattle.mb_run.specs.CoreSight.{seat_of, sight_of}
@@ -262,7 +262,7 @@ module _ {F D : Type 0} (told : D → Option Image) (faults : D → ℕ) (core :
           ),
           ap origin_of is.1,
         )
-    plain_comes recovered.NoMemory is = (ap sight_of is, ap origin_of is)
+    plain_comes recovered.NoMemory is = (ap sight_of is.1, ap origin_of is.1)
     plain_comes (recovered.Failed count) is = absurd is
     plain_comes recovered.Dropped is = absurd is
     plain_comes recovered.Remounted is = absurd is
@@ -489,3 +489,13 @@ module _ {F D : Type 0} (faults : D → ℕ) (core new : CoreState F D) where
   pub stands_at : (told : D → Option Image) (by : Option Crossings) (test : Option (Crossing → Bool)) (strokes : List Stroke) (answer : Recovered) → IfSome by (HasFor core) → Recovers told faults core new by test strokes answer → stepped_as answer ≡ stepped.Device
       → ComesNoFurther (sight_of core) (sight_of new)
   stands_at told by test strokes answer runs is told_so = device_stands told by test strokes runs (subst (Recovers told faults core new by test strokes) (is_device answer told_so) is)
+
+-- for nobody no hook is asked
+pub unasked_at : {H : Type 0} (by : Option Crossings) (old new : H) (now : Phase) → AsksAt now by old new → by ≡ None → new ≡ old
+unasked_at by old new phase.Idle asks none = asks
+unasked_at by old new phase.Unwind asks none = asks
+unasked_at by old new phase.Drop asks none = asks
+unasked_at by old new phase.Remount asks none = asks none
+unasked_at by old new phase.Reopen asks none = asks
+unasked_at by old new (phase.Replay number) asks none = asks none
+unasked_at by old new phase.Resume asks none = asks

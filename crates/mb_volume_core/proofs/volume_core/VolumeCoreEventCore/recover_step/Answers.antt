@@ -2,9 +2,10 @@ use Rattle.std.proofs.Common.{◌∙◌, sym, subst}
 use Rattle.mb_run.specs.CoreSight.{sight_of}
 use Rattle.mb_run.specs.Recovering.{RunsForFlight, Steps}
 use Rattle.mb_run.specs.declared.answers.Stepped.{Stepped}
+use Rattle.mb_core_events.specs.Callings.{phase_now}
 use Rattle.mb_run.proofs.InTime.{if_some_at, steps_time}
 use Rattle.mb_volume_core.proofs.Orderly.{orderly}
-use Rattle.mb_volume_core.proofs.Recovering.{comes, goes_on, has_for, rose_at, stands_at}
+use Rattle.mb_volume_core.proofs.Recovering.{comes, goes_on, has_for, rose_at, stands_at, unasked_at}
 use Rattle.mb_volume_core.proofs.Rising.{rises}
 use Rattle.mb_volume_core.proofs.volume_core.VolumeCoreEventCore.recover_step.Goals as goal
 
@@ -13,6 +14,9 @@ recover_step-stepped-requires g c = has_for c.args.self.now.core c.args.by.now c
 
 pub returns-clause-on : goal.returns-clause-on
 returns-clause-on g c = goes_on _ c.args.by.now c.recover_step-stepped.new.by c.counts_fit.ensures c.recover_step-stepped.ensures.counted
+
+pub returns-clause-unasked : goal.returns-clause-unasked
+returns-clause-unasked g c = unasked_at c.args.by.now c.args.hook.now c.recover_step-stepped.new.hook (phase_now c.args.self.now.core) c.recover_step-stepped.ensures.asked
 
 pub returns-clause-steps : goal.returns-clause-steps
 returns-clause-steps g c =
