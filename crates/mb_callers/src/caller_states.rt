@@ -119,7 +119,7 @@ impl CallerState {
         self.inside
     }
 
-    /// How often the present ticket was answered that a copy is stale.
+    /// How often the present ticket was answered that a copy is stale, counted up to four.
     pub fn stales(&self) -> u8
         ensures { result ≡ self.now.stales }
     {

@@ -10,8 +10,8 @@
 //! 0 stands for the tables (`specs/Stale.antt`), and `least_stale_block` says what its answers tell.
 //!
 //! What a call looks at is much like what the calls before it looked at, so `Pages` remember that: `foreseen` names such
-//! blocks before the call is performed first, and `foresee` adds them to what it asks for. These are guesses: no contract
-//! sees them.
+//! blocks before the call is performed first, and `foresee` adds them to what it asks for. Which blocks these are is a guess, of
+//! which no contract speaks.
 //!
 //! Room is kept from call to call: pages, copies, undo log and pins are emptied and not dropped, and of a copy of the tables
 //! that was given back the next one takes the room of the sessions, and the counts of open files as long as they are the same.

@@ -64,8 +64,8 @@ pub fn asks_threads(words: &Words) -> bool
     }
 }
 
-/// The word that names a command's image: the second one, or the third where the second is
-/// `--threads`; no bytes where there is none.
+/// The word that names a command's image: the second of two, the third of three or more whose second is `--threads`, and
+/// else the second; no bytes where there is none.
 pub fn image_name(words: &Words) -> &[u8]
     ensures { result.now ≡ image_in words.now }
 {

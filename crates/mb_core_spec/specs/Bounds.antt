@@ -24,7 +24,7 @@ abbrev pub StampsAreFew : Bool → ℕ → ℕ → ℕ → Stamps → Type 0
 StampsAreFew true entries faults again stamps = (block : ℕ) → stamp_of stamps block ≤ 1 + entries + 4294967296 * faults
 StampsAreFew false entries faults again stamps = (block : ℕ) → 4294967296 + stamp_of stamps block ≤ 1 + entries + 4294967296 * faults + again
 
--- what a core is begun with: one to eight callers, moments below 2 ^ 32, a checkpoint after 1 to 4,096 entries, and at most 255
+-- what a core is begun with: one to eight callers, moments below 2 ^ 32, a checkpoint at 1 to 4,096 logged operations, and at most 255
 -- faults to be recovered from
 pub record IsConfig (config : Config) : Type 0 where
   pub some : 1 ≤ length config.callers

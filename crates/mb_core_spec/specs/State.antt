@@ -45,7 +45,7 @@ pub record CallerState : Type 0 where
 
 -- a core: the disk as it was at the beginning, the file system, the page cache, the sessions and the table of open
 -- files, the journal, the callers, who has the right to commit alone, where the volume stands, how many faults struck
--- since the beginning (the incarnation), and what the core was begun with
+-- a running volume since the beginning (the incarnation), and what the core was begun with
 pub record CoreState (F D : Type 0) : Type 0 where
   pub first : D
   pub fs : F

@@ -7,7 +7,7 @@ pub struct Config {
     pub callers: Creds,
     /// The moment before the first call.
     pub start: u32,
-    /// After so many entries a checkpoint is due.
+    /// At so many operations of the log a checkpoint is due.
     pub threshold: u32,
     /// How many faults are recovered from.
     pub limit: u32,
