@@ -3,6 +3,7 @@ use Rattle.std.proofs.Common.{◌≡◌, List, [], ◌∷◌, ℕ, ◌+◌, Opti
 use Rattle.std.proofs.lemmas.Option.{slice_get_past}
 use Rattle.std.specs.List.{AllByRecursion}
 use Rattle.mb_core_spec.specs.Faults.{MayNumber, Says, is_device}
+use Rattle.mb_core_spec.specs.Numbers.{IsEntry}
 use Rattle.mb_core_spec.specs.Right.{Right}
 use Rattle.mb_core_spec.specs.State.{CoreState}
 use Rattle.mb_core_spec.specs.declared.stages.Stage.{Stage}
@@ -12,12 +13,14 @@ use Rattle.mb_kinds.specs.declared.replies.Reply.TheVariants as reply
 use Rattle.mb_run.specs.Calm.{AreAllPlain, HoldsNowhere}
 use Rattle.mb_run.specs.CoreSight.{seat_of, sight_of}
 use Rattle.mb_run.specs.Recovering.{crossing_of}
+use Rattle.mb_run.specs.Runs.{TakesWhereItEntered}
 use Rattle.mb_run.specs.Seals.{is_plain}
 use Rattle.mb_run.specs.Stales.{stales_beyond}
 use Rattle.mb_run.specs.Timely.{CountsStales}
 use Rattle.mb_run.proofs.Stales.{none_beyond}
 use Rattle.mb_kinds.specs.declared.entries.Flight.{Flight}
 use Rattle.mb_headline.proofs.Begun.{idle_seat}
+use Rattle.mb_headline.proofs.Running.{of_declared}
 use Rattle.mb_headline.specs.Laws.{IsBegunFor}
 use Rattle.mb_edge.specs.declared.crossings.Crossing.{Crossing}
 use Rattle.mb_jobs.specs.declared.jobs.Caller.{Caller}
@@ -40,9 +43,10 @@ rise_as_ordered None callers history letters rises = tt
 rise_as_ordered (Some order) callers history letters rises = rises letters
 
 -- what was taken by the plan's test was taken by the plan
-planned_taken : (order : Option (List ℕ)) (plan : List Rule) (sight : Sight) → TakesByOrder order (Some (fires plan)) sight → TakesPlanned order plan sight.history sight.records
-planned_taken None plan sight taken = taken
-planned_taken (Some order) plan sight taken = tt
+planned_taken : (order : Option (List ℕ)) (plan : List Rule) (sight : Sight) (start bound : ℕ) → AllByRecursion (IsEntry start bound sight.config.callers) sight.history → TakesByOrder order (Some (fires plan)) sight
+    → TakesPlanned order plan sight.history sight.records
+planned_taken None plan sight start bound are taken = taken
+planned_taken (Some order) plan sight start bound are taken = of_declared (TakesWhereItEntered (Some (fires plan)) sight.records) start bound sight.config.callers sight.config.callers sight.history refl are taken
 
 -- what was taken of checkpoints over a core that was begun without any records
 sealed_as_ordered : (order : Option (List ℕ)) (old new : Sight) → old.records ≡ [] → old.stage ≡ stage.Running → SealsByOrder order old new → SealsAsOrdered order new.records new.trail
@@ -123,7 +127,7 @@ module _ {F D : Type 0} (told : D → Option Image) (faults : D → ℕ) (fs : F
         (λ none device. plain_without driven.journal.records driven.config.limit driven.stage driven.journal.history (no_records job.plan driven.journal.records none drives.sound)
         right.orderly.numbered.few right.orderly.numbered.says device)
         (drives.enters runs bare);
-    taken = planned_taken job.order job.plan (sight_of driven) (drives.taken runs);
+    taken = planned_taken job.order job.plan (sight_of driven) _ _ right.orderly.numbered.entries (drives.taken runs);
     asked = sealed_as_ordered job.order (sight_of begun) (sight_of driven) no_faults runs drives.asks;
     patient = λ caller. (let low = (drives.seals.told counts).few caller in let none = ap (stales_beyond caller) bare ∙ none_beyond caller in omega (arith, low, none));
   }

@@ -1,5 +1,5 @@
 -- A job that was begun, driven and ended.
-use Rattle.std.proofs.Common.{◌≡◌, ◌≢◌, List, [], ◌∷◌, ℕ, suc, ◌≤◌, true, false, Option, None, Some, IsSome, length, slice_get, refl, ap, sym, subst, ◌∙◌, arith}
+use Rattle.std.proofs.Common.{◌≡◌, ◌≢◌, List, [], ◌∷◌, ℕ, ◌<◌, suc, ◌≤◌, true, false, Option, None, Some, IsSome, length, slice_get, refl, ap, sym, subst, ◌∙◌, arith}
 use Rattle.std.proofs.lemmas.List.{length-map}
 use Rattle.std.specs.List.{AllByRecursion}
 use Rattle.mb_core_order.proofs.Readings.{in_places}
@@ -23,7 +23,7 @@ use Rattle.mb_run.specs.Sights.{Seat, omitted_in, undue_in}
 use Rattle.mb_run.specs.Recovering.{crossing_of}
 use Rattle.mb_run.specs.Runs.{AreDistinct, AnswersFailed, HasRecords, IsStruckOnceIfPlain, NamesTwo}
 use Rattle.mb_run.specs.Seals.{AreAskedFor, AreInTime, omitted}
-use Rattle.mb_run.specs.Served.{AreApart, AreSoundBy, AreStruckOnce, IsApart, calls_in}
+use Rattle.mb_run.specs.Served.{AreApart, AreSoundBy, IsApart, calls_in}
 use Rattle.mb_tree.specs.History.{Legal}
 use Rattle.mb_tree.specs.Opening.{opening}
 use Rattle.mb_tree.specs.declared.trees.Tree.{Tree}
@@ -109,11 +109,12 @@ same_begun (mine ∷ now) (one ∷ old) each =
     omega (arith, first, rest)
 
 -- each entry is of a declared caller
-of_declared : (records : List FaultRecord) (start bound callers named : ℕ) (history : List Entry) → callers ≡ named → AllByRecursion (IsEntry start bound callers) history → AreStruckOnce named history records → AllByRecursion (IsStruckOnceIfPlain records) history
-of_declared records start bound callers named [] same are once = tt
-of_declared records start bound callers named (entry ∷ history) same are once = (
-  let low = are.0.caller in once.0 (omega (arith, low, same)),
-  of_declared records start bound callers named history same are.1 once.1,
+pub of_declared : (Fact : Entry → Type 0) (start bound callers named : ℕ) (history : List Entry) → callers ≡ named → AllByRecursion (IsEntry start bound callers) history → AllByRecursion (λ (entry : Entry). entry.caller < named → Fact entry) history
+    → AllByRecursion Fact history
+of_declared Fact start bound callers named [] same are all = tt
+of_declared Fact start bound callers named (entry ∷ history) same are all = (
+  let low = are.0.caller in all.0 (omega (arith, low, same)),
+  of_declared Fact start bound callers named history same are.1 all.1,
 )
 
 -- ---- the path
@@ -163,7 +164,7 @@ module _ {F D : Type 0} (fs : F) (told : D → Option Image) (faults : D → ℕ
   path_once : AllByRecursion (IsStruckOnceIfPlain ended.journal.records) ended.journal.history
   path_once =
       let declared : length ended.config.callers ≡ length job.callers = ap length path_config.callers ∙ length-map job.callers (λ (one : Caller). one.cred) in
-      of_declared ended.journal.records _ _ (length ended.config.callers) (length job.callers) ended.journal.history declared path.right.orderly.numbered.entries
+      of_declared (IsStruckOnceIfPlain ended.journal.records) _ _ (length ended.config.callers) (length job.callers) ended.journal.history declared path.right.orderly.numbered.entries
       (rw (path_history, path_records) path.drives.once)
 
   path_says : AllByRecursion (λ (entry : Entry). Says ended.journal.records job.limit ended.stage entry.caller entry.ordinal entry.reply) ended.journal.history

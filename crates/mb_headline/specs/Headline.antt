@@ -20,7 +20,7 @@ use Rattle.mb_run.specs.Letters.{letters_of}
 use Rattle.mb_plan.specs.Fires.{fires}
 use Rattle.mb_plan.specs.declared.rules.Rule.{Rule}
 use Rattle.mb_run.specs.Orders.{asked_in}
-use Rattle.mb_run.specs.Runs.{EntersFirst, FirstsRise, AnswersFailed, HasRecords, HasTakenFaults, is_seal}
+use Rattle.mb_run.specs.Runs.{EntersFirst, FirstsRise, AnswersFailed, HasRecords, HasTakenFaults, TakesWhereItEntered, is_seal}
 use Rattle.mb_run.specs.Seals.{AreAskedFor, AreInTime, omitted}
 use Rattle.mb_run.specs.Stales.{stales_beyond}
 use Rattle.mb_run.specs.Served.{calls_in, calls_of}
@@ -101,11 +101,12 @@ pub record IsRun {F D : Type 0} (told : D → Option Image) (faults : D → ℕ)
   pub checkpoints : AreAskedFor job.threshold asked core.journal.history core.journal.trail
   pub prompt : omitted core.journal.history core.journal.trail ≡ 0
 
--- in list order the faults of the plan are taken: none was passed over at a fault point to which a call came, as far as its fault
--- records tell how often it entered, gathered and finished, and a call with a plain reply met one of its own at most
+-- the faults of the plan are taken: in list order none was passed over at a fault point to which a call came, as far as its fault
+-- records tell how often it entered, gathered and finished, and a call with a plain reply met one of its own at most; by an order
+-- none was where a call entered
 abbrev pub TakesPlanned : Option (List ℕ) → List Rule → List Entry → List FaultRecord → Type 0
 TakesPlanned None plan history records = HasTakenFaults (Some (fires plan)) history records
-TakesPlanned (Some order) plan history records = Unit {0}
+TakesPlanned (Some order) plan history records = AllByRecursion (TakesWhereItEntered (Some (fires plan)) records) history
 
 -- by an order, where no fault came, at least as many checkpoints were taken as the order has `=`
 abbrev pub SealsAsOrdered : Option (List ℕ) → List FaultRecord → List Step → Type 0
@@ -118,8 +119,9 @@ SealsBesideEnd None records trail = Unit {0}
 SealsBesideEnd (Some order) records trail = records ≡ [] → asked_in order < count_by is_seal trail
 
 -- where one thread ran the job: without an order its calls stand in the job's order, entry by entry and moment by moment, and
--- the faults of its plan were taken; by an order the first calls begin as the callers' letters first stand in it, and without
--- faults the trace begins with these calls, and checkpoints were taken where it asks for them. No call was told more than four times,
+-- the faults of its plan were taken; by an order the first calls begin as the callers' letters first stand in it, the faults of its
+-- plan were taken where calls entered, and without faults the trace begins with these calls, and checkpoints were taken where it
+-- asks for them. No call was told more than four times,
 -- since it last entered, that a copy of its is stale
 pub record KeepsOrder (job : Job) (history : List Entry) (records : List FaultRecord) (trail : List Step) : Type 0 where
   pub lined : IsLinedUp job.order job.calls job.start history

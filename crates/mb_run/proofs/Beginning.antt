@@ -1,5 +1,5 @@
 -- A job at its beginning.
-use Rattle.std.proofs.Common.{◌≡◌, List, [], ◌∷◌, ℕ, zero, suc, ◌+◌, ◌<◌, ◌≤◌, Bool, refl, ap, sym, subst, ◌∙◌, arith, inl, inr, Option, None, Some, length, take, slice_get}
+use Rattle.std.proofs.Common.{◌≡◌, List, [], ◌∷◌, ℕ, zero, suc, ◌+◌, ◌<◌, ◌≤◌, Bool, false, refl, ap, sym, subst, ◌∙◌, arith, inl, inr, Option, None, Some, length, take, slice_get}
 use Rattle.std.proofs.lemmas.List.{length-take-le}
 use Rattle.std.proofs.lemmas.Option.{same_Some, slice_get_past, slice_get_within}
 use Rattle.mb_edge.specs.declared.crossings.Crossing.{Crossing}
@@ -8,7 +8,9 @@ use Rattle.mb_jobs.specs.declared.jobs.Job.{Job}
 use Rattle.mb_jobs.specs.declared.jobs.JobCall.{JobCall}
 use Rattle.mb_kinds.specs.declared.entries.Entry.{Entry}
 use Rattle.mb_kinds.specs.declared.entries.Flight.{Flight}
+use Rattle.mb_kinds.specs.declared.faults.Kind.TheVariants.{Enter}
 use Rattle.mb_run.specs.Drives.{EntersByOrder, EntersCalmly, TakesByOrder, AreNew, HasEachMoment, IsBegun, IsComplete, IsDriven, IsLinedUp, IsRunnable, RisesByOrder, SealsByOrder, new_runner}
+use Rattle.mb_run.specs.Entering.{AreTakenEntering, EntersIn, EntersSoFar}
 use Rattle.mb_run.specs.Firsts.{HasFirst}
 use Rattle.mb_run.specs.Letters.{AreLetters, HasBegunBy, letters_of}
 use Rattle.mb_run.specs.Runs.{FirstsRise, HasTakenFaults}
@@ -16,9 +18,11 @@ use Rattle.mb_run.specs.Served.{AreSixCounts, AreStruckOnce, IsAfter, IsRunInOrd
 use Rattle.mb_run.specs.Orders.{TakesAsked, asked_by, asked_in}
 use Rattle.mb_run.specs.Timely.{IsTimely}
 use Rattle.mb_run.specs.Sights.{IsOrderlyInSight, Limits, Seat, Sight}
+use Rattle.mb_run.specs.declared.runner.At.TheVariants as at
 use Rattle.mb_run.specs.declared.runner.Runner.{Runner}
 use Rattle.mb_run.proofs.Completing.{calls_few, each_moment}
 use Rattle.mb_run.proofs.Entered.{no_counts}
+use Rattle.mb_run.proofs.TallyRecords.{up_to_none}
 use Rattle.std.specs.List.{AllByRecursion, range_with_len}
 
 first_served : (job : Job) (sight : Sight) (caller : ℕ) → IsBegun job sight → IsServedSoFar (calls_of job.calls caller) sight caller (new_runner caller)
@@ -33,10 +37,15 @@ first_served job sight caller begun = record {
   once = tt;
 }
 
+-- nobody entered yet
+first_entered : (test : Option (Crossing → Bool)) (caller : ℕ) → EntersSoFar test [] [] (new_runner caller).crossings false at.Outside
+first_entered test caller = record { often = omega arith; taken = up_to_none test [] caller 1 Enter; past = tt }
+
 pub begins_underway : (job : Job) (test : Option (Crossing → Bool)) (sight : Sight) (runners : List Runner) → IsRunnable job → IsBegun job sight → AreNew runners (length job.callers) → AllUnderWay job.calls test sight runners
 begins_underway job test sight runners runnable begun new = record {
   served = λ caller runner here. subst (IsServedSoFar (calls_of job.calls caller) sight caller) (sym (new.each caller runner here)) (first_served job sight caller begun);
   counts = λ caller runner here. subst (λ (r : Runner). AreSixCounts r.crossings) (sym (new.each caller runner here)) (no_counts (new_runner caller).crossings);
+  entered = λ caller runner here. subst (λ (r : Runner). EntersIn test sight r r.at) (sym (new.each caller runner here)) (rw (begun.records, begun.history) (first_entered test caller));
   sound = rw begun.records (record { holds = tt; apart = tt });
   callers = new.size ∙ sym begun.callers;
   most = begun.most;
@@ -120,7 +129,7 @@ ordered job test old new callers order begun some same done config right rises e
       enters = λ runs trail. subst (λ given. EntersByOrder given job.callers job.calls test new) (sym some) (enters runs trail);
       sound = done.sound;
       once = subst (λ n. AreStruckOnce n new.history new.records) same done.once;
-      taken = λ runs. subst (λ given. TakesByOrder given test new) (sym some) tt;
+      taken = λ runs. subst (λ given. TakesByOrder given test new) (sym some) (subst (λ n. AreTakenEntering test n new.history new.records) (same ∙ sym (declared job old new begun config)) done.entered);
       seals = subst (λ given. IsTimely (asked_by given) old new) (sym some) seals;
       asks = subst (λ given. SealsByOrder given old new) (sym some) asks;
     }

@@ -16,7 +16,7 @@ use Rattle.mb_run.specs.Sights.{IsOrderlyInSight, Sight}
 use Rattle.mb_run.specs.declared.runner.Runner.{Runner}
 use Rattle.mb_run.proofs.Counting.{same_or_not}
 use Rattle.mb_run.proofs.Everybody.{own_calls}
-use Rattle.mb_run.proofs.InOrder.{as_one, counts_more, once_underway, runner_at}
+use Rattle.mb_run.proofs.InOrder.{as_one, counts_more, entered_underway, once_underway, runner_at}
 use Rattle.mb_run.proofs.Lists.{neq}
 
 -- ---- how many calls of a caller stand among the first ones of a job
@@ -107,6 +107,7 @@ complete calls test sight runners underway even out =
           omega (arith, even, none));
       sound = underway.sound;
       once = once_underway calls test sight runners underway;
+      entered = entered_underway calls test sight runners underway;
     }
 
 pub each_moment : (sight : Sight) → IsOrderlyInSight sight → sight.begun ≡ length sight.history → HasEachMoment sight.config.start sight.history

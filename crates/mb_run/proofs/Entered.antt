@@ -15,6 +15,7 @@ use Rattle.std.proofs.lemmas.Bool.{eq-eqb}
 use Rattle.mb_core_spec.specs.Copies.{PagesState, no_pages}
 use Rattle.mb_run.specs.Pages.{has}
 use Rattle.mb_run.specs.Events.{Answers, BeginsFlight, EntersInSight, EntersInside, EndsFlight, entry_of}
+use Rattle.mb_run.specs.Entering.{EntersIn, HasEnteredPast}
 use Rattle.mb_run.specs.Firsts.{KeepsFirsts}
 use Rattle.mb_run.specs.Runs.{is_plain}
 use Rattle.mb_run.specs.Served.{ActsAlone, AreSixCounts, Did, AsksAtEntry, IsAtBy, IsCounted, InLine, IsBalanced, IsPastOnce, IsStanding, LineBy, MayStep, Nears, advanced, busy, calls_in, calls_of, missing, rank, work}
@@ -31,6 +32,7 @@ use Rattle.mb_run.proofs.Balance.{balanced_answers, balanced_begins, balanced_sa
 use Rattle.mb_run.proofs.Firsts.{CameFrom, came_from, counted_from, firsts_answers, firsts_begins, firsts_leaves}
 use Rattle.mb_run.proofs.Lines.{line_enters, line_leaves}
 use Rattle.mb_run.proofs.Openings.{line_answers, line_made}
+use Rattle.mb_run.proofs.Entering.{enters_back, enters_next, entries_next, own_taken}
 use Rattle.mb_run.proofs.Lists.{all_both, all_map, calls_push}
 use Rattle.mb_run.proofs.Missing.{missing_most}
 use Rattle.mb_run.proofs.Once.{one_most, past_moves, unplain_is}
@@ -71,9 +73,10 @@ module _ (calls : List JobCall) (test : Option (Crossing → Bool)) (old : Sight
 
   -- the call has its entry and its flight ends
   pub did_end : (new : Sight) → ActsAlone runner.crossings.caller old new → (InLine runner.crossings.caller old → InLine runner.crossings.caller new) → (IsBalanced old → IsBalanced new) → IsTimely 0 old new → new.records ≡ old.records → AllByRecursion (IsPastOnce old.records (advanced runner).crossings false) new.history
+      → (EntersIn test old runner runner.at → AllByRecursion (HasEnteredPast test old.records (advanced runner).crossings false) new.history)
       → IsAtBy (calls_of calls runner.crossings.caller) (calls_in new.history runner.crossings.caller) (runner.done + 1) (new.seats runner.crossings.caller).begun (new.seats runner.crossings.caller).flight
       → (new.seats runner.crossings.caller).flight ≡ None → Did calls test old new runner (advanced runner) went.Ended
-  did_end new acts lined balanced seals records past here gone = record {
+  did_end new acts lined balanced seals records past entered here gone = record {
     nears = record {
       same = refl;
       counts = no_counts (advanced runner).crossings;
@@ -91,6 +94,7 @@ module _ (calls : List JobCall) (test : Option (Crossing → Bool)) (old : Sight
         once = tt;
       };
       sound = rw records may.sound;
+      entered = λ was. rw records (enters_next test old.records old.history runner.crossings runner.answered runner.at was may.served.counted (advanced runner).crossings refl refl refl new.history (entered was));
       seals = seals;
     };
     goes = (refl, gone);
@@ -100,6 +104,7 @@ module _ (calls : List JobCall) (test : Option (Crossing → Bool)) (old : Sight
   did_leave new flight leaves =
       let was = subst (IsAtBy (calls_of calls runner.crossings.caller) (calls_in old.history runner.crossings.caller) runner.done (old.seats runner.crossings.caller).begun) leaves.was may.served.calls in
       did_end new (acts_stays runner.crossings.caller old new leaves.stays leaves.counts.history (elim leaves.floor [ inl none ↦ inl none | inr same ↦ inr (inr same) ]) (firsts_leaves old new runner.crossings.caller flight may.within (counted_from flight.ordinal runner.done was.1) (was.0 ∙ sym was.1) leaves) (trail_marks old.trail new.trail leaves.log.trail)) (line_leaves runner.crossings.caller flight old new leaves) (balanced_same old new leaves.counts) (timely_leaves runner.crossings.caller flight old new leaves) leaves.stays.records (rw leaves.counts.history ended)
+      (λ was. rw leaves.counts.history (entries_next test old.records old.history runner.crossings runner.answered runner.at was (advanced runner).crossings refl refl))
       (rw (leaves.mine, leaves.counts.history) (at_leaves (calls_of calls runner.crossings.caller) (calls_in old.history runner.crossings.caller) runner.done (old.seats runner.crossings.caller).begun flight leaves.answered was))
       (ap (λ (s : Seat). s.flight) leaves.mine)
 
@@ -112,6 +117,9 @@ module _ (calls : List JobCall) (test : Option (Crossing → Bool)) (old : Sight
       let entry = entry_of runner.crossings.caller flight None answer in
       did_end new (acts_entry runner.crossings.caller old new entry answers.stays refl answers.history (elim answers.floor [ inl none ↦ inl none | inr same ↦ inr (inr same) ]) (firsts_answers old new runner.crossings.caller flight answer may.within (counted_from flight.ordinal runner.done here.1) (came answers) answers) (trail_marks old.trail new.trail answers.log.trail)) (λ lined. line_answers runner.crossings.caller flight answer old new answers lacks (line answers lined)) (balanced_answers runner.crossings.caller flight answer old new answers) (timely_answers runner.crossings.caller flight answer old new answers) answers.stays.records
       (rw answers.history (all_both (IsPastOnce old.records (advanced runner).crossings false) old.history (entry ∷ []) ended (λ mine. (omega (arith, here.1, may.served.ordinal), λ plain. cc), tt)))
+      (λ was. rw answers.history (all_both (HasEnteredPast test old.records (advanced runner).crossings false) old.history (entry ∷ [])
+      (entries_next test old.records old.history runner.crossings runner.answered runner.at was (advanced runner).crossings refl refl)
+      (λ mine. (omega (arith, here.1, may.served.ordinal), own_taken test old.records old.history runner.crossings runner.answered runner.at was entry refl (here.1 ∙ sym may.served.ordinal) (let none = ap one_if unplain in omega (arith, none))), tt)))
       (rw (answers.mine, answers.history, calls_push old.history entry runner.crossings.caller refl)
       (at_ends (calls_of calls runner.crossings.caller) (calls_in old.history runner.crossings.caller) runner.done flight.ordinal flight lacks here))
       (ap (λ (s : Seat). s.flight) answers.mine)
@@ -171,6 +179,7 @@ module _ (calls : List JobCall) (test : Option (Crossing → Bool)) (old : Sight
               once = rw begins.stays.records may.served.once;
             };
             sound = rw begins.stays.records may.sound;
+            entered = λ was. rw (begins.history, begins.stays.records) was;
             seals = timely_waits_outside runner.crossings.caller (flight_of old runner.crossings.caller call (old.seats runner.crossings.caller).flight) old new begins
                 (old_begins old runner.crossings.caller call old.incarnation (old.seats runner.crossings.caller).flight was_old);
           };
@@ -241,6 +250,7 @@ module _ (calls : List JobCall) (test : Option (Crossing → Bool)) (old : Sight
           balanced = λ even. goes.nears.balanced (balanced_begins runner.crossings.caller (record (flight_of old runner.crossings.caller call (old.seats runner.crossings.caller).flight) { ticket = Some ticket }) old mid begins even);
           served = goes.nears.served;
           sound = goes.nears.sound;
+          entered = λ was. goes.entered (rw (begins.history, begins.stays.records) (enters_back test old.records old.history runner.crossings runner.answered runner.at was));
           seals = timely_then old mid new 0 0 (timely_inside runner.crossings.caller call old mid ticket enters was_old) goes.nears.seals;
         } in
         elim goes.goes [
@@ -251,7 +261,7 @@ module _ (calls : List JobCall) (test : Option (Crossing → Bool)) (old : Sight
   -- nothing changed, for want of memory
   pub did_nothing : (new : Sight) → new ≡ old → runner.answered ≡ false → Did calls test old new runner runner went.NoMemory
   did_nothing new same lacks = subst (λ (s : Sight). Did calls test old s runner runner went.NoMemory) (sym same) (record {
-    nears = record { same = refl; counts = may.counts; acts = acts_same runner.crossings.caller old; lined = λ line. line; balanced = λ even. even; served = may.served; sound = may.sound; seals = timely_refl old };
+    nears = record { same = refl; counts = may.counts; acts = acts_same runner.crossings.caller old; lined = λ line. line; balanced = λ even. even; served = may.served; sound = may.sound; entered = λ was. was; seals = timely_refl old };
     goes = (refl, lacks);
   })
 

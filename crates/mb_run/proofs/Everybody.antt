@@ -7,6 +7,7 @@ use Rattle.std.proofs.lemmas.Option.{same_Some, slice_get_within, slice_get-get_
 use Rattle.mb_edge.specs.declared.crossings.Crossing.{Crossing}
 use Rattle.mb_kinds.specs.declared.calls.Call.{Call}
 use Rattle.mb_kinds.specs.declared.entries.Flight.{Flight}
+use Rattle.mb_run.specs.Entering.{EntersIn}
 use Rattle.mb_run.specs.Served.{ActsAlone, AreSixCounts, HasRun, IsAtBy, IsFloorOf, IsServedSoFar, Turns, MayStep, Nears, AllUnderWay, busy, calls_in, calls_of, rank, work}
 use Rattle.mb_run.specs.Sights.{IsOrderlyInSight, Limits, Sight, one_if, recovers}
 use Rattle.mb_jobs.specs.declared.jobs.JobCall.{JobCall}
@@ -15,7 +16,7 @@ use Rattle.mb_run.specs.declared.runner.Runner.{Runner}
 use Rattle.mb_run.specs.declared.progress.Turn.TheVariants as turn
 use Rattle.mb_run.proofs.Counting.{same_or_not}
 use Rattle.mb_run.proofs.Lists.{neq}
-use Rattle.mb_run.proofs.Rolling.{other_served}
+use Rattle.mb_run.proofs.Rolling.{other_entered, other_served}
 use Rattle.mb_run.proofs.Once.{one_most}
 use Rattle.mb_run.proofs.Struck.{rank_most}
 
@@ -81,6 +82,10 @@ underway_on calls test old new runners caller before now underway here own nears
       counts = λ other found is. elim (put_get runners caller other now found low is) [
         | inl mine ↦ subst (λ (r : Runner). AreSixCounts r.crossings) (sym mine.1) nears.counts
         | inr theirs ↦ underway.counts other found theirs.1
+      ];
+      entered = λ other found is. elim (put_get runners caller other now found low is) [
+        | inl mine ↦ subst (λ (r : Runner). EntersIn test new r r.at) (sym mine.1) (nears.entered (underway.entered caller before here))
+        | inr theirs ↦ other_entered test caller other old new found (underway.served other found theirs.1).caller_is theirs.0 (subst (λ n. ActsAlone n old new) own nears.acts) (underway.entered other found theirs.1)
       ];
       sound = nears.sound;
       callers = length-set runners caller now ∙ underway.callers ∙ ap (λ (l : Limits). l.callers) (sym nears.acts.config);

@@ -12,7 +12,7 @@ use Rattle.mb_run.proofs.Acting.{acts_same, acts_then}
 use Rattle.mb_run.proofs.Timely.{timely_refl, timely_then}
 
 pub nears_same : (calls : List JobCall) (test : Option (Crossing → Bool)) (old : Sight) (runner : Runner) (call : Call) → MayStep calls test old runner call → Nears calls test old old runner runner
-nears_same calls test old runner call may = record { same = refl; counts = may.counts; acts = acts_same runner.crossings.caller old; lined = λ line. line; balanced = λ even. even; served = may.served; sound = may.sound; seals = timely_refl old }
+nears_same calls test old runner call may = record { same = refl; counts = may.counts; acts = acts_same runner.crossings.caller old; lined = λ line. line; balanced = λ even. even; served = may.served; sound = may.sound; entered = λ was. was; seals = timely_refl old }
 
 pub nears_then : (calls : List JobCall) (test : Option (Crossing → Bool)) (a b d : Sight) (r s t : Runner) → Nears calls test a b r s → Nears calls test b d s t → Nears calls test a d r t
 nears_then calls test a b d r s t one two = record {
@@ -23,6 +23,7 @@ nears_then calls test a b d r s t one two = record {
   balanced = λ even. two.balanced (one.balanced even);
   served = subst (λ n. IsServedSoFar (calls_of calls n) d n t) one.same two.served;
   sound = two.sound;
+  entered = λ was. two.entered (one.entered was);
   seals = timely_then a b d 0 0 one.seals two.seals;
 }
 

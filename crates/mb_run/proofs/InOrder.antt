@@ -10,7 +10,8 @@ use Rattle.mb_kinds.specs.declared.entries.Flight.{Flight}
 use Rattle.mb_run.proofs.Listing.{listed_next}
 use Rattle.mb_kinds.specs.declared.entries.Entry.{Entry}
 use Rattle.std.specs.List.{AllByRecursion}
-use Rattle.mb_run.specs.Runs.{IsStruckOnceIfPlain}
+use Rattle.mb_run.specs.Entering.{AreTakenEntering, HasEnteredPast}
+use Rattle.mb_run.specs.Runs.{IsStruckOnceIfPlain, TakesWhereItEntered}
 use Rattle.mb_run.specs.Served.{AllUnderWay, AreStruckOnce, EntriesAreCalls, IsServedSoFar, HasRun, InLine, IsAfter, IsFloorOf, IsPastOnce, IsRunInOrder, LineBy, MayStep, calls_of}
 use Rattle.mb_run.specs.Sights.{IsOrderlyInSight, Limits, Seat, Sight}
 use Rattle.mb_jobs.specs.declared.jobs.JobCall.{JobCall}
@@ -18,7 +19,7 @@ use Rattle.mb_run.specs.declared.runner.Runner.{Runner}
 use Rattle.mb_run.proofs.Everybody.{find_here, got, may_of, own_calls, put_get, put_underway}
 use Rattle.mb_run.proofs.Counting.{same_or_not}
 use Rattle.mb_run.proofs.Lists.{all_map, neq}
-use Rattle.mb_run.proofs.Once.{once_all}
+use Rattle.mb_run.proofs.Once.{each_caller}
 
 abbrev pub as_one : Bool → ℕ
 as_one b = cond b 1 0
@@ -101,10 +102,18 @@ runner_at (first ∷ runners) (suc place) low = runner_at runners place (omega a
 
 -- of everybody's calls, with plain replies, each was struck once at most
 pub once_underway : (calls : List JobCall) (test : Option (Crossing → Bool)) (sight : Sight) (runners : List Runner) → AllUnderWay calls test sight runners → AreStruckOnce (length runners) sight.history sight.records
-once_underway calls test sight runners underway = once_all sight.records sight.history (length runners) (λ caller low. (
+once_underway calls test sight runners underway = each_caller (IsStruckOnceIfPlain sight.records) sight.history (length runners) (λ caller low. (
     let there = runner_at runners caller low in
     let served = underway.served caller there.0 there.1 in
     all_map (IsPastOnce sight.records there.0.crossings there.0.answered) (λ (entry : Entry). entry.caller ≡ caller → IsStruckOnceIfPlain sight.records entry) sight.history (λ entry is mine. (is (mine ∙ sym served.caller_is)).1) served.past))
+
+-- and each took its faults where it entered
+pub entered_underway : (calls : List JobCall) (test : Option (Crossing → Bool)) (sight : Sight) (runners : List Runner) → AllUnderWay calls test sight runners → AreTakenEntering test (length runners) sight.history sight.records
+entered_underway calls test sight runners underway = each_caller (TakesWhereItEntered test sight.records) sight.history (length runners) (λ caller low. (
+    let there = runner_at runners caller low in
+    let served = underway.served caller there.0 there.1 in
+    let entered = underway.entered caller there.0 there.1 in
+    all_map (HasEnteredPast test sight.records there.0.crossings there.0.answered) (λ (entry : Entry). entry.caller ≡ caller → TakesWhereItEntered test sight.records entry) sight.history (λ entry is mine. (is (mine ∙ sym served.caller_is)).1) entered.past))
 
 pub order_over : (calls : List JobCall) (test : Option (Crossing → Bool)) (sight : Sight) (runners : List Runner) (index : ℕ) → length calls ≤ index → IsAfter calls test sight runners index → IsRunInOrder calls (length runners) test sight
 order_over calls test sight runners index past after = record {

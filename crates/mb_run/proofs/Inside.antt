@@ -1,12 +1,15 @@
 -- A call inside gathers, finishes and leaves.
-use Rattle.std.proofs.Common.{◌≡◌, ◌≢◌, List, [], ◌∷◌, ℕ, ◌+◌, ◌-◌, ◌*◌, ◌<◌, ◌≤◌, min, Bool, true, false, cond, length, inl, inr, refl, ap, sym, subst, ◌∙◌, arith, Option, Some}
+use Rattle.std.proofs.Common.{◌≡◌, ◌≢◌, List, [], ◌∷◌, ◌++◌, ℕ, ◌+◌, ◌-◌, ◌*◌, ◌<◌, ◌≤◌, min, Bool, true, false, cond, length, inl, inr, refl, ap, sym, subst, ◌∙◌, arith, Option, Some, IfSome}
 use Rattle.std.proofs.lemmas.Bool.{eq-eqb}
 use Rattle.std.proofs.lemmas.Option.{same_Some, slice_get_within}
 use Rattle.mb_core_spec.specs.declared.steps.Step.TheVariants as step
+use Rattle.mb_edge.specs.Crossings.{next_nth, place_of}
 use Rattle.mb_edge.specs.declared.crossings.Crossing.{Crossing}
 use Rattle.mb_kinds.specs.declared.calls.Call.{Call}
 use Rattle.mb_kinds.specs.declared.entries.Flight.{Flight}
+use Rattle.mb_kinds.specs.declared.faults.FaultRecord.{FaultRecord}
 use Rattle.mb_kinds.specs.declared.faults.Kind.{Kind}
+use Rattle.mb_kinds.specs.declared.faults.Kind.TheVariants.{Enter}
 use Rattle.mb_kinds.specs.declared.faults.Ticket.{Ticket}
 use Rattle.mb_kinds.specs.declared.replies.Reply.{Reply}
 use Rattle.mb_kinds.specs.declared.replies.Reply.TheVariants as reply
@@ -14,7 +17,10 @@ use Rattle.mb_core_spec.specs.Copies.{PagesState, no_pages}
 use Rattle.mb_run.specs.Pages.{has}
 use Rattle.mb_run.specs.Events.{Answers, FinishesInSight, Gains, GathersInSight, IsStale, LeavesWith, EndsFlight, entry_of}
 use Rattle.mb_run.specs.Runs.{strikes_inside}
-use Rattle.mb_run.specs.Served.{IsInsideOnce, IsPastOnce, Asks, Did, StepComesTo, AsksAtEntry, IsAtBy, IsHeld, IsStanding, MayStep, advanced, backed, busy, calls_in, calls_of, counted, missing, rank}
+use Rattle.mb_run.specs.Entering.{EntersIn, EntersSoFar}
+use Rattle.mb_run.specs.Recovering.{next_of}
+use Rattle.mb_run.specs.Tallies.{is_in}
+use Rattle.mb_run.specs.Served.{AreSixCounts, IsInsideOnce, IsPastOnce, Asks, Did, StepComesTo, AsksAtEntry, IsAtBy, IsHeld, IsStanding, MayStep, advanced, backed, busy, calls_in, calls_of, counted, missing, rank}
 use Rattle.mb_run.specs.Sights.{SeatHasTicket, IsOrderlyInSight, Limits, Sight, one_if, recovers}
 use Rattle.mb_run.specs.declared.runner.At.{At}
 use Rattle.mb_run.specs.declared.runner.At.TheVariants as at
@@ -31,13 +37,15 @@ use Rattle.mb_run.proofs.Acting.{acts_same, acts_stays, acts_entry}
 use Rattle.mb_run.proofs.Balance.{LogsCall, balanced_logs, balanced_same, marked_here}
 use Rattle.mb_run.proofs.Firsts.{counted_from, firsts_logs, firsts_stays}
 use Rattle.mb_run.proofs.Lines.{line_logs, line_same}
+use Rattle.mb_run.proofs.Entering.{enters_back, enters_in, enters_logged, enters_past, enters_struck_there}
 use Rattle.mb_run.proofs.Lists.{all_both, calls_push}
 use Rattle.mb_run.proofs.Missing.{missing_less, missing_most}
 use Rattle.mb_run.proofs.Once.{one_most, past_moves}
 use Rattle.mb_run.proofs.Places.{at_logs}
 use Rattle.mb_run.proofs.Entered.{did_answer, did_leave}
 use Rattle.mb_run.proofs.Openings.{line_open}
-use Rattle.mb_run.proofs.Struck.{IsIn, Stands, did_asked, did_back, may_counted}
+use Rattle.mb_run.proofs.Struck.{IsIn, Stands, did_asked, did_asked_by, did_back, may_counted}
+use Rattle.mb_run.proofs.TallyRecords.{fault_at}
 use Rattle.mb_run.proofs.Trails.{trail_marks, trail_put}
 use Rattle.mb_run.proofs.Timely.{timely_gains, timely_refl, timely_stale}
 use Rattle.mb_run.proofs.Twice.{is_own_kind}
@@ -58,12 +66,12 @@ goes_on old new before now kind went.Shut goes = goes
 goes_on old new before now kind (went.Busy holder) goes = goes
 goes_on old new before now kind went.NoMemory goes = goes
 
-pub asked_did : (calls : List JobCall) (test : Option (Crossing → Bool)) (old mid new : Sight) (before m now : Runner) (ticket : Ticket) (kind : Kind) (came : Went) → Asks test old mid before m ticket kind false
+pub asked_did : (calls : List JobCall) (test : Option (Crossing → Bool)) (old mid new : Sight) (before m now : Runner) (ticket : Ticket) (kind : Kind) (came : Went) → Asks test old mid before m ticket kind false → AreSixCounts before.crossings
     → Did calls test mid new m now came → Did calls test old new before now came
-asked_did calls test old mid new before m now ticket kind came asks did =
+asked_did calls test old mid new before m now ticket kind came asks are did =
     let moved = subst (λ (r : Runner). Did calls test old new r now came) asks.1 (subst (λ (s : Sight). Did calls test s new m now came) asks.0 did) in
     record {
-      nears = record { same = moved.nears.same; counts = moved.nears.counts; acts = moved.nears.acts; lined = moved.nears.lined; balanced = moved.nears.balanced; served = moved.nears.served; sound = moved.nears.sound; seals = moved.nears.seals };
+      nears = record { same = moved.nears.same; counts = moved.nears.counts; acts = moved.nears.acts; lined = moved.nears.lined; balanced = moved.nears.balanced; served = moved.nears.served; sound = moved.nears.sound; entered = λ was. moved.nears.entered (enters_past test old.records old.history before.crossings before.answered before.at was kind are asks.2); seals = moved.nears.seals };
       goes = goes_on old new before now kind came moved.goes;
     }
 
@@ -95,8 +103,41 @@ module _ (calls : List JobCall) (test : Option (Crossing → Bool)) (old : Sight
     pub inside_back : ticket.incarnation ≢ old.incarnation → Did calls test old old runner (backed runner) went.Back
     inside_back older = did_back calls test old runner call may ticket stands_inside older
 
-    pub inside_asked : (new : Sight) (now : Runner) (kind : Kind) → IsOrderlyInSight new → Asks test old new runner now ticket kind true → Did calls test old new runner now went.Back
-    inside_asked new now kind right asks = did_asked calls test old runner call may new now ticket kind (λ has. (let lacks = marked_here runner.answered (old.seats runner.crossings.caller).flight stood.0.flight stood.0.here stood.0.answered may.served.marked in cc)) stands_inside own_ticket own_ordinal right asks
+    lacks_entry : runner.answered ≡ false
+    lacks_entry = marked_here runner.answered (old.seats runner.crossings.caller).flight stood.0.flight stood.0.here stood.0.answered may.served.marked
+
+    met_once : strikes_inside old.records runner.crossings.caller runner.crossings.ordinal ≤ 1
+    met_once = subst (IsInsideOnce old.records runner.crossings) inside may.served.once
+
+    pub inside_asked : (new : Sight) (now : Runner) (kind : Kind) → place_of Enter ≢ place_of kind → IsOrderlyInSight new → Asks test old new runner now ticket kind true → Did calls test old new runner now went.Back
+    inside_asked new now kind apart right asks = did_asked_by calls test old runner call may new now ticket kind apart (λ has. (let lacks = lacks_entry in cc)) stands_inside own_ticket own_ordinal right asks
+
+    -- until it is asked it counts as one that is on its way in
+    entering : EntersIn test old runner at.Outside → EntersSoFar test old.records old.history runner.crossings false at.Outside
+    entering was = subst (λ (b : Bool). EntersSoFar test old.records old.history runner.crossings b at.Outside) lacks_entry was
+
+    pub entered_in_on : IfSome test (λ fires. fires (next_of Enter runner.crossings) ≡ false) → EntersIn test old runner at.Outside → EntersSoFar test old.records old.history (counted runner.crossings Enter) runner.answered runner.at
+    entered_in_on unfired was = subst (λ (b : Bool). EntersSoFar test old.records old.history (counted runner.crossings Enter) b runner.at) (sym lacks_entry)
+        (enters_in test old.records old.history runner.crossings may.counts met_once (entering was) runner.at (ap is_in inside) unfired)
+
+    entered_struck : EntersIn test old runner at.Outside → EntersSoFar test (old.records ++ fault_at runner.crossings Enter (next_nth runner.crossings.counts Enter) ∷ []) old.history (counted runner.crossings Enter) runner.answered at.Outside
+    entered_struck was = subst (λ (b : Bool). EntersSoFar test (old.records ++ fault_at runner.crossings Enter (next_nth runner.crossings.counts Enter) ∷ []) old.history (counted runner.crossings Enter) b at.Outside) (sym lacks_entry)
+        (enters_struck_there test old.records old.history runner.crossings may.counts met_once (entering was))
+
+    pub entering_asked : (new : Sight) (now : Runner) → ticket.incarnation ≡ old.incarnation → IsOrderlyInSight new → Asks test old new runner now ticket Enter true → Did calls test old new runner now went.Back
+    entering_asked new now present right asks = did_asked calls test old runner call may new now ticket Enter (λ has. (let lacks = lacks_entry in cc)) stands_inside own_ticket own_ordinal
+        (λ older. absurd (older present)) (λ was. entered_struck (enters_back test old.records old.history runner.crossings runner.answered runner.at was)) right asks
+
+    pub entering_struck : (new : Sight) (now : Runner) → ticket.incarnation ≡ old.incarnation → Asks test old new runner now ticket Enter true → EntersIn test old runner at.Outside → EntersIn test new now now.at
+    entering_struck new now present asks was = subst (λ (r : Runner). EntersIn test new r r.at) (sym asks.0) (elim asks.2 [
+      | inl skipped ↦ absurd (skipped.0 present)
+      | inr struck ↦ (
+          let nth : ℕ = next_nth runner.crossings.counts Enter in
+          let same : record { caller = ticket.caller; ordinal = ticket.ordinal; kind = Enter; nth = nth } ≡ fault_at runner.crossings Enter nth =
+          ap (λ (n : ℕ). fault_at (record runner.crossings { caller = n; ordinal = ticket.ordinal }) Enter nth) own_ticket ∙ ap (λ (n : ℕ). fault_at (record runner.crossings { ordinal = n }) Enter nth) own_ordinal in
+          let more : new.records ≡ old.records ++ fault_at runner.crossings Enter nth ∷ [] = struck.1.records ∙ ap (λ (r : FaultRecord). old.records ++ r ∷ []) same in
+          rw (struck.1.counts.history, more) (entered_struck was))
+    ])
 
     rank_now : (incarnation stales : ℕ) (pages : PagesState) → ticket.incarnation ≡ incarnation → rank incarnation stales pages (at.Inside ticket) ≡ 2 * ((4 - stales) * 262146 + missing (has pages) 262144 + 1)
     rank_now incarnation stales pages present = ap (λ b. cond b (2 * ((4 - stales) * 262146 + missing (has pages) 262144 + 1)) 8388608) (eq-eqb ticket.incarnation incarnation present)
@@ -107,7 +148,7 @@ module _ (calls : List JobCall) (test : Option (Crossing → Bool)) (old : Sight
     -- nothing changed, for want of memory
     pub did_nothing : Did calls test old old runner runner went.NoMemory
     did_nothing = record {
-      nears = record { same = refl; counts = may.counts; acts = acts_same runner.crossings.caller old; lined = λ line. line; balanced = λ even. even; served = may.served; sound = may.sound; seals = timely_refl old };
+      nears = record { same = refl; counts = may.counts; acts = acts_same runner.crossings.caller old; lined = λ line. line; balanced = λ even. even; served = may.served; sound = may.sound; entered = λ was. was; seals = timely_refl old };
       goes = (refl, marked_here runner.answered (old.seats runner.crossings.caller).flight stood.0.flight stood.0.here stood.0.answered may.served.marked);
     }
 
@@ -149,6 +190,7 @@ module _ (calls : List JobCall) (test : Option (Crossing → Bool)) (old : Sight
               once = rw gains.stays.records may.served.once;
             };
             sound = rw gains.stays.records may.sound;
+            entered = λ was. rw (gains.counts.history, gains.stays.records) was;
             seals = timely_gains runner.crossings.caller old new need runner.pages now gains;
           };
           goes = (refl, omega (arith, same.0, same.1, same.2, floor, is, rank_was present, fewer));
@@ -172,6 +214,7 @@ module _ (calls : List JobCall) (test : Option (Crossing → Bool)) (old : Sight
         balanced = λ even. even;
         served = record { caller_is = refl; ordinal = may.served.ordinal; calls = may.served.calls; marked = may.served.marked; stands = may.served.stands; counted = may.served.counted; past = may.served.past; once = may.served.once };
         sound = may.sound;
+        entered = λ was. was;
         seals = timely_refl old;
       };
       goes = (refl, omega arith, refl, finishes.1, (λ same. finishes.2 (same ∙ sym own_ticket)), stood.1.runs finishes.0);
@@ -215,6 +258,7 @@ module _ (calls : List JobCall) (test : Option (Crossing → Bool)) (old : Sight
               once = rw stale.stays.records may.served.once;
             };
             sound = rw stale.stays.records may.sound;
+            entered = λ was. rw (stale.counts.history, stale.stays.records) was;
             seals = timely_stale runner.crossings.caller old new runner.pages ticket stale stood.0 present few;
           };
           goes = (refl, omega (arith, same.0, same.1, same.2, free, is, rank_was present, few, missing_most (has no_pages) 262144));
@@ -267,6 +311,9 @@ module _ (calls : List JobCall) (test : Option (Crossing → Bool)) (old : Sight
               once = tt;
             };
             sound = rw logs.stays.records may.sound;
+            entered = λ was. (
+                let own : logs.flight.ordinal ≡ runner.crossings.ordinal = here.1 ∙ sym may.served.ordinal in
+                rw (logs.history, logs.stays.records) (enters_logged test old.records old.history runner.crossings runner.answered runner.at was ticket entry (ap is_in inside) refl own));
             seals = timely;
           };
           goes = (refl, omega (arith, same.0, same.1, same.2, free, is, rank_was present));
@@ -295,21 +342,25 @@ module _ (calls : List JobCall) (test : Option (Crossing → Bool)) (old : Sight
     pub logged_back : ticket.incarnation ≢ old.incarnation → Did calls test old old runner (backed runner) went.Back
     logged_back older = did_back calls test old runner call may ticket stands_logged older
 
-    pub logged_asked : (new : Sight) (now : Runner) (kind : Kind) → is_own_kind kind ≡ false → IsOrderlyInSight new → Asks test old new runner now ticket kind true → Did calls test old new runner now went.Back
-    logged_asked new now kind fits right asks = did_asked calls test old runner call may new now ticket kind (λ has. fits) stands_logged own_logged ordinal_logged right asks
+    pub logged_asked : (new : Sight) (now : Runner) (kind : Kind) → place_of Enter ≢ place_of kind → is_own_kind kind ≡ false → IsOrderlyInSight new → Asks test old new runner now ticket kind true → Did calls test old new runner now went.Back
+    logged_asked new now kind apart fits right asks = did_asked_by calls test old runner call may new now ticket kind apart (λ has. fits) stands_logged own_logged ordinal_logged right asks
 
     pub did_left : (new : Sight) (answer : Reply) → LeavesWith old new ticket (left.Left answer) → Did calls test old new runner (advanced runner) went.Ended
     did_left new answer leaves = let made = subst (λ n. EndsFlight n leaves.1.0 old new) own_logged leaves.1.1 in did_leave calls test old runner call may new leaves.1.0 made
 
-pub in_back : (calls : List JobCall) (test : Option (Crossing → Bool)) (old new : Sight) (before now : Runner) → Did calls test old new before now went.Back → AsksAtEntry calls test old new before now went.Back
-in_back calls test old new before now did = record { nears = did.nears; done = did.goes.0; goes = inr refl; less = omega (arith, did.goes.1) }
+pub in_back : (calls : List JobCall) (test : Option (Crossing → Bool)) (old new : Sight) (before now : Runner) (call : Call) (ticket : Ticket) → MayStep calls test old before call → before.at ≡ at.Inside ticket → ticket.incarnation ≡ old.incarnation
+    → IsOrderlyInSight new → Asks test old new before now ticket Enter true → AsksAtEntry calls test old new before now went.Back
+in_back calls test old new before now call ticket may inside present right asks =
+    let did = entering_asked calls test old before call may ticket inside new now present right asks in
+    record { nears = did.nears; done = did.goes.0; goes = inr refl; less = omega (arith, did.goes.1); entered = entering_struck calls test old before call may ticket inside new now present asks }
 
-pub in_on : (calls : List JobCall) (test : Option (Crossing → Bool)) (old mid : Sight) (before m : Runner) (call : Call) (ticket : Ticket) (kind : Kind) → MayStep calls test old before call → Asks test old mid before m ticket kind false
+pub in_on : (calls : List JobCall) (test : Option (Crossing → Bool)) (old mid : Sight) (before m : Runner) (call : Call) (ticket : Ticket) → MayStep calls test old before call → before.at ≡ at.Inside ticket → Asks test old mid before m ticket Enter false
     → AsksAtEntry calls test old mid before m went.On
-in_on calls test old mid before m call ticket kind may asks =
-    let counted_may = may_counted calls test old before call may kind in
+in_on calls test old mid before m call ticket may inside asks =
+    let counted_may = may_counted calls test old before call may Enter in
     subst (λ (s : Sight). AsksAtEntry calls test old s before m went.On) (sym asks.0) (subst (λ (r : Runner). AsksAtEntry calls test old old before r went.On) (sym asks.1) (record {
-      nears = record { same = refl; counts = counted_may.counts; acts = acts_same before.crossings.caller old; lined = λ line. line; balanced = λ even. even; served = counted_may.served; sound = may.sound; seals = timely_refl old };
+      nears = record { same = refl; counts = counted_may.counts; acts = acts_same before.crossings.caller old; lined = λ line. line; balanced = λ even. even; served = counted_may.served; sound = may.sound; entered = λ was. enters_past test old.records old.history before.crossings before.answered before.at was Enter may.counts asks.2; seals = timely_refl old };
+      entered = λ was. entered_in_on calls test old before call may ticket inside asks.2 was;
       done = refl;
       goes = inl refl;
       less = omega arith;
@@ -355,7 +406,7 @@ pub asked_gather : (calls : List JobCall) (test : Option (Crossing → Bool)) (o
     → MayStep calls test old before call → before.at ≡ at.Inside ticket → Asks test old mid before m ticket kind false → has before.pages need.first ≡ false → need.first < 262144
     → GathersInSight mid new ticket need m.pages now answer → Did calls test old new before (gathered_runner m now answer) (gathered_went answer)
 asked_gather calls test old mid new before m call ticket kind need now answer may inside asks lacks low gathers =
-    asked_did calls test old mid new before m (gathered_runner m now answer) ticket kind (gathered_went answer) asks
+    asked_did calls test old mid new before m (gathered_runner m now answer) ticket kind (gathered_went answer) asks may.counts
     (did_gather calls test mid m call (asked_may calls test old mid before m call ticket kind may asks) ticket (asked_at test old mid before m ticket kind asks inside) new need now answer
     (ap (λ (r : Runner). has r.pages need.first) asks.1 ∙ lacks) low gathers)
 
@@ -370,12 +421,12 @@ module _ (calls : List JobCall) (test : Option (Crossing → Bool)) (old mid new
   asked_logged logged = ap (λ (r : Runner). r.at) asks.1 ∙ logged
 
   pub asked_skip : (mine was : ℕ) → before.at ≡ at.Logged ticket → LeavesWith mid new ticket (left.Skip mine was) → Did calls test old new before (backed m) went.Back
-  asked_skip mine was logged leaves = asked_did calls test old mid new before m (backed m) ticket kind went.Back asks
+  asked_skip mine was logged leaves = asked_did calls test old mid new before m (backed m) ticket kind went.Back asks may.counts
       (subst (λ (s : Sight). Did calls test mid s m (backed m) went.Back) (sym leaves.1)
       (logged_back calls test mid m call (asked_may calls test old mid before m call ticket kind may asks) ticket (asked_logged logged) leaves.0))
 
   pub asked_left : (answer : Reply) → before.at ≡ at.Logged ticket → LeavesWith mid new ticket (left.Left answer) → Did calls test old new before (advanced m) went.Ended
-  asked_left answer logged leaves = asked_did calls test old mid new before m (advanced m) ticket kind went.Ended asks
+  asked_left answer logged leaves = asked_did calls test old mid new before m (advanced m) ticket kind went.Ended asks may.counts
       (did_left calls test mid m call (asked_may calls test old mid before m call ticket kind may asks) ticket (asked_logged logged) new answer leaves)
 
   pub asked_ticket : before.at ≡ at.Inside ticket → SeatHasTicket false (mid.seats ticket.caller) ticket

@@ -3,6 +3,7 @@ pub mod Counting
 pub mod TallyRecords
 pub mod Twice
 pub mod Once
+pub mod Entering
 pub mod Tallying
 pub mod TallySteps
 pub mod TallyRolls

@@ -12,8 +12,8 @@ use Rattle.mb_core_spec.specs.declared.stages.Stage.TheVariants as stage
 use Rattle.mb_run.specs.Events.{IsAnsweredAt, IsUnplain}
 use Rattle.mb_run.specs.Recovering.{IsStruckNext, awaits_remount}
 use Rattle.mb_core_spec.specs.Faults.{is_device}
-use Rattle.mb_run.specs.Runs.{IsStruckOnceIfPlain, is_of_running, is_plain, strikes_inside}
-use Rattle.mb_run.specs.Served.{AreStruckOnce, IsInsideOnce, IsPastOnce}
+use Rattle.mb_run.specs.Runs.{is_of_running, is_plain, strikes_inside}
+use Rattle.mb_run.specs.Served.{IsInsideOnce, IsPastOnce}
 use Rattle.mb_run.specs.Sights.{one_if}
 use Rattle.mb_run.specs.declared.runner.At.{At}
 use Rattle.mb_run.specs.declared.runner.At.TheVariants as at
@@ -27,7 +27,7 @@ one_most false = omega arith
 
 -- ---- records that count for other calls
 
-none_counted : (test : FaultRecord → Bool) (more : List FaultRecord) → AllByRecursion (λ (fault : FaultRecord). test fault ≡ false) more → count_by test more ≡ 0
+pub none_counted : (test : FaultRecord → Bool) (more : List FaultRecord) → AllByRecursion (λ (fault : FaultRecord). test fault ≡ false) more → count_by test more ≡ 0
 none_counted test [] all = omega arith
 none_counted test (fault ∷ more) all =
     let one = counted test fault more false all.0 in
@@ -112,6 +112,7 @@ module _ (was now : List FaultRecord) (before after : Crossings) (same : after.c
 
 -- ---- all callers
 
-pub once_all : (records : List FaultRecord) (history : List Entry) (callers : ℕ) → ((caller : ℕ) → caller < callers → AllByRecursion (λ (entry : Entry). entry.caller ≡ caller → IsStruckOnceIfPlain records entry) history) → AreStruckOnce callers history records
-once_all records [] callers each = tt
-once_all records (entry ∷ history) callers each = (λ low. (each entry.caller low).0 refl, once_all records history callers (λ caller low. (each caller low).1))
+-- what holds of each caller's entries holds of all
+pub each_caller : (Fact : Entry → Type 0) (history : List Entry) (callers : ℕ) → ((caller : ℕ) → caller < callers → AllByRecursion (λ (entry : Entry). entry.caller ≡ caller → Fact entry) history) → AllByRecursion (λ (entry : Entry). entry.caller < callers → Fact entry) history
+each_caller Fact [] callers each = tt
+each_caller Fact (entry ∷ history) callers each = (λ low. (each entry.caller low).0 refl, each_caller Fact history callers (λ caller low. (each caller low).1))

@@ -55,6 +55,7 @@ quiet_whole calls test asked old new runners underway quiet seals takes right = 
         (λ same. (let low : caller < length runners = slice_get_within runners caller runner here in omega (arith, low, same)))
         (quiet_acts (length runners) old new quiet) (underway.served caller runner here);
     counts = underway.counts;
+    entered = λ caller runner here. rw (quiet.counts.history, quiet.records) (underway.entered caller runner here);
     sound = rw quiet.records underway.sound;
     callers = underway.callers ∙ ap (λ (l : Limits). l.callers) (sym quiet.config);
     most = λ caller. rw quiet.config (underway.most caller);

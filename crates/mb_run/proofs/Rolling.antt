@@ -11,15 +11,21 @@ use Rattle.mb_kinds.specs.declared.entries.Flight.{Flight}
 use Rattle.mb_kinds.specs.declared.faults.FaultRecord.{FaultRecord}
 use Rattle.mb_kinds.specs.declared.faults.Ticket.{Ticket}
 use Rattle.mb_kinds.specs.declared.replies.Reply.TheVariants as reply
-use Rattle.mb_run.specs.Recovering.{StepEndsByDevice, GoOn, CrossingsGoOn, Rolls, RunsForFlight, Steps, StrikesStep, Waits}
-use Rattle.mb_run.specs.Runs.{strikes_inside}
+use Rattle.mb_edge.specs.Crossings.{place_of}
+use Rattle.mb_kinds.specs.declared.faults.Kind.{Kind}
+use Rattle.mb_kinds.specs.declared.faults.Kind.TheVariants.{Enter, Remount, Replay}
+use Rattle.mb_run.specs.Entering.{EntersIn}
+use Rattle.mb_run.specs.Recovering.{StepEndsByDevice, GoOn, CrossingsGoOn, IsStruckNext, Rolls, RunsForFlight, Steps, StrikesStep, Waits, counted}
+use Rattle.mb_run.specs.Runs.{TakesUpTo, strikes_inside}
 use Rattle.mb_run.specs.Served.{ActsAlone, AreSixCounts, AreSound, Did, IsAtBy, IsCounted, IsPastOnce, IsResting, IsServedSoFar, IsStanding, CrossingsAreKept, MayStep, Nears, Rolled, advanced, with_crossings, busy, calls_in, calls_of, rank}
 use Rattle.mb_run.specs.Sights.{IsOld, IsOrderlyInSight, IsWaiting, Limits, Sight, one_if, recovers}
 use Rattle.mb_core_spec.specs.Copies.{PagesState}
 use Rattle.mb_run.specs.declared.runner.At.{At}
 use Rattle.mb_run.specs.declared.runner.At.TheVariants as at
 use Rattle.mb_jobs.specs.declared.jobs.JobCall.{JobCall}
+use Rattle.mb_core_spec.specs.declared.stages.Stage.{Stage}
 use Rattle.mb_core_spec.specs.declared.stages.Stage.TheVariants as stage
+use Rattle.mb_run.specs.Tallies.{count_of}
 use Rattle.mb_run.specs.declared.answers.Stepped.{Stepped}
 use Rattle.mb_run.specs.declared.answers.Stepped.TheVariants as stepped
 use Rattle.mb_run.specs.declared.progress.Went.{Went}
@@ -28,6 +34,8 @@ use Rattle.mb_run.specs.declared.runner.Runner.{Runner}
 use Rattle.mb_run.proofs.Acting.{acts_same}
 use Rattle.mb_run.proofs.Counting.{counted_on, counted_push, sound_push}
 use Rattle.mb_run.proofs.Entered.{did_answer}
+use Rattle.mb_run.proofs.Entering.{enters_on, others_enter}
+use Rattle.mb_run.proofs.TallyRecords.{counted_there, up_to_on}
 use Rattle.mb_run.proofs.Openings.{line_open}
 use Rattle.mb_run.proofs.Balance.{balanced_same, marked_here}
 use Rattle.mb_run.proofs.Lines.{line_same}
@@ -106,9 +114,20 @@ module _ (calls : List JobCall) (test : Option (Crossing → Bool)) (old : Sight
   counts_on : (crossings : Crossings) → CrossingsGoOn runner.crossings crossings → AreSixCounts crossings
   counts_on crossings on = record { six = on.six ∙ may.counts.six; fits = on.fits }
 
+  -- a recovery has no fault point where a call enters
+  abbrev pub EntersNoMore : Crossings → Type 0
+  EntersNoMore crossings = count_of crossings Enter ≡ count_of runner.crossings Enter
+
+  waited_entered : (new : Sight) (records : List FaultRecord) (crossings : Crossings) → CrossingsGoOn runner.crossings crossings → EntersNoMore crossings → Waits old new → new.records ≡ records
+      → ((caller ordinal most : ℕ) → TakesUpTo test old.records caller ordinal Enter most → TakesUpTo test records caller ordinal Enter most)
+      → ((caller ordinal : ℕ) → strikes_inside records caller ordinal ≡ strikes_inside old.records caller ordinal)
+      → EntersIn test old runner runner.at → EntersIn test new (with_crossings runner crossings) runner.at
+  waited_entered new records crossings on still waits are stays kept was =
+      rw (waits.counts.history, are) (enters_on test old.records old.history runner.crossings runner.answered runner.at was records crossings on.caller on.ordinal still stays (λ c o mine. kept c o))
+
   -- a step forward
-  pub rolls_near : (new : Sight) (crossings : Crossings) → CrossingsGoOn runner.crossings crossings → Rolls old new → Nears calls test old new runner (with_crossings runner crossings)
-  rolls_near new crossings on rolls = record {
+  pub rolls_near : (new : Sight) (crossings : Crossings) → CrossingsGoOn runner.crossings crossings → EntersNoMore crossings → Rolls old new → Nears calls test old new runner (with_crossings runner crossings)
+  rolls_near new crossings on still rolls = record {
     same = on.caller;
     counts = counts_on crossings on;
     acts = acts_waits runner.crossings.caller old new [] rolls.waits rolls.recovered (rolls.records ∙ sym (append-nil old.records)) tt;
@@ -116,8 +135,18 @@ module _ (calls : List JobCall) (test : Option (Crossing → Bool)) (old : Sight
     balanced = balanced_same old new rolls.waits.counts;
     served = waited new crossings on rolls.waits (rw rolls.records (counted_on runner.crossings crossings old.records on may.served.counted)) (λ caller ordinal. ap (λ rs. strikes_inside rs caller ordinal) rolls.records);
     sound = rw rolls.records may.sound;
+    entered = waited_entered new old.records crossings on still rolls.waits rolls.records (λ c o most taken. taken) (λ c o. refl);
     seals = timely_waits old new rolls.waits rolls.recovered;
   }
+
+  counted_still : (crossings : Crossings) (kind : Kind) → place_of Enter ≢ place_of kind → crossings ≡ counted runner.crossings kind → EntersNoMore crossings
+  counted_still crossings kind apart is = ap (λ (c : Crossings). count_of c Enter) is ∙ counted_there runner.crossings kind may.counts Enter apart
+
+  struck_still : (crossings : Crossings) (was : Stage) (fault : FaultRecord) → IsStruckNext runner.crossings crossings was fault → EntersNoMore crossings
+  struck_still crossings was fault next = counted_still crossings fault.kind (λ same. elim next.point [
+    | inl remount ↦ (let is = ap place_of remount.1 in omega (arith, same, is))
+    | inr replay ↦ (let is = ap place_of replay.1 in omega (arith, same, is))
+  ]) next.counts
 
   -- the hook's fault in a recovery
   pub strikes_near : (new : Sight) (crossings : Crossings) → CrossingsGoOn runner.crossings crossings → StrikesStep test runner.crossings crossings old new → Nears calls test old new runner (with_crossings runner crossings)
@@ -132,6 +161,9 @@ module _ (calls : List JobCall) (test : Option (Crossing → Bool)) (old : Sight
         (λ caller ordinal. ap (λ rs. strikes_inside rs caller ordinal) strikes.records
         ∙ strikes_apart old.records (strikes.fault ∷ []) caller ordinal (one_apart caller ordinal strikes.fault (λ same. recovery_apart runner.crossings crossings old.stage strikes.fault strikes.next), tt));
     sound = subst (AreSound test) (sym strikes.records) (sound_push test runner.crossings crossings old.records strikes.fault strikes.taken may.served.counted may.sound);
+    entered = waited_entered new (old.records ++ strikes.fault ∷ []) crossings on (struck_still crossings old.stage strikes.fault strikes.next) strikes.waits strikes.records
+        (λ c o most taken. up_to_on test old.records (strikes.fault ∷ []) c o Enter most taken)
+        (λ c o. strikes_apart old.records (strikes.fault ∷ []) c o (one_apart c o strikes.fault (λ same. recovery_apart runner.crossings crossings old.stage strikes.fault strikes.next), tt));
     seals = timely_waits old new strikes.waits strikes.recovered;
   }
 
@@ -152,13 +184,13 @@ module _ (calls : List JobCall) (test : Option (Crossing → Bool)) (old : Sight
   left_less : (new : Sight) → Rolls old new → new.left < old.left
   left_less new rolls = let shorter = rolls.waits.log.ops in let fewer = rolls.fewer in omega (arith, shorter, fewer)
 
-  pub rolled_on : (new : Sight) (crossings : Crossings) → CrossingsGoOn runner.crossings crossings → IsWaiting (old.seats runner.crossings.caller) → Rolls old new → recovers new.stage ≡ true → Rolled calls test old new runner (with_crossings runner crossings) went.On
-  rolled_on new crossings on waiting rolls still =
+  pub rolled_on : (new : Sight) (crossings : Crossings) → CrossingsGoOn runner.crossings crossings → EntersNoMore crossings → IsWaiting (old.seats runner.crossings.caller) → Rolls old new → recovers new.stage ≡ true → Rolled calls test old new runner (with_crossings runner crossings) went.On
+  rolled_on new crossings on enters waiting rolls still =
       let same : length new.records ≡ length old.records = ap length rolls.records in
       let now : one_if (recovers new.stage) ≡ 1 = ap one_if still in
       let was : one_if (recovers old.stage) ≡ 1 = ap one_if rolls.recovered in
       record {
-        nears = rolls_near new crossings on rolls;
+        nears = rolls_near new crossings on enters rolls;
         goes = (
           refl,
           refl,
@@ -188,9 +220,9 @@ module _ (calls : List JobCall) (test : Option (Crossing → Bool)) (old : Sight
         );
       }
 
-  pub rolled_back : (new : Sight) (crossings : Crossings) → CrossingsGoOn runner.crossings crossings → (waits : Waits old new) → new.records ≡ old.records → recovers old.stage ≡ true → recovers new.stage ≡ false
+  pub rolled_back : (new : Sight) (crossings : Crossings) → CrossingsGoOn runner.crossings crossings → EntersNoMore crossings → (waits : Waits old new) → new.records ≡ old.records → recovers old.stage ≡ true → recovers new.stage ≡ false
       → Rolled calls test old new runner (with_crossings runner crossings) went.Back
-  rolled_back new crossings on waits records recovered over =
+  rolled_back new crossings on enters waits records recovered over =
       let same : length new.records ≡ length old.records = ap length records in
       let now : one_if (recovers new.stage) ≡ 0 = ap one_if over in
       let was : one_if (recovers old.stage) ≡ 1 = ap one_if recovered in
@@ -203,6 +235,7 @@ module _ (calls : List JobCall) (test : Option (Crossing → Bool)) (old : Sight
           balanced = balanced_same old new waits.counts;
           served = waited new crossings on waits (rw records (counted_on runner.crossings crossings old.records on may.served.counted)) (λ caller ordinal. ap (λ rs. strikes_inside rs caller ordinal) records);
           sound = rw records may.sound;
+          entered = waited_entered new old.records crossings on enters waits records (λ c o most taken. taken) (λ c o. refl);
           seals = timely_waits old new waits recovered;
         };
         goes = (refl, refl, (omega (arith, same, limits new waits, now, was, busy_less new waits, ranks new waits)));
@@ -266,6 +299,13 @@ other_served list caller other old new runner apart acts served = record {
   apart_from mine ordinal distinct = strikes_apart old.records acts.more mine ordinal (all_map (λ (fault : FaultRecord). fault.caller ≡ caller) (λ (fault : FaultRecord). is_inside mine ordinal fault ≡ false) acts.more
       (λ fault theirs. others_fault mine ordinal fault (λ same. distinct (sym same ∙ theirs))) acts.mine)
 
+pub other_entered : (test : Option (Crossing → Bool)) (caller other : ℕ) (old new : Sight) (runner : Runner) → runner.crossings.caller ≡ other → other ≢ caller → ActsAlone caller old new → EntersIn test old runner runner.at → EntersIn test new runner runner.at
+other_entered test caller other old new runner own apart acts was =
+    let distinct : (one : ℕ) → one ≡ caller → one ≢ runner.crossings.caller = λ one theirs mine. apart (sym own ∙ sym mine ∙ theirs) in
+    rw (acts.grown, acts.records) (others_enter test old.records acts.more old.history acts.entries runner.crossings runner.answered runner.at
+    (all_map (λ (fault : FaultRecord). fault.caller ≡ caller) (λ (fault : FaultRecord). fault.caller ≢ runner.crossings.caller) acts.more (λ fault theirs. distinct fault.caller theirs) acts.mine)
+    (all_map (λ (entry : Entry). entry.caller ≡ caller) (λ (entry : Entry). entry.caller ≢ runner.crossings.caller) acts.entries (λ entry theirs. distinct entry.caller theirs) acts.theirs) was)
+
 -- ---- by the answers of a step
 
 rolled_ended : (calls : List JobCall) (test : Option (Crossing → Bool)) (old new : Sight) (before now : Runner) → Did calls test old new before now went.Ended → Rolled calls test old new before now went.Ended
@@ -283,19 +323,22 @@ Ends stepped.NoMemory = Unit {0}
 Ends _ = ⊥
 
 module _ (calls : List JobCall) (test : Option (Crossing → Bool)) (old : Sight) (runner : Runner) (call : Call) (may : MayStep calls test old runner call) (rests : IsResting old.incarnation runner.at) (waiting : IsWaiting (old.seats runner.crossings.caller)) where
+  none_still : (now : Crossings) → now ≡ runner.crossings → count_of now Enter ≡ count_of runner.crossings Enter
+  none_still now same = ap (λ (c : Crossings). count_of c Enter) same
+
   pub did_roll : (new : Sight) (now : Crossings) (answer : Stepped) → CrossingsGoOn runner.crossings now → IsOrderlyInSight new → Steps test (Some runner.crossings) (Some now) old new answer → (Ends answer → ⊥)
       → Rolled calls test old new runner (with_crossings runner now) (rolled_went answer)
   did_roll new now stepped.Idle on right steps goes = absurd (goes tt)
-  did_roll new now (stepped.Unwound ticket) on right steps goes = rolled_on calls test old runner call may rests new now on waiting steps.1 steps.0
+  did_roll new now (stepped.Unwound ticket) on right steps goes = rolled_on calls test old runner call may rests new now on (none_still now steps.3) waiting steps.1 steps.0
   did_roll new now (stepped.Failed faults) on right steps goes = elim steps.1 [
-    | inl plain ↦ rolled_back calls test old runner call may rests new now on plain.1 plain.0 plain.2 (ap recovers steps.0)
+    | inl plain ↦ rolled_back calls test old runner call may rests new now on (none_still now plain.3) plain.1 plain.0 plain.2 (ap recovers steps.0)
     | inr strikes ↦ rolled_struck calls test old runner call may rests new now on strikes right
   ]
-  did_roll new now stepped.Dropped on right steps goes = rolled_on calls test old runner call may rests new now on waiting steps.1 steps.0
-  did_roll new now stepped.Remounted on right steps goes = rolled_on calls test old runner call may rests new now on waiting steps.2 (ap recovers steps.1)
-  did_roll new now stepped.Reopened on right steps goes = rolled_on calls test old runner call may rests new now on waiting steps.1 steps.0
-  did_roll new now (stepped.Replayed n) on right steps goes = rolled_on calls test old runner call may rests new now on waiting steps.1 steps.0
-  did_roll new now stepped.Resumed on right steps goes = rolled_back calls test old runner call may rests new now on steps.2.waits steps.2.records steps.2.recovered (ap recovers steps.0)
+  did_roll new now stepped.Dropped on right steps goes = rolled_on calls test old runner call may rests new now on (none_still now steps.3) waiting steps.1 steps.0
+  did_roll new now stepped.Remounted on right steps goes = rolled_on calls test old runner call may rests new now on (counted_still calls test old runner call may rests now Remount (λ same. omega (arith, same)) steps.3.counts) waiting steps.2 (ap recovers steps.1)
+  did_roll new now stepped.Reopened on right steps goes = rolled_on calls test old runner call may rests new now on (none_still now steps.3) waiting steps.1 steps.0
+  did_roll new now (stepped.Replayed n) on right steps goes = rolled_on calls test old runner call may rests new now on (counted_still calls test old runner call may rests now Replay (λ same. omega (arith, same)) steps.3.counts) waiting steps.1 steps.0
+  did_roll new now stepped.Resumed on right steps goes = rolled_back calls test old runner call may rests new now on (none_still now steps.4) steps.2.waits steps.2.records steps.2.recovered (ap recovers steps.0)
   did_roll new now (stepped.Again faults) on right steps goes = rolled_again calls test old runner call may rests new now on waiting steps.1 right (ap recovers steps.0)
   did_roll new now stepped.Device on right steps goes = absurd (goes tt)
   did_roll new now stepped.NoMemory on right steps goes = absurd (goes tt)
@@ -313,6 +356,6 @@ module _ (calls : List JobCall) (test : Option (Crossing → Bool)) (old : Sight
 
   pub rolled_nothing : (new : Sight) → new ≡ old → Rolled calls test old new runner runner went.NoMemory
   rolled_nothing new same = subst (λ (s : Sight). Rolled calls test old s runner runner went.NoMemory) (sym same) (record {
-    nears = record { same = refl; counts = may.counts; acts = acts_same runner.crossings.caller old; lined = λ line. line; balanced = λ even. even; served = may.served; sound = may.sound; seals = timely_refl old };
+    nears = record { same = refl; counts = may.counts; acts = acts_same runner.crossings.caller old; lined = λ line. line; balanced = λ even. even; served = may.served; sound = may.sound; entered = λ was. was; seals = timely_refl old };
     goes = (refl, marked_here runner.answered (old.seats runner.crossings.caller).flight waiting.0 waiting.1 waiting.2 may.served.marked);
   })

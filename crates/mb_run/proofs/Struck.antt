@@ -1,17 +1,20 @@
 -- A call that is struck, or turned away with an old ticket, enters again.
 use Rattle.std.proofs.Common.{◌≡◌, ◌≢◌, List, [], ◌∷◌, ◌++◌, ℕ, ◌+◌, ◌-◌, ◌*◌, ◌<◌, ◌≤◌, Bool, true, false, cond, nat_eq, length, inl, inr, refl, ap, sym, subst, ◌∙◌, arith, Option, None, Some, IfSome, length-append}
 use Rattle.std.specs.List.{AllByRecursion}
-use Rattle.mb_edge.specs.Crossings.{next_nth}
+use Rattle.mb_edge.specs.Crossings.{next_nth, place_of}
 use Rattle.mb_edge.specs.declared.crossings.Crossing.{Crossing}
 use Rattle.mb_kinds.specs.declared.calls.Call.{Call}
 use Rattle.mb_kinds.specs.declared.faults.FaultRecord.{FaultRecord}
 use Rattle.mb_kinds.specs.declared.faults.Kind.{Kind}
+use Rattle.mb_kinds.specs.declared.faults.Kind.TheVariants.{Enter}
 use Rattle.mb_kinds.specs.declared.faults.Ticket.{Ticket}
 use Rattle.mb_core_spec.specs.Copies.{PagesState}
 use Rattle.mb_run.specs.Pages.{has}
+use Rattle.mb_run.specs.Entering.{EntersIn, EntersSoFar}
 use Rattle.mb_run.specs.Events.{StrikesCall}
 use Rattle.mb_run.specs.Served.{Asks, AreSound, Did, IsCounted, MayStep, Nears, backed, busy, counted, missing, rank, work}
 use Rattle.mb_run.specs.Sights.{SeatHasTicket, IsOld, IsOrderlyInSight, Limits, Seat, Sight, one_if, recovers}
+use Rattle.mb_run.specs.Tallies.{is_in}
 use Rattle.mb_run.specs.declared.runner.At.{At}
 use Rattle.mb_run.specs.declared.runner.At.TheVariants as at
 use Rattle.mb_jobs.specs.declared.jobs.JobCall.{JobCall}
@@ -20,10 +23,12 @@ use Rattle.mb_run.specs.declared.runner.Runner.{Runner}
 use Rattle.mb_run.proofs.Acting.{acts_same, acts_strikes}
 use Rattle.mb_run.proofs.Counting.{counted_are, counted_goes, counted_on, counted_push, counted_taken, sound_push}
 use Rattle.mb_run.proofs.Balance.{balanced_same}
+use Rattle.mb_run.proofs.Entering.{enters_back, enters_by, enters_struck}
 use Rattle.mb_run.proofs.Lines.{line_same}
 use Rattle.mb_run.proofs.Lists.{neq}
 use Rattle.mb_run.proofs.Missing.{missing_most}
 use Rattle.mb_run.proofs.Once.{one_apart, one_most, past_moves, strikes_apart}
+use Rattle.mb_run.proofs.TallyRecords.{fault_at}
 use Rattle.mb_run.proofs.Timely.{timely_refl, timely_strikes}
 use Rattle.mb_run.proofs.Twice.{is_own_kind}
 
@@ -55,6 +60,12 @@ rank_old incarnation stales pages (at.Logged mine) ticket is old = ap (λ b. con
 
 abbrev strike_at : Ticket → Kind → ℕ → FaultRecord
 strike_at ticket kind nth = record { caller = ticket.caller; ordinal = ticket.ordinal; kind = kind; nth = nth }
+
+-- it is inside then
+in_one : (a : At) (ticket : Ticket) → IsIn a ticket → is_in a ≡ 1
+in_one at.Outside ticket is = absurd is
+in_one (at.Inside mine) ticket is = refl
+in_one (at.Logged mine) ticket is = refl
 
 -- an entry with this ordinal is of this call, which has it then
 answered_by : (answered : Bool) (one ordinal : ℕ) → one < ordinal + one_if answered → ordinal ≡ one → answered ≡ true
@@ -95,9 +106,14 @@ module _ (calls : List JobCall) (test : Option (Crossing → Bool)) (old : Sight
     right = may.right;
   }
 
+  -- the faults that it took where it entered, once it was asked and has to enter again; with these records
+  abbrev pub EntersAgain : List FaultRecord → Kind → Type 0
+  EntersAgain records kind = EntersIn test old runner runner.at → EntersSoFar test records old.history (counted runner.crossings kind) runner.answered at.Outside
+
   -- nothing changed but that the call is back
-  back_counted : (ticket : Ticket) (kind : Kind) → Stands old runner.crossings.caller runner ticket → ticket.incarnation ≢ old.incarnation → Nears calls test old old runner (backed (record runner { crossings = counted runner.crossings kind }))
-  back_counted ticket kind stands older = record {
+  back_counted : (ticket : Ticket) (kind : Kind) → Stands old runner.crossings.caller runner ticket → ticket.incarnation ≢ old.incarnation → EntersAgain old.records kind
+      → Nears calls test old old runner (backed (record runner { crossings = counted runner.crossings kind }))
+  back_counted ticket kind stands older entered = record {
     same = refl;
     counts = counted_are runner.crossings kind may.counts;
     acts = acts_same runner.crossings.caller old;
@@ -114,6 +130,7 @@ module _ (calls : List JobCall) (test : Option (Crossing → Bool)) (old : Sight
       once = tt;
     };
     sound = may.sound;
+    entered = entered;
     seals = timely_refl old;
   }
 
@@ -135,6 +152,7 @@ module _ (calls : List JobCall) (test : Option (Crossing → Bool)) (old : Sight
       once = tt;
     };
     sound = may.sound;
+    entered = λ was. enters_back test old.records old.history runner.crossings runner.answered runner.at was;
     seals = timely_refl old;
   }
 
@@ -147,9 +165,9 @@ module _ (calls : List JobCall) (test : Option (Crossing → Bool)) (old : Sight
   -- the call is struck
   pub struck_near : (new : Sight) (ticket : Ticket) (kind : Kind) → (runner.answered ≡ true → is_own_kind kind ≡ false) → Stands old runner.crossings.caller runner ticket → ticket.caller ≡ runner.crossings.caller → ticket.ordinal ≡ runner.crossings.ordinal
       → IfSome test (λ fires. fires (record { caller = runner.crossings.caller; ordinal = runner.crossings.ordinal; kind = kind; nth = next_nth runner.crossings.counts kind }) ≡ true)
-      → StrikesCall old new ticket kind (next_nth runner.crossings.counts kind)
+      → EntersAgain (old.records ++ fault_at runner.crossings kind (next_nth runner.crossings.counts kind) ∷ []) kind → StrikesCall old new ticket kind (next_nth runner.crossings.counts kind)
       → Nears calls test old new runner (backed (record runner { crossings = counted runner.crossings kind }))
-  struck_near new ticket kind fits stands own ordinal holds strikes =
+  struck_near new ticket kind fits stands own ordinal holds entered strikes =
       let fault : FaultRecord = record { caller = runner.crossings.caller; ordinal = runner.crossings.ordinal; kind = kind; nth = next_nth runner.crossings.counts kind } in
       let same : strike_at ticket kind (next_nth runner.crossings.counts kind) ≡ fault = ap (λ n. record { caller = n; ordinal = ticket.ordinal; kind = kind; nth = next_nth runner.crossings.counts kind }) own ∙ ap (λ n. record { caller = runner.crossings.caller; ordinal = n; kind = kind; nth = next_nth runner.crossings.counts kind }) ordinal in
       let more : new.records ≡ old.records ++ fault ∷ [] = strikes.records ∙ ap (λ (r : FaultRecord). old.records ++ r ∷ []) same in
@@ -173,6 +191,7 @@ module _ (calls : List JobCall) (test : Option (Crossing → Bool)) (old : Sight
           once = tt;
         };
         sound = subst (AreSound test) (sym more) (sound_push test runner.crossings (counted runner.crossings kind) old.records fault taken may.served.counted may.sound);
+        entered = λ was. rw (strikes.counts.history, more) (entered was);
         seals = timely_strikes old new ticket kind (next_nth runner.crossings.counts kind) strikes;
       }
 
@@ -184,14 +203,22 @@ module _ (calls : List JobCall) (test : Option (Crossing → Bool)) (old : Sight
 
   -- where the hook was asked: the call is back
   pub did_asked : (new : Sight) (now : Runner) (ticket : Ticket) (kind : Kind) → (runner.answered ≡ true → is_own_kind kind ≡ false) → Stands old runner.crossings.caller runner ticket → ticket.caller ≡ runner.crossings.caller → ticket.ordinal ≡ runner.crossings.ordinal
+      → (ticket.incarnation ≢ old.incarnation → EntersAgain old.records kind) → EntersAgain (old.records ++ fault_at runner.crossings kind (next_nth runner.crossings.counts kind) ∷ []) kind
       → IsOrderlyInSight new → Asks test old new runner now ticket kind true → Did calls test old new runner now went.Back
-  did_asked new now ticket kind fits stands own ordinal right asks = elim asks.2 [
+  did_asked new now ticket kind fits stands own ordinal skips strikes right asks = elim asks.2 [
     | inl skipped ↦ subst (λ (s : Sight). Did calls test old s runner now went.Back) (sym skipped.1) (subst (λ (r : Runner). Did calls test old old runner r went.Back) (sym asks.0) (record {
-      nears = back_counted ticket kind stands skipped.0;
+      nears = back_counted ticket kind stands skipped.0 (skips skipped.0);
       goes = (refl, back_less ticket stands skipped.0);
     }))
     | inr struck ↦ subst (λ (r : Runner). Did calls test old new runner r went.Back) (sym asks.0) (record {
-      nears = struck_near new ticket kind fits stands own ordinal asks.1 struck.1;
+      nears = struck_near new ticket kind fits stands own ordinal asks.1 strikes struck.1;
       goes = (refl, struck_less new ticket kind (next_nth runner.crossings.counts kind) (backed (record runner { crossings = counted runner.crossings kind })) right struck.1);
     })
   ]
+
+  -- at another fault point than where it enters
+  pub did_asked_by : (new : Sight) (now : Runner) (ticket : Ticket) (kind : Kind) → place_of Enter ≢ place_of kind → (runner.answered ≡ true → is_own_kind kind ≡ false) → Stands old runner.crossings.caller runner ticket
+      → ticket.caller ≡ runner.crossings.caller → ticket.ordinal ≡ runner.crossings.ordinal → IsOrderlyInSight new → Asks test old new runner now ticket kind true → Did calls test old new runner now went.Back
+  did_asked_by new now ticket kind apart fits stands own ordinal right asks = did_asked new now ticket kind fits stands own ordinal
+      (λ older was. enters_back test old.records old.history (counted runner.crossings kind) runner.answered runner.at (enters_by test old.records old.history runner.crossings runner.answered runner.at was kind may.counts apart))
+      (λ was. enters_struck test old.records old.history runner.crossings runner.answered runner.at was kind may.counts apart (in_one runner.at ticket stands.is) fits) right asks

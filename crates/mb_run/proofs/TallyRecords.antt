@@ -120,6 +120,21 @@ struck_stays records fault caller ordinal kind nth is =
     let test : FaultRecord → Bool = λ (f : FaultRecord). is_of caller ordinal kind f && nat_eq f.nth nth in
     list_any-append test records (fault ∷ []) ∙ or_left (list_any test records) (list_any test (fault ∷ [])) is
 
+-- and where more records come
+struck_on : (records more : List FaultRecord) (caller ordinal : ℕ) (kind : Kind) (nth : ℕ) → is_struck_at records caller ordinal kind nth ≡ true → is_struck_at (records ++ more) caller ordinal kind nth ≡ true
+struck_on records more caller ordinal kind nth is =
+    let test : FaultRecord → Bool = λ (f : FaultRecord). is_of caller ordinal kind f && nat_eq f.nth nth in
+    list_any-append test records more ∙ or_left (list_any test records) (list_any test more) is
+
+pub up_to_on : (test : Option (Crossing → Bool)) (records more : List FaultRecord) (caller ordinal : ℕ) (kind : Kind) (most : ℕ) → TakesUpTo test records caller ordinal kind most → TakesUpTo test (records ++ more) caller ordinal kind most
+up_to_on None records more caller ordinal kind most taken = tt
+up_to_on (Some fires) records more caller ordinal kind most taken = λ nth low high holds. struck_on records more caller ordinal kind nth (taken nth low high holds)
+
+-- a call that came to no fault point of a kind
+pub up_to_none : (test : Option (Crossing → Bool)) (records : List FaultRecord) (caller ordinal : ℕ) (kind : Kind) → TakesUpTo test records caller ordinal kind 0
+up_to_none None records caller ordinal kind = tt
+up_to_none (Some fires) records caller ordinal kind = λ nth one high holds. absurd (omega (arith, one, high))
+
 pub up_to_stays : (test : Option (Crossing → Bool)) (records : List FaultRecord) (fault : FaultRecord) (caller ordinal : ℕ) (kind : Kind) (most : ℕ) → TakesUpTo test records caller ordinal kind most → TakesUpTo test (records ++ fault ∷ []) caller ordinal kind most
 up_to_stays None records fault caller ordinal kind most taken = tt
 up_to_stays (Some fires) records fault caller ordinal kind most taken = λ nth low high holds. struck_stays records fault caller ordinal kind nth (taken nth low high holds)
@@ -292,7 +307,7 @@ module _ (crossings : Crossings) (kind : Kind) (are : AreSixCounts crossings) wh
   pub counted_more : (least : ℕ) → least ≤ count_of crossings kind → least < 4294967295 → least + 1 ≤ count_of (counted crossings kind) kind
   counted_more least low small = let more = next_least crossings.counts kind least low small in omega (arith, counted_here, more)
 
-  module _ (test : Option (Crossing → Bool)) (records : List FaultRecord) (taken : (other : Kind) → TakesUpTo test records crossings.caller crossings.ordinal other (count_of crossings other)) where
+  module _ (test : Option (Crossing → Bool)) (records : List FaultRecord) where
     abbrev next : ℕ
     next = next_nth crossings.counts kind
 
@@ -306,11 +321,14 @@ module _ (crossings : Crossings) (kind : Kind) (are : AreSixCounts crossings) wh
     is_next nth high above = let more = (next_more crossings.counts kind).0 in omega (arith, high, above, more, counted_here)
 
     -- no fault came there
-    pub taken_go : IfSome test (λ fires. fires (record { caller = crossings.caller; ordinal = crossings.ordinal; kind = kind; nth = next_nth crossings.counts kind }) ≡ false) → (other : Kind)
+    pub kind_go : (other : Kind) → TakesUpTo test records crossings.caller crossings.ordinal other (count_of crossings other)
+        → IfSome test (λ fires. fires (record { caller = crossings.caller; ordinal = crossings.ordinal; kind = kind; nth = next_nth crossings.counts kind }) ≡ false)
         → TakesUpTo test records crossings.caller crossings.ordinal other (count_of (counted crossings kind) other)
-    taken_go unfired other = elim (same_or_not (place_of other) (place_of kind)) [
-      | inl same ↦ subst (λ (k : Kind). TakesUpTo test records crossings.caller crossings.ordinal k (count_of (counted crossings kind) k)) (sym (same_place other kind same)) (never test (taken kind) unfired)
-      | inr apart ↦ elsewhere records other apart (taken other)
+    kind_go other taken unfired = elim (same_or_not (place_of other) (place_of kind)) [
+      | inl same ↦ (let is = same_place other kind same in
+          subst (λ (k : Kind). TakesUpTo test records crossings.caller crossings.ordinal k (count_of (counted crossings kind) k)) (sym is)
+          (never test (subst (λ (k : Kind). TakesUpTo test records crossings.caller crossings.ordinal k (count_of crossings k)) is taken) unfired))
+      | inr apart ↦ elsewhere records other apart taken
     ] where
       never : (told : Option (Crossing → Bool)) → TakesUpTo told records crossings.caller crossings.ordinal kind (count_of crossings kind)
           → IfSome told (λ fires. fires (record { caller = crossings.caller; ordinal = crossings.ordinal; kind = kind; nth = next }) ≡ false)
@@ -325,10 +343,13 @@ module _ (crossings : Crossings) (kind : Kind) (are : AreSixCounts crossings) wh
       ]
 
     -- a fault was taken there
-    pub taken_struck : (other : Kind) → TakesUpTo test (records ++ fault_at crossings kind (next_nth crossings.counts kind) ∷ []) crossings.caller crossings.ordinal other (count_of (counted crossings kind) other)
-    taken_struck other = elim (same_or_not (place_of other) (place_of kind)) [
-      | inl same ↦ subst (λ (k : Kind). TakesUpTo test (records ++ fault_at crossings kind next ∷ []) crossings.caller crossings.ordinal k (count_of (counted crossings kind) k)) (sym (same_place other kind same)) (struck test (taken kind))
-      | inr apart ↦ elsewhere (records ++ fault_at crossings kind next ∷ []) other apart (up_to_stays test records (fault_at crossings kind next) crossings.caller crossings.ordinal other (count_of crossings other) (taken other))
+    pub kind_struck : (other : Kind) → TakesUpTo test records crossings.caller crossings.ordinal other (count_of crossings other)
+        → TakesUpTo test (records ++ fault_at crossings kind (next_nth crossings.counts kind) ∷ []) crossings.caller crossings.ordinal other (count_of (counted crossings kind) other)
+    kind_struck other taken = elim (same_or_not (place_of other) (place_of kind)) [
+      | inl same ↦ (let is = same_place other kind same in
+          subst (λ (k : Kind). TakesUpTo test (records ++ fault_at crossings kind next ∷ []) crossings.caller crossings.ordinal k (count_of (counted crossings kind) k)) (sym is)
+          (struck test (subst (λ (k : Kind). TakesUpTo test records crossings.caller crossings.ordinal k (count_of crossings k)) is taken)))
+      | inr apart ↦ elsewhere (records ++ fault_at crossings kind next ∷ []) other apart (up_to_stays test records (fault_at crossings kind next) crossings.caller crossings.ordinal other (count_of crossings other) taken)
     ] where
       struck : (told : Option (Crossing → Bool)) → TakesUpTo told records crossings.caller crossings.ordinal kind (count_of crossings kind)
           → TakesUpTo told (records ++ fault_at crossings kind next ∷ []) crossings.caller crossings.ordinal kind (count_of (counted crossings kind) kind)
@@ -337,3 +358,12 @@ module _ (crossings : Crossings) (kind : Kind) (are : AreSixCounts crossings) wh
         | inl low ↦ struck_stays records (fault_at crossings kind next) crossings.caller crossings.ordinal kind nth (was nth one low.1 holds)
         | inr above ↦ struck_here records crossings kind next nth (sym (is_next nth high above.1))
       ]
+
+    -- so of each kind
+    module _ (taken : (other : Kind) → TakesUpTo test records crossings.caller crossings.ordinal other (count_of crossings other)) where
+      pub taken_go : IfSome test (λ fires. fires (record { caller = crossings.caller; ordinal = crossings.ordinal; kind = kind; nth = next_nth crossings.counts kind }) ≡ false) → (other : Kind)
+          → TakesUpTo test records crossings.caller crossings.ordinal other (count_of (counted crossings kind) other)
+      taken_go unfired other = kind_go other (taken other) unfired
+
+      pub taken_struck : (other : Kind) → TakesUpTo test (records ++ fault_at crossings kind (next_nth crossings.counts kind) ∷ []) crossings.caller crossings.ordinal other (count_of (counted crossings kind) other)
+      taken_struck other = kind_struck other (taken other)

@@ -19,7 +19,7 @@ use Rattle.mb_run.specs.Recovering.{GoOn, Rolls, Steps, StrikesStep, awaits_remo
 use Rattle.mb_run.specs.Runs.{TakesUpTo, has_device, is_near, is_owed, recoveries_of, strikes_inside, strikes_of}
 use Rattle.mb_run.specs.Served.{AreSixCounts, IsAtBy, IsResting, CrossingsAreKept, MayStep, advanced, calls_in, calls_of, with_crossings}
 use Rattle.mb_run.specs.Sights.{IsWaiting, Sight, one_if, recovers}
-use Rattle.mb_run.specs.Tallies.{AreTallied, HasPassedAtLeast, HasPassedPoints, IsBetween, IsPast, IsUpToDate, IsRestarted, IsTallied, TalliedBy, count_of}
+use Rattle.mb_run.specs.Tallies.{HasPassedAtLeast, HasPassedPoints, IsBetween, IsPast, IsUpToDate, IsRestarted, IsTallied, TalliedBy, count_of}
 use Rattle.mb_run.specs.declared.answers.Stepped.{Stepped}
 use Rattle.mb_run.specs.declared.answers.Stepped.TheVariants as stepped
 use Rattle.mb_run.specs.declared.runner.At.{At}

@@ -9,6 +9,7 @@ use Rattle.mb_jobs.specs.declared.jobs.Job.{Job}
 use Rattle.mb_jobs.specs.declared.jobs.JobCall.{JobCall}
 use Rattle.mb_kinds.specs.declared.entries.Entry.{Entry}
 use Rattle.mb_run.specs.Calm.{AreAllPlain, HoldsNowhere}
+use Rattle.mb_run.specs.Entering.{AreTakenEntering}
 use Rattle.mb_run.specs.Letters.{AreLetters, letters_of}
 use Rattle.mb_run.specs.Orders.{TakesAsked, asked_by, asked_in}
 use Rattle.mb_run.specs.Runs.{EntersFirst, FirstsRise, HasTakenFaults}
@@ -47,6 +48,7 @@ pub record IsComplete (calls : List JobCall) (callers : ℕ) (test : Option (Cro
   pub begun : sight.begun ≡ length sight.history
   pub sound : AreSound test sight.records
   pub once : AreStruckOnce callers sight.history sight.records
+  pub entered : AreTakenEntering test callers sight.history sight.records
 
 -- the moments of so many entries are the numbers after the start, each once
 pub record HasEachMoment (start : ℕ) (history : List Entry) : Type 0 where
@@ -75,10 +77,10 @@ abbrev pub EntersByOrder : Option (List ℕ) → List Caller → List JobCall �
 EntersByOrder None callers calls test sight = Unit {0}
 EntersByOrder (Some order) callers calls test sight = EntersCalmly order callers calls test sight
 
--- in list order the faults that the test tells are taken
+-- in list order the faults that the test tells are taken, and by an order those where calls enter
 abbrev pub TakesByOrder : Option (List ℕ) → Option (Crossing → Bool) → Sight → Type 0
 TakesByOrder None test sight = HasTakenFaults test sight.history sight.records
-TakesByOrder (Some order) test sight = Unit {0}
+TakesByOrder (Some order) test sight = AreTakenEntering test sight.config.callers sight.history sight.records
 
 -- by an order, over a volume that runs, and where no fault came, as many checkpoints were taken at least as the order asks for
 abbrev pub SealsByOrder : Option (List ℕ) → Sight → Sight → Type 0

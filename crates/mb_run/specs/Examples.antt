@@ -11,7 +11,7 @@ use Rattle.mb_kinds.specs.declared.faults.Ticket.{Ticket}
 use Rattle.mb_kinds.specs.declared.replies.Reply.TheVariants as reply
 use Rattle.mb_plan.specs.Fires.{fires}
 use Rattle.mb_plan.specs.declared.rules.Rule.{Rule}
-use Rattle.mb_run.specs.Runs.{AreNear, EntersFirst, IsStruckOnceIfPlain, TakesFaults, begun_from, calm_prefix, is_near, is_struck_at, pair_rises, strikes_inside}
+use Rattle.mb_run.specs.Runs.{AreNear, EntersFirst, IsStruckOnceIfPlain, TakesFaults, TakesWhereItEntered, begun_from, calm_prefix, is_near, is_struck_at, pair_rises, strikes_inside}
 use Rattle.mb_run.specs.Seals.{AreInTime, is_due, is_synced, omitted, undue}
 use Rattle.mb_run.specs.Stales.{stales_beyond, stales_since}
 
@@ -97,7 +97,8 @@ then_remounting = record { caller = 0; ordinal = 1; kind = Remount; skip = 1; ti
 
 -- a call that both faults ended took them; one with a plain reply behind the first passed the second over, and none has a plain reply
 -- behind both. One that a running volume told of them was struck once more where the file system was started anew, and one that the
--- disk ended need not have been
+-- disk ended need not have been. Whoever acted meanwhile, one with a plain reply entered once more than the first fault struck it
+-- there, and passed the second over; one that the disk ended need not have entered again
 abbrev pub WorkedTaken : Type 0
 WorkedTaken =
     TakesFaults (Some (fires twice_entering)) entered_twice 0 1 0 1
@@ -107,6 +108,8 @@ WorkedTaken =
     × TakesFaults (Some (fires then_remounting)) entered_twice 0 1 0 0
     × (IsStruckOnceIfPlain entered_twice (entry 0 1 1) → ⊥)
     × IsStruckOnceIfPlain entered_once (entry 0 1 1)
+    × (TakesWhereItEntered (Some (fires twice_entering)) entered_once (entry 0 1 1) → ⊥)
+    × TakesWhereItEntered (Some (fires twice_entering)) entered_once (record (entry 0 1 1) { reply = reply.Device })
 
 -- a call that ended after the first one of its caller, and a sync(2) that the failed volume answered
 abbrev pub ended : Entry

@@ -9,6 +9,7 @@ pub mod Timely
 pub mod Rising
 pub mod Lengths
 pub mod Firsts
+pub mod Entering
 pub mod Served
 pub mod Indexes
 pub mod Orders

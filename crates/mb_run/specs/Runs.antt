@@ -123,6 +123,11 @@ abbrev pub EntryTakesFaults : Option (Crossing → Bool) → List FaultRecord �
 EntryTakesFaults test records entry =
     TakesFaults test records entry.caller entry.ordinal (one_if (is_plain entry.reply)) (one_if (is_of_running entry.reply))
 
+-- where it entered alone, whoever else acted meanwhile
+abbrev pub TakesWhereItEntered : Option (Crossing → Bool) → List FaultRecord → Entry → Type 0
+TakesWhereItEntered test records entry =
+    TakesUpTo test records entry.caller entry.ordinal Enter (strikes_inside records entry.caller entry.ordinal + one_if (is_plain entry.reply))
+
 -- the disk ended a call
 abbrev pub has_device : List Entry → Bool
 has_device history = list_any (λ (entry : Entry). is_device entry.reply) history

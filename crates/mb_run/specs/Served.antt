@@ -21,6 +21,7 @@ use Rattle.mb_run.specs.Firsts.{KeepsFirsts}
 use Rattle.mb_run.specs.Runs.{IsStruckOnceIfPlain, strikes_inside}
 use Rattle.mb_run.specs.Seals.{TrailGoesOn}
 use Rattle.mb_run.specs.Timely.{IsTimely}
+use Rattle.mb_run.specs.Entering.{EntersIn}
 use Rattle.mb_jobs.specs.declared.jobs.JobCall.{JobCall}
 use Rattle.mb_run.specs.declared.runner.At.{At}
 use Rattle.mb_run.specs.declared.runner.At.TheVariants as at
@@ -221,6 +222,8 @@ pub record Nears (calls : List JobCall) (test : Option (Crossing → Bool)) (old
   pub balanced : IsBalanced old → IsBalanced new
   pub served : IsServedSoFar (calls_of calls before.crossings.caller) new before.crossings.caller now
   pub sound : AreSound test new.records
+  -- it took its faults where it entered
+  pub entered : EntersIn test old before before.at → EntersIn test new now now.at
   -- no checkpoint was taken but where one was due, and none was left out behind a sync(2)
   pub seals : IsTimely 0 old new
 
@@ -243,6 +246,8 @@ pub record AsksAtEntry (calls : List JobCall) (test : Option (Crossing → Bool)
   pub done : now.done ≡ before.done
   pub goes : (came ≡ went.On) ⊎ (came ≡ went.Back)
   pub less : work new before.crossings.caller now ≤ work old before.crossings.caller before
+  -- until it is asked it counts as one that is on its way in
+  pub entered : EntersIn test old before at.Outside → EntersIn test new now now.at
 
 -- ---- a recovery
 
@@ -281,6 +286,7 @@ CrossingsAreKept before (Some crossings) now = now ≡ with_crossings before cro
 pub record AllUnderWay (calls : List JobCall) (test : Option (Crossing → Bool)) (sight : Sight) (runners : List Runner) : Type 0 where
   pub served : (caller : ℕ) (runner : Runner) → slice_get runners caller ≡ Some runner → IsServedSoFar (calls_of calls caller) sight caller runner
   pub counts : (caller : ℕ) (runner : Runner) → slice_get runners caller ≡ Some runner → AreSixCounts runner.crossings
+  pub entered : (caller : ℕ) (runner : Runner) → slice_get runners caller ≡ Some runner → EntersIn test sight runner runner.at
   pub sound : AreSound test sight.records
   pub callers : length runners ≡ sight.config.callers
   pub most : (caller : ℕ) → length (calls_of calls caller) ≤ sight.config.most

@@ -214,7 +214,8 @@ fn drive_core<C: EventCore, H: Hook>(
 /// last; where the injector faults nowhere and no call was given up, the event trace begins, but for its checkpoints, as the
 /// order tells it, with the callers' first calls that enter; and each fault record is at a crossing where the fault injector
 /// faults, no two at one whose `nth` is below 4294967295. Where no fault came, as many checkpoints were taken at least as an
-/// order asks for. In list order, over a core that runs at the beginning, no fault was passed over (`TakesFaults`): a call has
+/// order asks for. By an order no fault was passed over where a call entered (`TakesWhereItEntered`), as far as its records tell
+/// how often it did. In list order, over a core that runs at the beginning, none was anywhere (`TakesFaults`): a call has
 /// a record of each crossing where the injector's test holds, as far as its records tell how often it entered, gathered,
 /// finished, left and started the file system anew; with a plain reply it met one fault of its own at most. And no fault
 /// struck where its call did not come (`AreNear`): a record of Enter has an `nth` of at most one more than its call's records of

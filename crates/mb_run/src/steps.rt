@@ -60,6 +60,7 @@ fn go_in<C: EventCore, H: Hook>(
 ) -> Went
     requires may { MayStep calls.now (H.test hook.old) (C.sight core.old) runner.old call.now }
     requires inside { runner.old.at ≡ at.Inside ticket.now }
+    requires present { ticket.now.incarnation ≡ (C.sight core.old).incarnation }
     ensures did { AsksAtEntry calls.now (H.test hook.old) (C.sight core.old) (C.sight core.new) runner.old runner.new result }
     ensures tallied { IsEntering (H.test hook.old) (C.sight core.old) runner.old ticket.now
         → TalliedBy (H.test hook.old) (C.sight core.new) runner.new result }

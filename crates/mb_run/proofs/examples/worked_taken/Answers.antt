@@ -17,6 +17,11 @@ struck (suc zero) low high = refl
 struck (suc (suc zero)) low high = refl
 struck (suc (suc (suc n))) low high = absurd (omega (arith, high))
 
+first : (nth : ℕ) → 1 ≤ nth → nth ≤ 1 → is_struck_at entered_once 0 1 Enter nth ≡ true
+first zero low high = absurd (omega (arith, low))
+first (suc zero) low high = refl
+first (suc (suc n)) low high = absurd (omega (arith, high))
+
 no_both : false ≡ true → ⊥
 no_both same = cc
 
@@ -52,4 +57,6 @@ returns c = (
   },
   (λ once. let many = once refl in omega (arith, many, two)),
   (λ plain. omega (arith, one)),
+  (λ takes. no_both (takes 2 (omega arith) (omega (arith, one)) refl)),
+  (λ nth low high holds. first nth low (omega (arith, high, one))),
 )

@@ -1,7 +1,7 @@
 use Rattle.mb_run.proofs.Entered.{did_done, did_shut, may_inside, did_inside, did_not_enter}
 use Rattle.mb_run.proofs.Inside.{room}
 use Rattle.mb_run.proofs.Starting.{ended_begun, inside_begun, kept_begun, shut_begun}
-use Rattle.std.proofs.Common.{false, refl}
+use Rattle.std.proofs.Common.{false, refl, sym, ◌∙◌}
 use Rattle.mb_core_spec.specs.Copies.{no_pages}
 use Rattle.mb_run.specs.declared.runner.At.TheVariants as at
 use Rattle.mb_run.proofs.TallySteps.{entering_done, entering_inside, entering_shut}
@@ -31,6 +31,9 @@ returns-in-NoMemory-clause-did g c = did_not_enter _ _ _ _ _ c.requires.may _ c.
 
 pub go_in-requires-clause-may : goal.go_in-requires-clause-may
 go_in-requires-clause-may g c = rw c.clear.ensures (may_inside _ _ _ _ _ c.requires.may c.requires.outside _ _ c.in-Inside.ensures.enters c.enter.ensures.right)
+
+pub go_in-requires-clause-present : goal.go_in-requires-clause-present
+go_in-requires-clause-present g c = c.in-Inside.ensures.enters.present ∙ sym c.in-Inside.ensures.enters.begins.stays.incarnation
 
 pub returns-in-Inside-clause-did : goal.returns-in-Inside-clause-did
 returns-in-Inside-clause-did g c = did_inside _ _ _ _ _ c.requires.may c.requires.outside _ _ _ _ _ c.in-Inside.ensures.enters (rw c.clear.ensures at c.go_in.ensures.did)

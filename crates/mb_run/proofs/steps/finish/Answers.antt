@@ -1,3 +1,4 @@
+use Rattle.std.proofs.Common.{arith}
 use Rattle.mb_kinds.specs.declared.faults.Kind.TheVariants as kind
 use Rattle.mb_run.proofs.Inside.{inside_asked, asked_did, asked_may}
 use Rattle.mb_run.proofs.Finishing.{asked_ready, asked_there}
@@ -7,13 +8,13 @@ use Rattle.mb_run.proofs.TallySteps.{finishing_go, finishing_struck}
 use Rattle.mb_run.proofs.steps.finish.Goals as goal
 
 pub returns-then-is_struck-clause-did : goal.returns-then-is_struck-clause-did
-returns-then-is_struck-clause-did g c = inside_asked _ _ _ _ _ c.requires.may _ c.requires.inside _ _ kind.Finish c.is_struck.ensures.right c.if-is_struck.ensures.asks
+returns-then-is_struck-clause-did g c = inside_asked _ _ _ _ _ c.requires.may _ c.requires.inside _ _ kind.Finish (λ same. omega (arith, same)) c.is_struck.ensures.right c.if-is_struck.ensures.asks
 
 pub finish_now-requires-2-clause-may : goal.finish_now-requires-2-clause-may
 finish_now-requires-2-clause-may g c = rw c.is_struck.ensures.test (asked_may _ _ _ _ _ _ _ c.args.ticket.now kind.Finish c.requires.may c.if-is_struck.ensures.asks)
 
 pub returns-clause-did : goal.returns-clause-did
-returns-clause-did g c = asked_did _ _ _ _ _ _ _ _ c.args.ticket.now kind.Finish _ c.if-is_struck.ensures.asks (rw c.is_struck.ensures.test at c.finish_now-2.ensures.did)
+returns-clause-did g c = asked_did _ _ _ _ _ _ _ _ c.args.ticket.now kind.Finish _ c.if-is_struck.ensures.asks c.requires.may.counts (rw c.is_struck.ensures.test at c.finish_now-2.ensures.did)
 
 pub finish_now-requires-2-clause-ready : goal.finish_now-requires-2-clause-ready
 finish_now-requires-2-clause-ready g c = asked_ready (g.H.Hook.test c.args.hook.now) _ _ _ _ c.args.ticket.now kind.Finish _ _ c.if-is_struck.ensures.asks c.requires.ready

@@ -1,4 +1,4 @@
-use Rattle.std.proofs.Common.{inl, inr, ap, sym, subst, refl, true, ◌∙◌}
+use Rattle.std.proofs.Common.{inl, inr, ap, sym, subst, refl, true, ◌∙◌, arith}
 use Rattle.mb_run.specs.Pages.{PagesGrow, PagesGrowBy}
 use Rattle.mb_run.specs.declared.runner.Runner.{Runner}
 use Rattle.mb_run.proofs.UnderWay.{grows_same}
@@ -12,7 +12,7 @@ use Rattle.mb_run.proofs.steps.gather.Goals as goal
 use Rattle.mb_run.proofs.Calmly.{gathered_device, gathered_done, gathered_skip, struck_calm}
 
 pub returns-then-is_struck-clause-did : goal.returns-then-is_struck-clause-did
-returns-then-is_struck-clause-did g c = inside_asked _ _ _ _ _ c.requires.may _ c.requires.inside _ _ kind.Gather c.is_struck.ensures.right c.if-is_struck.ensures.asks
+returns-then-is_struck-clause-did g c = inside_asked _ _ _ _ _ c.requires.may _ c.requires.inside _ _ kind.Gather (λ same. omega (arith, same)) c.is_struck.ensures.right c.if-is_struck.ensures.asks
 
 pub advance-requires-clause-done : goal.advance-requires-clause-done
 advance-requires-clause-done g c = asked_room _ _ _ _ _ _ _ c.args.ticket.now kind.Gather c.requires.may c.if-is_struck.ensures.asks

@@ -1,5 +1,5 @@
 use Rattle.mb_kinds.specs.declared.faults.Kind.TheVariants as kind
-use Rattle.mb_run.proofs.Inside.{inside_asked, in_on, in_back}
+use Rattle.mb_run.proofs.Inside.{in_on, in_back}
 use Rattle.mb_run.proofs.Inside.{has_ticket}
 use Rattle.mb_run.proofs.Places.{of_ticket}
 use Rattle.mb_run.proofs.TallySteps.{in_go, in_struck}
@@ -7,10 +7,10 @@ use Rattle.mb_run.proofs.steps.go_in.Goals as goal
 use Rattle.mb_run.proofs.Calmly.{never_struck, passes_by}
 
 pub returns-then-is_struck-clause-did : goal.returns-then-is_struck-clause-did
-returns-then-is_struck-clause-did g c = in_back _ _ _ _ _ _ (inside_asked _ _ _ _ _ c.requires.may _ c.requires.inside _ _ kind.Enter c.is_struck.ensures.right c.if-is_struck.ensures.asks)
+returns-then-is_struck-clause-did g c = in_back _ _ _ _ _ _ _ c.args.ticket.now c.requires.may c.requires.inside c.requires.present c.is_struck.ensures.right c.if-is_struck.ensures.asks
 
 pub returns-clause-did : goal.returns-clause-did
-returns-clause-did g c = in_on _ _ _ _ _ _ _ c.args.ticket.now kind.Enter c.requires.may c.if-is_struck.ensures.asks
+returns-clause-did g c = in_on _ _ _ _ _ _ _ c.args.ticket.now c.requires.may c.requires.inside c.if-is_struck.ensures.asks
 
 pub is_struck-requires-clause-ticket : goal.is_struck-requires-clause-ticket
 is_struck-requires-clause-ticket g c = of_ticket _ _ _ (has_ticket _ _ _ _ _ c.requires.may c.args.ticket.now c.requires.inside)

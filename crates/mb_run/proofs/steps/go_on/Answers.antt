@@ -15,3 +15,9 @@ gather-requires-in-Some-clause-some g c = c.in-Some.ensures.need.some
 
 pub gather-requires-in-Some-clause-count : goal.gather-requires-in-Some-clause-count
 gather-requires-in-Some-clause-count g c = c.in-Some.ensures.need.few
+
+pub returns-in-Some-clause-did : goal.returns-in-Some-clause-did
+returns-in-Some-clause-did g c = rw c.foreseen.ensures.same at c.gather-in-Some.ensures.did
+
+pub returns-clause-did : goal.returns-clause-did
+returns-clause-did g c = rw c.foreseen.ensures.same at c.go_over.ensures.did

@@ -1,4 +1,4 @@
-use Rattle.std.proofs.Common.{refl}
+use Rattle.std.proofs.Common.{refl, arith}
 use Rattle.mb_kinds.specs.declared.faults.Kind.TheVariants as kind
 use Rattle.mb_run.proofs.Inside.{logged_asked, asked_skip, asked_left, asked_room}
 use Rattle.mb_run.proofs.Inside.{has_logged}
@@ -7,7 +7,7 @@ use Rattle.mb_run.proofs.TallySteps.{leaving_left, leaving_skip, leaving_struck}
 use Rattle.mb_run.proofs.steps.leave.Goals as goal
 
 pub returns-then-is_struck-clause-did : goal.returns-then-is_struck-clause-did
-returns-then-is_struck-clause-did g c = logged_asked _ _ _ _ _ c.requires.may _ c.requires.logged _ _ kind.Leave refl c.is_struck.ensures.right c.if-is_struck.ensures.asks
+returns-then-is_struck-clause-did g c = logged_asked _ _ _ _ _ c.requires.may _ c.requires.logged _ _ kind.Leave (λ same. omega (arith, same)) refl c.is_struck.ensures.right c.if-is_struck.ensures.asks
 
 pub advance-requires-clause-done : goal.advance-requires-clause-done
 advance-requires-clause-done g c = asked_room _ _ _ _ _ _ _ c.args.ticket.now kind.Leave c.requires.may c.if-is_struck.ensures.asks
