@@ -62,6 +62,7 @@ module _ {F D : Type 0} (fs : F) (first : D) (config : Config) (cache : CacheSta
     open_calls = λ free. total_idle (length config.callers) _ refl;
     seals = record { few = (let due = good.due in omega (arith, due)); synced = tt };
     covers = omega arith;
+    failures = λ goes. tt;
     dropped = λ failed. absurd (no_stage failed);
   }
 

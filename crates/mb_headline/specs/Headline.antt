@@ -21,7 +21,7 @@ use Rattle.mb_plan.specs.Fires.{fires}
 use Rattle.mb_plan.specs.declared.rules.Rule.{Rule}
 use Rattle.mb_run.specs.Orders.{asked_in}
 use Rattle.mb_run.specs.Runs.{EntersFirst, FirstsRise, AnswersFailed, HasRecords, HasTakenFaults, TakesWhereItEntered, is_seal}
-use Rattle.mb_run.specs.Seals.{AreAskedFor, AreInTime, omitted}
+use Rattle.mb_run.specs.Seals.{AreAskedFor, AreInTime, late, omitted}
 use Rattle.mb_run.specs.Stales.{stales_beyond}
 use Rattle.mb_run.specs.Served.{calls_in, calls_of}
 use Rattle.mb_tree.specs.History.{Legal, after_first}
@@ -130,6 +130,8 @@ pub record KeepsOrder (job : Job) (history : List Entry) (records : List FaultRe
   pub taken : TakesPlanned job.order job.plan history records
   pub asked : SealsAsOrdered job.order records trail
   pub patient : (caller : ℕ) → stales_beyond caller trail ≡ 0
+  -- once the failed volume answered, every later entry has its answer
+  pub last : late history ≡ 0
 
 -- ---- the end of a run
 

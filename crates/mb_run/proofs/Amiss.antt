@@ -22,8 +22,8 @@ use Rattle.mb_run.specs.Recovering.{Waits}
 use Rattle.mb_run.specs.Sights.{SeatHasTicket, Sight, amiss_in, flight_of, omitted_in, since_in, undue_in}
 use Rattle.mb_run.specs.declared.answers.Enter.{Enter}
 use Rattle.mb_run.specs.declared.answers.Enter.TheVariants as enter
-use Rattle.mb_run.proofs.Timely.{more_omitted, stale_prompt, still_omitted, timely_logs}
-use Rattle.mb_run.proofs.Undue.{entry_undue, stale_undue_in, still_undue}
+use Rattle.mb_run.proofs.Timely.{logs_prompt, more_omitted, stale_prompt, still_omitted}
+use Rattle.mb_run.proofs.Undue.{entry_undue, in_time_undue, stale_undue_in, still_undue}
 
 both_low : (old new : Sight) → undue_in new ≤ undue_in old → omitted_in new ≤ omitted_in old → amiss_in new ≤ amiss_in old
 both_low old new undue omitted = omega (arith, undue, omitted)
@@ -64,7 +64,7 @@ finishes_amiss old new ticket pages call (finished.Skip mine present) has of cov
 finishes_amiss old new ticket pages call (finished.Busy holder) has of covers finishes = same_amiss old new finishes.3
 finishes_amiss old new ticket pages call (finished.Stale block) has of covers finishes = both_low old new (stale_undue_in ticket.caller old new pages finishes.1) (stale_prompt ticket.caller old new pages finishes.1)
 finishes_amiss old new ticket pages call finished.NoMemory has of covers finishes = same_amiss old new finishes.1
-finishes_amiss old new ticket pages call finished.Logged has of covers finishes = let timely = timely_logs old new ticket call has of covers finishes.2 in let undue = timely.undue in both_low old new (omega (arith, undue)) timely.prompt
+finishes_amiss old new ticket pages call finished.Logged has of covers finishes = both_low old new (in_time_undue old new ticket call has of covers finishes.2) (logs_prompt old new ticket call has of covers finishes.2)
 
 pub leaves_amiss : (old new : Sight) (ticket : Ticket) (answer : Left) → LeavesWith old new ticket answer → amiss_in new ≤ amiss_in old
 leaves_amiss old new ticket (left.Skip mine present) leaves = same_amiss old new leaves.1

@@ -30,6 +30,7 @@ use Rattle.mb_run.specs.declared.runner.Runner.{Runner}
 use Rattle.mb_run.proofs.Acting.{acts_same, acts_then, acts_stays, acts_entry}
 use Rattle.mb_run.proofs.Balance.{balanced_answers, balanced_begins, balanced_same, marked_begins, marked_lacks}
 use Rattle.mb_run.proofs.Firsts.{CameFrom, came_from, counted_from, firsts_answers, firsts_begins, firsts_leaves}
+use Rattle.mb_run.proofs.Late.{MayTell, told_entering}
 use Rattle.mb_run.proofs.Lines.{line_enters, line_leaves}
 use Rattle.mb_run.proofs.Openings.{line_answers, line_made}
 use Rattle.mb_run.proofs.Entering.{enters_back, enters_next, entries_next, own_taken}
@@ -109,13 +110,13 @@ module _ (calls : List JobCall) (test : Option (Crossing → Bool)) (old : Sight
       (ap (λ (s : Seat). s.flight) leaves.mine)
 
   -- an entry that changes nothing: the call begins, if it had not, and ends
-  pub did_answer : (new : Sight) (flight : Flight) (answer : Reply) → Answers runner.crossings.caller flight answer old new → is_plain answer ≡ false → flight.answered ≡ false
+  pub did_answer : (new : Sight) (flight : Flight) (answer : Reply) → Answers runner.crossings.caller flight answer old new → is_plain answer ≡ false → MayTell old.stage answer → flight.answered ≡ false
       → IsAtBy (calls_of calls runner.crossings.caller) (calls_in old.history runner.crossings.caller) runner.done flight.ordinal (Some flight)
       → (Answers runner.crossings.caller flight answer old new → InLine runner.crossings.caller old → LineBy old.config.start old.history new.begun (Some flight))
       → (Answers runner.crossings.caller flight answer old new → CameFrom old new runner.crossings.caller flight) → Did calls test old new runner (advanced runner) went.Ended
-  did_answer new flight answer answers unplain lacks here line came =
+  did_answer new flight answer answers unplain tells lacks here line came =
       let entry = entry_of runner.crossings.caller flight None answer in
-      did_end new (acts_entry runner.crossings.caller old new entry answers.stays refl answers.history (elim answers.floor [ inl none ↦ inl none | inr same ↦ inr (inr same) ]) (firsts_answers old new runner.crossings.caller flight answer may.within (counted_from flight.ordinal runner.done here.1) (came answers) answers) (trail_marks old.trail new.trail answers.log.trail)) (λ lined. line_answers runner.crossings.caller flight answer old new answers lacks (line answers lined)) (balanced_answers runner.crossings.caller flight answer old new answers) (timely_answers runner.crossings.caller flight answer old new answers) answers.stays.records
+      did_end new (acts_entry runner.crossings.caller old new entry answers.stays refl answers.history (elim answers.floor [ inl none ↦ inl none | inr same ↦ inr (inr same) ]) (firsts_answers old new runner.crossings.caller flight answer may.within (counted_from flight.ordinal runner.done here.1) (came answers) answers) (trail_marks old.trail new.trail answers.log.trail)) (λ lined. line_answers runner.crossings.caller flight answer old new answers lacks (line answers lined)) (balanced_answers runner.crossings.caller flight answer old new answers) (timely_answers runner.crossings.caller flight answer old new answers may.right tells) answers.stays.records
       (rw answers.history (all_both (IsPastOnce old.records (advanced runner).crossings false) old.history (entry ∷ []) ended (λ mine. (omega (arith, here.1, may.served.ordinal), λ plain. cc), tt)))
       (λ was. rw answers.history (all_both (HasEnteredPast test old.records (advanced runner).crossings false) old.history (entry ∷ [])
       (entries_next test old.records old.history runner.crossings runner.answered runner.at was (advanced runner).crossings refl refl)
@@ -143,7 +144,7 @@ module _ (calls : List JobCall) (test : Option (Crossing → Bool)) (old : Sight
   pub did_done : (new : Sight) (answer : Reply) → EntersInSight old new runner.crossings.caller call (enter.Done answer) → Did calls test old new runner (advanced runner) went.Ended
   did_done new answer enters = elim enters [
     | inl left ↦ did_leave new left.0 left.1
-    | inr made ↦ did_answer new (flight_of old runner.crossings.caller call (old.seats runner.crossings.caller).flight) answer made.2 (unplain_is answer made.1) made.0 (begun (flight_of old runner.crossings.caller call (old.seats runner.crossings.caller).flight) refl refl refl)
+    | inr made ↦ did_answer new (flight_of old runner.crossings.caller call (old.seats runner.crossings.caller).flight) answer made.2 (unplain_is answer made.1) (told_entering old.stage answer made.1 made.3) made.0 (begun (flight_of old runner.crossings.caller call (old.seats runner.crossings.caller).flight) refl refl refl)
         (λ answers line. line_made runner.crossings.caller call answer old new answers line)
         (λ answers. came_from old new runner.crossings.caller call (old.seats runner.crossings.caller).flight (flight_of old runner.crossings.caller call (old.seats runner.crossings.caller).flight) refl refl refl answers.begun)
   ]

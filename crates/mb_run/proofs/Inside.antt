@@ -21,7 +21,7 @@ use Rattle.mb_run.specs.Entering.{EntersIn, EntersSoFar}
 use Rattle.mb_run.specs.Recovering.{next_of}
 use Rattle.mb_run.specs.Tallies.{is_in}
 use Rattle.mb_run.specs.Served.{AreSixCounts, IsInsideOnce, IsPastOnce, Asks, Did, StepComesTo, AsksAtEntry, IsAtBy, IsHeld, IsStanding, MayStep, advanced, backed, busy, calls_in, calls_of, counted, missing, rank}
-use Rattle.mb_run.specs.Sights.{SeatHasTicket, IsOrderlyInSight, Limits, Sight, one_if, recovers}
+use Rattle.mb_run.specs.Sights.{SeatHasTicket, IsOrderlyInSight, Limits, Sight, late_in, one_if, recovers}
 use Rattle.mb_run.specs.declared.runner.At.{At}
 use Rattle.mb_run.specs.declared.runner.At.TheVariants as at
 use Rattle.mb_core_state.specs.declared.answers.Finished.TheVariants as finished
@@ -36,6 +36,7 @@ use Rattle.mb_run.specs.declared.runner.Runner.{Runner}
 use Rattle.mb_run.proofs.Acting.{acts_same, acts_stays, acts_entry}
 use Rattle.mb_run.proofs.Balance.{LogsCall, balanced_logs, balanced_same, marked_here}
 use Rattle.mb_run.proofs.Firsts.{counted_from, firsts_logs, firsts_stays}
+use Rattle.mb_run.proofs.Late.{entry_late, runs_not_failed}
 use Rattle.mb_run.proofs.Lines.{line_logs, line_same}
 use Rattle.mb_run.proofs.Entering.{enters_back, enters_in, enters_logged, enters_past, enters_struck_there}
 use Rattle.mb_run.proofs.Lists.{all_both, calls_push}
@@ -196,11 +197,11 @@ module _ (calls : List JobCall) (test : Option (Crossing → Bool)) (old : Sight
           goes = (refl, omega (arith, same.0, same.1, same.2, floor, is, rank_was present, fewer));
         }
 
-    pub did_device : (new : Sight) → ((flight : Flight) → (old.seats ticket.caller).flight ≡ Some flight → Answers ticket.caller flight reply.Device old new) → Did calls test old new runner (advanced runner) went.Ended
-    did_device new given =
+    pub did_device : (new : Sight) → ticket.incarnation ≡ old.incarnation → ((flight : Flight) → (old.seats ticket.caller).flight ≡ Some flight → Answers ticket.caller flight reply.Device old new) → Did calls test old new runner (advanced runner) went.Ended
+    did_device new present given =
         let here = subst (IsAtBy (calls_of calls runner.crossings.caller) (calls_in old.history runner.crossings.caller) runner.done (old.seats runner.crossings.caller).begun) stood.0.here may.served.calls in
         let made : Answers runner.crossings.caller stood.0.flight reply.Device old new = subst (λ n. Answers n stood.0.flight reply.Device old new) own_ticket (given stood.0.flight (ap (λ n. (old.seats n).flight) own_ticket ∙ stood.0.here)) in
-        did_answer calls test old runner call may new stood.0.flight reply.Device made refl stood.0.answered (here.1, here.1, here.2, here.3)
+        did_answer calls test old runner call may new stood.0.flight reply.Device made refl (inr (runs_not_failed old.stage (stood.1.runs present))) stood.0.answered (here.1, here.1, here.2, here.3)
         (λ made line. line_open runner.crossings.caller stood.0.flight reply.Device old new made stood.0.here line)
         (λ made. inl (record { was = stood.0.flight; here = stood.0.here; ordinal = refl; moment = refl }))
 
@@ -264,7 +265,7 @@ module _ (calls : List JobCall) (test : Option (Crossing → Bool)) (old : Sight
           goes = (refl, omega (arith, same.0, same.1, same.2, free, is, rank_was present, few, missing_most (has no_pages) 262144));
         }
 
-    pub did_log : (new : Sight) → ticket.incarnation ≡ old.incarnation → LogsCall ticket.caller old new → IsTimely 0 old new → Did calls test old new runner (record runner { at = at.Logged ticket; answered = true }) went.On
+    pub did_log : (new : Sight) → ticket.incarnation ≡ old.incarnation → LogsCall ticket.caller old new → (late_in new ≤ late_in old → IsTimely 0 old new) → Did calls test old new runner (record runner { at = at.Logged ticket; answered = true }) went.On
     did_log new present of timely =
         let logs = subst (λ n. LogsCall n old new) own_ticket of in
         let same = same_work new logs.stays.config logs.stays.records logs.stays.stage in
@@ -314,7 +315,7 @@ module _ (calls : List JobCall) (test : Option (Crossing → Bool)) (old : Sight
             entered = λ was. (
                 let own : logs.flight.ordinal ≡ runner.crossings.ordinal = here.1 ∙ sym may.served.ordinal in
                 rw (logs.history, logs.stays.records) (enters_logged test old.records old.history runner.crossings runner.answered runner.at was ticket entry (ap is_in inside) refl own));
-            seals = timely;
+            seals = timely (entry_late old new entry may.right (inr (runs_not_failed old.stage (stood.1.runs present))) logs.history);
           };
           goes = (refl, omega (arith, same.0, same.1, same.2, free, is, rank_was present));
         }
@@ -396,7 +397,7 @@ module _ (calls : List JobCall) (test : Option (Crossing → Bool)) (old : Sight
       → Did calls test old new runner (gathered_runner runner now answer) (gathered_went answer)
   did_gather new need now (gathered.Skip mine was) lacks low gathers =
       subst (λ (s : Sight). Did calls test old s runner (backed runner) went.Back) (sym gathers.1) (inside_back calls test old runner call may ticket inside gathers.0)
-  did_gather new need now gathered.Device lacks low gathers = did_device calls test old runner call may ticket inside new gathers.1
+  did_gather new need now gathered.Device lacks low gathers = did_device calls test old runner call may ticket inside new gathers.0 gathers.1
   did_gather new need now gathered.NoMemory lacks low gathers =
       subst (λ (s : Sight). Did calls test old s runner (record runner { pages = now }) went.NoMemory) (sym gathers.0)
       (subst (λ ps. Did calls test old old runner (record runner { pages = ps }) went.NoMemory) (sym gathers.1) (did_nothing calls test old runner call may ticket inside))

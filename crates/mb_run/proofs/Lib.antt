@@ -15,6 +15,7 @@ pub mod Sealings
 pub mod Stales
 pub mod Omitted
 pub mod Undue
+pub mod Late
 pub mod Timely
 pub mod Amiss
 pub mod Places

@@ -86,7 +86,7 @@ restart_runs now (reply.Refused error) is runs of_it = absurd is
 pub awaits_device : (now : Stage) (answer : Reply) → IsUnplain answer → IsAnsweredAt now answer → awaits_remount now ≡ true → is_device answer ≡ true
 awaits_device now (reply.Restart first second) is told awaits = absurd (let no : false ≡ true = ap awaits_remount (sym told) ∙ awaits in cc)
 awaits_device now (reply.Failed faults) is told awaits = absurd (let no : false ≡ true = ap awaits_remount (sym told) ∙ awaits in cc)
-awaits_device now reply.Device is told awaits = refl
+awaits_device now reply.Device is told awaits = absurd told
 awaits_device now (reply.Num number) is told awaits = absurd is
 awaits_device now (reply.Got bytes) is told awaits = absurd is
 awaits_device now (reply.Info stat) is told awaits = absurd is

@@ -38,6 +38,7 @@ use Rattle.mb_run.proofs.Entering.{enters_on, others_enter}
 use Rattle.mb_run.proofs.TallyRecords.{counted_there, up_to_on}
 use Rattle.mb_run.proofs.Openings.{line_open}
 use Rattle.mb_run.proofs.Balance.{balanced_same, marked_here}
+use Rattle.mb_run.proofs.Late.{recovers_not_failed}
 use Rattle.mb_run.proofs.Lines.{line_same}
 use Rattle.mb_run.proofs.Firsts.{firsts_still}
 use Rattle.mb_run.proofs.Lists.{all_map, all_both}
@@ -250,11 +251,11 @@ module _ (calls : List JobCall) (test : Option (Crossing → Bool)) (old : Sight
       }
 
   -- the disk failed: the call is answered
-  pub device_ends : (new : Sight) (crossings : Crossings) → CrossingsGoOn runner.crossings crossings → StepEndsByDevice (Some runner.crossings) old new → (flight : Flight) → (old.seats runner.crossings.caller).flight ≡ Some flight → flight.answered ≡ false
+  pub device_ends : (new : Sight) (crossings : Crossings) → CrossingsGoOn runner.crossings crossings → StepEndsByDevice (Some runner.crossings) old new → recovers old.stage ≡ true → (flight : Flight) → (old.seats runner.crossings.caller).flight ≡ Some flight → flight.answered ≡ false
       → Did calls test old new runner (advanced runner) went.Ended
-  device_ends new crossings on ends flight here lacks =
+  device_ends new crossings on ends recovered flight here lacks =
       let at_it = subst (IsAtBy (calls_of calls runner.crossings.caller) (calls_in old.history runner.crossings.caller) runner.done (old.seats runner.crossings.caller).begun) here may.served.calls in
-      did_answer calls test old runner call may new flight reply.Device (ends flight here) refl lacks (at_it.1, at_it.1, at_it.2, at_it.3)
+      did_answer calls test old runner call may new flight reply.Device (ends flight here) refl (inr (recovers_not_failed old.stage recovered)) lacks (at_it.1, at_it.1, at_it.2, at_it.3)
       (λ made line. line_open runner.crossings.caller flight reply.Device old new made here line)
       (λ made. inl (record { was = flight; here = here; ordinal = refl; moment = refl }))
 
@@ -352,7 +353,7 @@ module _ (calls : List JobCall) (test : Option (Crossing → Bool)) (old : Sight
 
   pub device_rolls : (new : Sight) (by : Option Crossings) → GoOn (Some runner.crossings) by → Steps test (Some runner.crossings) by old new stepped.Device → Rolled calls test old new runner (advanced runner) went.Ended
   device_rolls new None on steps = absurd on
-  device_rolls new (Some crossings) on steps = rolled_ended calls test old new runner (advanced runner) (device_ends calls test old runner call may rests new crossings on steps.1 waiting.0 waiting.1 waiting.2)
+  device_rolls new (Some crossings) on steps = rolled_ended calls test old new runner (advanced runner) (device_ends calls test old runner call may rests new crossings on steps.1 steps.0 waiting.0 waiting.1 waiting.2)
 
   pub rolled_nothing : (new : Sight) → new ≡ old → Rolled calls test old new runner runner went.NoMemory
   rolled_nothing new same = subst (λ (s : Sight). Rolled calls test old s runner runner went.NoMemory) (sym same) (record {

@@ -22,12 +22,13 @@ use Rattle.mb_kinds.specs.declared.replies.Reply.{Reply}
 use Rattle.mb_run.specs.Events.{Answers, BeginsFlight, EndsFlight, EntersInside, FlushesWith, Gains, IsCallOf, IsStale, KeepsLog, LeavesOthersAlone, Logs, LogsInTime, SealsIf, StrikesCall, entry_of, sealed}
 use Rattle.mb_run.specs.Recovering.{Steps, StrikesBy, Waits}
 use Rattle.mb_run.specs.Seals.{is_due, is_sync, omitted}
-use Rattle.mb_run.specs.Sights.{IsOld, Seat, SeatHasTicket, Sight, flight_of, omitted_in, recovers, since_in, undue_in}
+use Rattle.mb_run.specs.Sights.{IsOld, IsOrderlyInSight, Seat, SeatHasTicket, Sight, flight_of, late_in, omitted_in, recovers, since_in, undue_in}
 use Rattle.mb_run.specs.Stales.{stales_beyond, stales_since}
 use Rattle.mb_run.specs.Timely.{CountsStales, IsTimely, IsToldNow, TellsFew}
 use Rattle.mb_run.specs.declared.answers.Stepped.{Stepped}
 use Rattle.mb_run.specs.declared.answers.Stepped.TheVariants as stepped
 use Rattle.mb_run.proofs.Counting.{same_or_not}
+use Rattle.mb_run.proofs.Late.{MayTell, entry_late, still_late}
 use Rattle.mb_run.proofs.Omitted.{due_omitted, logged_omitted, marks_omitted, no_sync_last, sealed_omitted, stale_omitted}
 use Rattle.mb_run.proofs.Stales.{entered_beyond, entered_since, marks_beyond, marks_since, put_beyond, put_since, told_beyond, told_other, told_other_beyond, told_since}
 use Rattle.mb_run.proofs.Undue.{answers_undue, in_time_undue, seal_undue, stale_undue_in, still_undue}
@@ -48,13 +49,14 @@ timely_then a b d m n one two = record {
       (let first = one.told counts in
       let second = two.told first.counts in
       record { counts = second.counts; few = λ caller. (let low = first.few caller in let more = second.few caller in omega (arith, low, more)) });
+  late = (let low = one.late in let more = two.late in omega (arith, low, more));
 }
 
 pub timely_more : (a b : Sight) (m n : ℕ) → m ≤ n → IsTimely m a b → IsTimely n a b
-timely_more a b m n less timely = record { undue = (let low = timely.undue in omega (arith, low, less)); prompt = timely.prompt; told = timely.told }
+timely_more a b m n less timely = record { undue = (let low = timely.undue in omega (arith, low, less)); prompt = timely.prompt; told = timely.told; late = timely.late }
 
 pub timely_refl : (s : Sight) → IsTimely 0 s s
-timely_refl s = record { undue = omega arith; prompt = omega arith; told = λ counts. record { counts = counts; few = λ caller. omega arith } }
+timely_refl s = record { undue = omega arith; prompt = omega arith; told = λ counts. record { counts = counts; few = λ caller. omega arith }; late = omega arith }
 
 pub timely_same : (old new : Sight) → new ≡ old → IsTimely 0 old new
 timely_same old new same = subst (IsTimely 0 old) (sym same) (timely_refl old)
@@ -104,8 +106,9 @@ module _ (caller : ℕ) (old new : Sight) (stays : LeavesOthersAlone caller old 
 -- ---- a call ends
 
 module _ (caller : ℕ) (old new : Sight) (stays : LeavesOthersAlone caller old new) (log : KeepsLog old new) where
-  pub timely_ends : (more : List Entry) → new.history ≡ old.history ++ more → (new.seats caller).flight ≡ None → undue_in new ≤ undue_in old → IsTimely 0 old new
-  timely_ends more grown gone undue = record {
+  pub timely_ends : (more : List Entry) → new.history ≡ old.history ++ more → (new.seats caller).flight ≡ None → undue_in new ≤ undue_in old → late_in new ≤ late_in old → IsTimely 0 old new
+  timely_ends more grown gone undue late = record {
+    late = late;
     undue = omega (arith, undue);
     prompt = more_omitted old new more log grown;
     told = λ counts. record {
@@ -114,14 +117,15 @@ module _ (caller : ℕ) (old new : Sight) (stays : LeavesOthersAlone caller old 
     };
   }
 
-pub timely_answers : (caller : ℕ) (flight : Flight) (answer : Reply) (old new : Sight) → Answers caller flight answer old new → IsTimely 0 old new
-timely_answers caller flight answer old new answers =
+pub timely_answers : (caller : ℕ) (flight : Flight) (answer : Reply) (old new : Sight) → Answers caller flight answer old new → IsOrderlyInSight old → MayTell old.stage answer → IsTimely 0 old new
+timely_answers caller flight answer old new answers right tells =
     timely_ends caller old new answers.stays answers.log (entry_of caller flight None answer ∷ []) answers.history (ap (λ (s : Seat). s.flight) answers.mine) (answers_undue caller flight answer old new answers)
+    (entry_late old new (entry_of caller flight None answer) right tells answers.history)
 
 pub timely_leaves : (caller : ℕ) (flight : Flight) (old new : Sight) → EndsFlight caller flight old new → IsTimely 0 old new
 timely_leaves caller flight old new leaves =
     timely_ends caller old new leaves.stays leaves.log [] (leaves.counts.history ∙ sym (append-nil old.history)) (ap (λ (s : Seat). s.flight) leaves.mine)
-    (still_undue old new leaves.stays.config leaves.log leaves.counts.history)
+    (still_undue old new leaves.stays.config leaves.log leaves.counts.history) (still_late old new leaves.counts.history)
 
 -- ---- a call waits, or goes inside
 
@@ -130,6 +134,7 @@ old_ticket incarnation flight ticket old mine = subst (λ (o : Option Ticket). I
 
 pub timely_waits_outside : (caller : ℕ) (flight : Flight) (old new : Sight) → BeginsFlight caller flight old new → IsOld old.incarnation (Some flight) → IsTimely 0 old new
 timely_waits_outside caller flight old new begins past = record {
+  late = still_late old new begins.history;
   undue = (let low = still_undue old new begins.stays.config begins.log begins.history in omega (arith, low));
   prompt = still_omitted old new begins.log begins.history;
   told = λ counts. record {
@@ -162,6 +167,7 @@ module _ (caller : ℕ) (call : Call) (old new : Sight) (ticket : Ticket) (enter
 
   pub timely_inside : IsTimely 0 old new
   timely_inside = record {
+    late = still_late old new begins.history;
     undue = (let low = still_undue old new begins.stays.config begins.log begins.history in omega (arith, low));
     prompt = still_omitted old new begins.log begins.history;
     told = λ counts. record {
@@ -179,6 +185,7 @@ module _ (caller : ℕ) (call : Call) (old new : Sight) (ticket : Ticket) (enter
 
 pub timely_gains : (caller : ℕ) (old new : Sight) (need : Need) (before now : PagesState) → Gains caller old new need before now → IsTimely 0 old new
 timely_gains caller old new need before now gains = record {
+  late = still_late old new gains.counts.history;
   undue = (let low = still_undue old new gains.stays.config gains.log gains.counts.history in omega (arith, low));
   prompt = still_omitted old new gains.log gains.counts.history;
   told = λ counts. record {
@@ -243,6 +250,7 @@ module _ (caller : ℕ) (old new : Sight) (pages : PagesState) (ticket : Ticket)
 
   pub timely_stale : IsTimely 0 old new
   timely_stale = record {
+    late = still_late old new stale.counts.history;
     undue = (let low = stale_undue_in caller old new pages stale in omega (arith, low));
     prompt = stale_prompt caller old new pages stale;
     told = tells;
@@ -312,10 +320,14 @@ module _ (old new : Sight) (ticket : Ticket) (call : Call) (has : SeatHasTicket 
   told_if true seals counts = subst (TellsFew old) (sym seals) (told_two counts)
   told_if false seals counts = subst (TellsFew old) (sym seals) (told_one counts)
 
-  pub timely_logs : IsTimely 0 old new
-  timely_logs = record {
+  pub logs_prompt : omitted_in new ≤ omitted_in old
+  logs_prompt = prompt_if (is_due logged.config.threshold logged.ops call) refl in_time.seals
+
+  pub timely_logs : late_in new ≤ late_in old → IsTimely 0 old new
+  timely_logs late = record {
+    late = late;
     undue = (let low = in_time_undue old new ticket call has of covers in_time in omega (arith, low));
-    prompt = prompt_if (is_due logged.config.threshold logged.ops call) refl in_time.seals;
+    prompt = logs_prompt;
     told = told_if (is_due logged.config.threshold logged.ops call) in_time.seals;
   }
 
@@ -325,6 +337,7 @@ module _ (old new : Sight) (ticket : Ticket) (call : Call) (has : SeatHasTicket 
 module _ (old new : Sight) (seats : (caller : ℕ) → new.seats caller ≡ old.seats caller) (log : KeepsLog old new) (history : new.history ≡ old.history) (config : new.config ≡ old.config) where
   timely_by : ((caller : ℕ) (ticket : Ticket) → (ticket.incarnation < old.incarnation) ⊎ IsToldNow old caller ticket → (ticket.incarnation < new.incarnation) ⊎ IsToldNow new caller ticket) → IsTimely 0 old new
   timely_by each = record {
+    late = still_late old new history;
     undue = (let low = still_undue old new config log history in omega (arith, low));
     prompt = still_omitted old new log history;
     told = λ counts. record {
@@ -400,6 +413,7 @@ alone_told test old new by stepped.Reopened steps = waits_told old new steps.1.w
 -- a page is written back
 pub timely_flush : (old new : Sight) (answer : Flushed) → FlushesWith old new answer → IsTimely 0 old new
 timely_flush old new flushed.One flushes = subst (IsTimely 0 old) (sym flushes.1) (record {
+  late = omega arith;
   undue = omega arith;
   prompt = omega arith;
   told = λ counts. record { counts = λ caller flight ticket here mine lacks. still (counts caller flight ticket here mine lacks); few = λ caller. omega arith };
@@ -413,6 +427,7 @@ timely_flush old new flushed.Device flushes = timely_same old new flushes.1
 -- a checkpoint is taken that was asked for
 pub timely_seal : (old new : Sight) → new ≡ sealed old new → IsTimely 1 old new
 timely_seal old new is = record {
+  late = still_late old new (ap (λ (s : Sight). s.history) is);
   undue = seal_undue old new is;
   prompt = (let same = omitted_is old new (old.history ++ []) (old.trail ++ step.Sealed (length old.history) ∷ []) (ap (λ (s : Sight). s.history) is ∙ sym (append-nil old.history)) (ap (λ (s : Sight). s.trail) is) in
       let low = sealed_omitted old.history [] old.trail (length old.history) in

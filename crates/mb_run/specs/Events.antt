@@ -98,12 +98,12 @@ IsUnplain reply.Device = Unit {0}
 IsUnplain (reply.Failed faults) = Unit {0}
 IsUnplain _ = ⊥
 
--- EIO for a restart is the answer of a volume that runs, where the recovery before it came to its end, and FAILED that of one that
--- failed
+-- of such answers a call that enters gets two: EIO for a restart by a volume that runs, where the recovery before it came to its end,
+-- and FAILED by one that failed
 abbrev pub IsAnsweredAt : Stage → Reply → Type 0
 IsAnsweredAt now (reply.Restart first second) = now ≡ stage.Running
 IsAnsweredAt now (reply.Failed faults) = now ≡ stage.Failed
-IsAnsweredAt now _ = Unit {0}
+IsAnsweredAt now _ = ⊥
 
 -- an entry of that call has this reply
 pub record IsReplyOf (history : List Entry) (caller ordinal : ℕ) (answer : Reply) : Type 0 where

@@ -12,7 +12,7 @@ use Rattle.mb_kinds.specs.declared.replies.Reply.TheVariants as reply
 use Rattle.mb_plan.specs.Fires.{fires}
 use Rattle.mb_plan.specs.declared.rules.Rule.{Rule}
 use Rattle.mb_run.specs.Runs.{AreNear, EntersFirst, IsStruckOnceIfPlain, TakesFaults, TakesWhereItEntered, begun_from, calm_prefix, is_near, is_struck_at, pair_rises, strikes_inside}
-use Rattle.mb_run.specs.Seals.{AreInTime, is_due, is_synced, omitted, undue}
+use Rattle.mb_run.specs.Seals.{AreInTime, is_due, is_synced, late, omitted, undue}
 use Rattle.mb_run.specs.Stales.{stales_beyond, stales_since}
 
 -- callers a and b
@@ -153,6 +153,13 @@ WorkedOmitted =
     × (omitted (entry 0 1 1 ∷ []) (first ∷ []) ≡ 1)
     × (omitted (entry 0 1 1 ∷ []) (first ∷ step.Left (ticket 0 1) ∷ step.Sealed 1 ∷ []) ≡ 1)
     × (omitted two (first ∷ second ∷ []) ≡ 0)
+
+-- behind the failed volume's answer a call that was done is late, and another one of its is not; before it none is
+abbrev pub WorkedLate : Type 0
+WorkedLate =
+    (late (given_up ∷ entry 0 2 2 ∷ []) ≡ 1)
+    × (late (given_up ∷ record (entry 0 2 2) { reply = reply.Failed 1 } ∷ []) ≡ 0)
+    × (late (entry 0 1 1 ∷ record (entry 0 2 2) { reply = reply.Failed 1 } ∷ []) ≡ 0)
 
 -- caller 0 enters, and is told four times that a copy is stale
 abbrev pub four : List Step

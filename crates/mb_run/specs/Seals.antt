@@ -1,5 +1,5 @@
 -- When checkpoints are taken.
-use Rattle.std.specs.Prelude.{ℕ, ◌+◌, ◌<◌, ◌≤◌, ◌≡◌, ◌⊎◌, List, [], ◌∷◌, ◌++◌, length, drop, nat_eq, nat_le, ◌&&◌, ◌||◌, not, Bool, true, false, if◌then◌else◌}
+use Rattle.std.specs.Prelude.{ℕ, ◌+◌, ◌<◌, ◌≤◌, ◌≡◌, ◌⊎◌, List, [], ◌∷◌, ◌++◌, length, drop, nat_eq, nat_le, ◌&&◌, ◌||◌, not, cond, count_by, Bool, true, false, if◌then◌else◌}
 use Rattle.std.specs.List.{AllByRecursion, list_all, list_any}
 use Rattle.mb_core_spec.specs.declared.steps.Step.{Step}
 use Rattle.mb_core_spec.specs.declared.steps.Step.TheVariants as step
@@ -16,6 +16,16 @@ is_plain (reply.Restart first second) = false
 is_plain reply.Device = false
 is_plain (reply.Failed faults) = false
 is_plain _ = true
+
+-- the failed volume's answer
+abbrev pub is_failed : Reply → Bool
+is_failed (reply.Failed faults) = true
+is_failed _ = false
+
+-- how many entries that are not its answer stand behind one that is
+abbrev pub late : List Entry → ℕ
+late [] = 0
+late (entry ∷ history) = cond (is_failed entry.reply) (count_by (λ (other : Entry). not (is_failed other.reply)) history) (late history)
 
 abbrev pub is_sync : Call → Bool
 is_sync call.Sync = true

@@ -11,7 +11,7 @@ use Rattle.mb_core_spec.specs.declared.config.Config.{Config}
 use Rattle.mb_core_spec.specs.declared.stages.Stage.{Stage}
 use Rattle.mb_core_spec.specs.declared.stages.Stage.TheVariants as stage
 use Rattle.mb_core_spec.specs.declared.steps.Step.{Step}
-use Rattle.mb_run.specs.Seals.{AreInTime, logged_since, omitted, undue}
+use Rattle.mb_run.specs.Seals.{AreInTime, is_failed, late, logged_since, omitted, undue}
 
 -- of one caller: how many calls it began, and its call in flight
 pub record Seat : Type 0 where
@@ -66,6 +66,10 @@ undue_in sight = undue sight.config.threshold sight.history sight.trail
 -- how many sync(2) the trace logged without a checkpoint right behind
 abbrev pub omitted_in : Sight → ℕ
 omitted_in sight = omitted sight.history sight.trail
+
+-- how many entries stand behind the failed volume's answer that are not its
+abbrev pub late_in : Sight → ℕ
+late_in sight = late sight.history
 
 -- how many checkpoints are amiss: taken where none was due, or left out behind a sync(2)
 abbrev pub amiss_in : Sight → ℕ
@@ -159,5 +163,7 @@ pub record IsOrderlyInSight (sight : Sight) : Type 0 where
   pub seals : AreInTime sight.config.threshold sight.ops sight.sealed_at sight.history
   -- each operation of the log is one of a call that was logged since the last checkpoint
   pub covers : sight.ops ≤ since_in sight
+  -- its answer is told by a failed volume alone
+  pub failures : sight.stage ≢ stage.Failed → AllByRecursion (λ (entry : Entry). is_failed entry.reply ≡ false) sight.history
   -- a failed volume has no dirty page
   pub dropped : sight.stage ≡ stage.Failed → sight.current ≡ 0

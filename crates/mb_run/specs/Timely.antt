@@ -3,7 +3,7 @@ use Rattle.std.specs.Prelude.{ℕ, ◌+◌, ◌<◌, ◌≤◌, ◌≡◌, ◌�
 use Rattle.mb_core_spec.specs.declared.stages.Stage.TheVariants as stage
 use Rattle.mb_kinds.specs.declared.entries.Flight.{Flight}
 use Rattle.mb_kinds.specs.declared.faults.Ticket.{Ticket}
-use Rattle.mb_run.specs.Sights.{Sight, omitted_in, undue_in}
+use Rattle.mb_run.specs.Sights.{Sight, late_in, omitted_in, undue_in}
 use Rattle.mb_run.specs.Stales.{stales_beyond, stales_since}
 
 -- a call that is inside was told since it entered that a copy is stale at most as often as is counted
@@ -22,9 +22,10 @@ pub record TellsFew (old new : Sight) : Type 0 where
   pub counts : CountsStales new
   pub few : (caller : ℕ) → stales_beyond caller new.trail ≤ stales_beyond caller old.trail
 
--- at most so many checkpoints were taken where none was due, each sync(2) has one right behind, and no call is told a fifth time
--- that a copy is stale
+-- at most so many checkpoints were taken where none was due, each sync(2) has one right behind, no call is told a fifth time
+-- that a copy is stale, and none gets another answer behind the failed volume's
 pub record IsTimely (asked : ℕ) (old new : Sight) : Type 0 where
   pub undue : undue_in new ≤ undue_in old + asked
   pub prompt : omitted_in new ≤ omitted_in old
   pub told : CountsStales old → TellsFew old new
+  pub late : late_in new ≤ late_in old

@@ -1,4 +1,4 @@
-ghost use Rattle.mb_run.specs.Examples.{WorkedCheckpoints, WorkedEntering, WorkedFaults, WorkedMoments, WorkedOmitted, WorkedOrders, WorkedStales, WorkedTaken, WorkedUndue};
+ghost use Rattle.mb_run.specs.Examples.{WorkedCheckpoints, WorkedEntering, WorkedFaults, WorkedLate, WorkedMoments, WorkedOmitted, WorkedOrders, WorkedStales, WorkedTaken, WorkedUndue};
 
 /// Whose first moment is lower under an order.
 pub fn worked_moments()
@@ -38,6 +38,11 @@ pub fn worked_undue()
 /// Which sync(2) of a trace have no checkpoint right behind.
 pub fn worked_omitted()
     ensures { WorkedOmitted }
+{}
+
+/// How many entries stand behind the failed volume's answer that are not its.
+pub fn worked_late()
+    ensures { WorkedLate }
 {}
 
 /// How often a call was told that a copy is stale, and how often beyond the fourth time.

@@ -35,8 +35,8 @@ pub use call_index::{CallIndex, find_call};
 pub use drives::{DriveEnd, Driven, drive};
 pub use event_core::EventCore;
 pub use examples::{
-    worked_checkpoints, worked_entering, worked_faults, worked_moments, worked_omitted,
-    worked_orders, worked_stales, worked_taken, worked_undue,
+    worked_checkpoints, worked_entering, worked_faults, worked_late, worked_moments,
+    worked_omitted, worked_orders, worked_stales, worked_taken, worked_undue,
 };
 pub use laws::{recovers_soon, stands_on};
 pub use orders::run_order;

@@ -53,7 +53,7 @@ shut_recovers stage.Failed shut = absurd shut
 unplain : {F D : Type 0} (core : CoreState F D) (caller ordinal : ℕ) (answer : Reply) → IsCause core caller ordinal answer → IsUnplain answer
 unplain core caller ordinal (reply.Restart first second) cause = tt
 unplain core caller ordinal (reply.Failed faults) cause = tt
-unplain core caller ordinal reply.Device cause = tt
+unplain core caller ordinal reply.Device cause = absurd cause
 unplain core caller ordinal (reply.Num number) cause = absurd cause
 unplain core caller ordinal (reply.Got bytes) cause = absurd cause
 unplain core caller ordinal (reply.Info stat) cause = absurd cause
@@ -62,11 +62,11 @@ unplain core caller ordinal (reply.Refused e) cause = absurd cause
 answered_at : {F D : Type 0} (core : CoreState F D) (caller ordinal : ℕ) (answer : Reply) → IsCause core caller ordinal answer → IsAnsweredAt core.stage answer
 answered_at core caller ordinal (reply.Restart first second) cause = cause.0
 answered_at core caller ordinal (reply.Failed faults) cause = cause.0
-answered_at core caller ordinal reply.Device cause = tt
-answered_at core caller ordinal (reply.Num number) cause = tt
-answered_at core caller ordinal (reply.Got bytes) cause = tt
-answered_at core caller ordinal (reply.Info stat) cause = tt
-answered_at core caller ordinal (reply.Refused e) cause = tt
+answered_at core caller ordinal reply.Device cause = absurd cause
+answered_at core caller ordinal (reply.Num number) cause = absurd cause
+answered_at core caller ordinal (reply.Got bytes) cause = absurd cause
+answered_at core caller ordinal (reply.Info stat) cause = absurd cause
+answered_at core caller ordinal (reply.Refused e) cause = absurd cause
 
 module _ {F D : Type 0} (told : D → Option Image) (faults : D → ℕ) (core : CoreState F D) (r : Right told faults core) (caller : ℕ) (mine : CallerState) (here : slice_get core.callers caller ≡ Some mine) (given : Call) where
   seat_is : (sight_of core).seats caller ≡ record { begun = mine.begun; flight = mine.flight }

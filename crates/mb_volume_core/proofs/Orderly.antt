@@ -6,11 +6,14 @@ use Rattle.std.specs.List.{AllByRecursion}
 use Rattle.mb_kinds.specs.Image.{Image}
 use Rattle.mb_kinds.specs.declared.entries.Entry.{Entry}
 use Rattle.mb_kinds.specs.declared.entries.Flight.{Flight}
+use Rattle.mb_kinds.specs.declared.faults.FaultRecord.{FaultRecord}
+use Rattle.mb_kinds.specs.declared.replies.Reply.{Reply}
+use Rattle.mb_kinds.specs.declared.replies.Reply.TheVariants as reply
 use Rattle.mb_cache.specs.Stamps.{Stamps, stamp_of}
 use Rattle.mb_core_spec.specs.Callers.{insiders, one_if}
 use Rattle.mb_cache.specs.Kept.{CopyList, KeptBlock, kept_at}
 use Rattle.mb_core_spec.specs.Copies.{HoldsFloor, LiveTables, PagesState, TableCopy}
-use Rattle.mb_core_spec.specs.Faults.{MayNumber}
+use Rattle.mb_core_spec.specs.Faults.{MayNumber, Says}
 use Rattle.mb_core_spec.specs.Flights.{IsFloor, IsFlying, runs}
 use Rattle.mb_core_spec.specs.Numbers.{AreInOrder, CanFollow, IsEntry, is_open, open_calls, open_flight}
 use Rattle.mb_core_spec.specs.Right.{Right}
@@ -21,6 +24,7 @@ use Rattle.mb_core_order.proofs.Beginning.{all_of}
 use Rattle.mb_core_order.proofs.Orderlies.{brief}
 use Rattle.mb_core_order.proofs.Readings.{flying_inside}
 use Rattle.mb_run.specs.CoreSight.{are_blocks_fresh, are_tables_fresh, is_block_fresh, is_fresh, pages_kept, seat_of, sight_of}
+use Rattle.mb_run.specs.Seals.{is_failed}
 use Rattle.mb_run.specs.Sights.{AreApart, IsOrderlyInSight, steps_left}
 use Rattle.mb_run.proofs.InTime.{InTime}
 use Rattle.mb_volume_core.proofs.Watching.{watched_since}
@@ -102,6 +106,16 @@ holder_fresh : (stamps : Stamps) (live : LiveTables) (pages : PagesState) → Ho
 holder_fresh stamps live pages holds =
     both_true (are_blocks_fresh stamps pages.blocks pages.blocks) (are_tables_fresh live pages.tables) (blocks_fresh stamps pages.blocks pages.blocks holds.blocks) (tables_fresh live pages.tables holds.tables)
 
+-- a volume that has not failed told nobody so
+not_failed : (records : List FaultRecord) (limit : ℕ) (now : Stage) → now ≢ stage.Failed → (caller ordinal : ℕ) (answer : Reply) → Says records limit now caller ordinal answer → is_failed answer ≡ false
+not_failed records limit now goes caller ordinal (reply.Restart first second) says = refl
+not_failed records limit now goes caller ordinal (reply.Failed faults) says = absurd (goes says.1)
+not_failed records limit now goes caller ordinal reply.Device says = refl
+not_failed records limit now goes caller ordinal (reply.Num number) says = refl
+not_failed records limit now goes caller ordinal (reply.Got bytes) says = refl
+not_failed records limit now goes caller ordinal (reply.Info stat) says = refl
+not_failed records limit now goes caller ordinal (reply.Refused e) says = refl
+
 -- ---- the whole
 
 module _ {F D : Type 0} (told : D → Option Image) (faults : D → ℕ) (core : CoreState F D) (r : Right told faults core) where
@@ -145,5 +159,7 @@ module _ {F D : Type 0} (told : D → Option Image) (faults : D → ℕ) (core :
         (let has = holder_is holder held in
         ap (λ (o : Option CallerState). is_fresh core.cache.stamps core.tables (pages_kept o)) has.1 ∙ holder_fresh core.cache.stamps core.tables has.0.pages (r.orderly.fresh running holder has.0 has.1 held));
     open_calls = λ free. none_open core.callers (λ caller low. free caller (let same = r.orderly.numbered.callers_are in omega (arith, low, same)));
+    failures = λ goes. all_of (λ (entry : Entry). Says core.journal.records core.config.limit core.stage entry.caller entry.ordinal entry.reply) (λ (entry : Entry). is_failed entry.reply ≡ false)
+        (λ entry says. not_failed core.journal.records core.config.limit core.stage goes entry.caller entry.ordinal entry.reply says) core.journal.history r.orderly.numbered.says;
     dropped = λ failed. ap length (r.orderly.dropped failed);
   }
