@@ -14,7 +14,7 @@ use Rattle.mb_run.specs.Calm.{AreAllPlain, HoldsNowhere}
 use Rattle.mb_run.specs.CoreSight.{seat_of, sight_of}
 use Rattle.mb_run.specs.Recovering.{crossing_of}
 use Rattle.mb_run.specs.Runs.{TakesWhereItEntered}
-use Rattle.mb_run.specs.Seals.{is_plain, late}
+use Rattle.mb_run.specs.Seals.{is_plain}
 use Rattle.mb_run.specs.Stales.{stales_beyond}
 use Rattle.mb_run.specs.Timely.{CountsStales}
 use Rattle.mb_run.proofs.Stales.{none_beyond}
@@ -108,9 +108,6 @@ module _ {F D : Type 0} (told : D → Option Image) (faults : D → ℕ) (fs : F
   no_faults : (sight_of begun).records ≡ []
   no_faults = ap (λ (core : CoreState F D). core.journal.records) over.over.begun
 
-  nobody_yet : (sight_of begun).history ≡ []
-  nobody_yet = ap (λ (core : CoreState F D). core.journal.history) over.over.begun
-
   bare : (sight_of begun).trail ≡ []
   bare = ap (λ (core : CoreState F D). core.journal.trail) over.over.begun
 
@@ -133,7 +130,6 @@ module _ {F D : Type 0} (told : D → Option Image) (faults : D → ℕ) (fs : F
     taken = planned_taken job.order job.plan (sight_of driven) _ _ right.orderly.numbered.entries (drives.taken runs);
     asked = sealed_as_ordered job.order (sight_of begun) (sight_of driven) no_faults runs drives.asks;
     patient = λ caller. (let low = (drives.seals.told counts).few caller in let none = ap (stales_beyond caller) bare ∙ none_beyond caller in omega (arith, low, none));
-    last = (let low = drives.seals.late in let none = ap late nobody_yet in omega (arith, low, none));
   }
 
 -- one fault injector is each caller's
@@ -151,4 +147,5 @@ driven_apart job test old new drives = record {
   once = drives.once;
   seals = drives.seals.undue;
   prompt = drives.seals.prompt;
+  late = drives.seals.late;
 }

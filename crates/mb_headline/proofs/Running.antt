@@ -22,7 +22,7 @@ use Rattle.mb_run.specs.Drives.{HasEachMoment}
 use Rattle.mb_run.specs.Sights.{Seat, omitted_in, undue_in}
 use Rattle.mb_run.specs.Recovering.{crossing_of}
 use Rattle.mb_run.specs.Runs.{AreDistinct, AnswersFailed, HasRecords, IsStruckOnceIfPlain, NamesTwo}
-use Rattle.mb_run.specs.Seals.{AreAskedFor, AreInTime, omitted}
+use Rattle.mb_run.specs.Seals.{AreAskedFor, AreInTime, late, omitted}
 use Rattle.mb_run.specs.Served.{AreApart, AreSoundBy, IsApart, calls_in}
 use Rattle.mb_tree.specs.History.{Legal}
 use Rattle.mb_tree.specs.Opening.{opening}
@@ -204,6 +204,13 @@ module _ {F D : Type 0} (fs : F) (told : D → Option Image) (faults : D → ℕ
       let low = path.keeps.prompt in
       omega (arith, none, driving, low)
 
+  path_last : late ended.journal.history ≡ 0
+  path_last =
+      let none = ap (λ (core : CoreState F D). late core.journal.history) path.over.over.begun in
+      let driving = path.drives.late in
+      let same = ap late path_history in
+      omega (arith, none, driving, same)
+
   pub path_run : AllByRecursion IsEarly job.plan → IsRun told faults asked job disk ended
   path_run early = record {
     right = path.right;
@@ -219,4 +226,5 @@ module _ {F D : Type 0} (fs : F) (told : D → Option Image) (faults : D → ℕ
     seals = subst (λ n. AreInTime n (length ended.journal.oplog) ended.journal.sealed_at ended.journal.history) path_config.threshold path.seals;
     checkpoints = path_checkpoints;
     prompt = path_prompt;
+    last = path_last;
   }

@@ -85,7 +85,7 @@ HasOrdinals job history = (caller : ℕ) → caller < length job.callers → Are
 -- its fault records are of faults of the plan; the disk ended at most as many calls as it had faults; and checkpoints were taken in
 -- time: since the last one no sync(2) was done and fewer operations than the threshold are logged, also where the volume failed.
 -- Where so many checkpoints were asked for, no more were taken where none was due, but for the one that ends the run, and right
--- behind each sync(2) that was logged one was taken
+-- behind each sync(2) that was logged one was taken; and once the failed volume answered, every later entry has its answer
 pub record IsRun {F D : Type 0} (told : D → Option Image) (faults : D → ℕ) (asked : ℕ) (job : Job) (disk : D) (core : CoreState F D) : Type 0 where
   pub right : Right told faults core
   pub first : told core.first ≡ told disk
@@ -100,6 +100,7 @@ pub record IsRun {F D : Type 0} (told : D → Option Image) (faults : D → ℕ)
   pub seals : AreInTime job.threshold (length core.journal.oplog) core.journal.sealed_at core.journal.history
   pub checkpoints : AreAskedFor job.threshold asked core.journal.history core.journal.trail
   pub prompt : omitted core.journal.history core.journal.trail ≡ 0
+  pub last : late core.journal.history ≡ 0
 
 -- the faults of the plan are taken: in list order none was passed over at a fault point to which a call came, as far as its fault
 -- records tell how often it entered, gathered and finished, and a call with a plain reply met one of its own at most; by an order
@@ -130,8 +131,6 @@ pub record KeepsOrder (job : Job) (history : List Entry) (records : List FaultRe
   pub taken : TakesPlanned job.order job.plan history records
   pub asked : SealsAsOrdered job.order records trail
   pub patient : (caller : ℕ) → stales_beyond caller trail ≡ 0
-  -- once the failed volume answered, every later entry has its answer
-  pub last : late history ≡ 0
 
 -- ---- the end of a run
 

@@ -132,7 +132,6 @@ kept_stays job driven ended keeps order =
       taken = order.taken;
       asked = sealed_stays job.order driven.journal.records driven.journal.trail ended.journal.trail keeps.trail order.asked;
       patient = λ caller. (let low = keeps.told caller in let none = order.patient caller in omega (arith, low, none));
-      last = order.last;
     }))
 
 order_stays : {D : Type 0} (manner : Manner) (job : Job) (driven ended : CoreState V7 D) → KeepsHistory (sight_of driven) (sight_of ended) → KeepsOrderIfAlone manner job driven → KeepsOrderIfAlone manner job ended

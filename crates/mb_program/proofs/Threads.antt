@@ -56,6 +56,7 @@ by_plan job asked tests count old new same low drives = record {
   once = drives.once;
   seals = drives.seals;
   prompt = drives.prompt;
+  late = drives.late;
 }
 
 pub driven_by_threads : {D : Type 0} (told : D → Option Image) (faults : D → ℕ) (fs : V7) (job : Job) (disk : D) (begun driven : CoreState V7 D) (hooks : List Hooked) (hook : Hooked)

@@ -15,7 +15,7 @@ use Rattle.mb_run.specs.Orders.{TakesAsked, asked_by, asked_in}
 use Rattle.mb_run.specs.Runs.{EntersFirst, FirstsRise, HasTakenFaults}
 use Rattle.mb_run.specs.Served.{AreSound, AreSoundBy, AreStruckOnce, EntriesAreCalls, calls_in, calls_of, moments_in}
 use Rattle.mb_run.specs.Timely.{IsTimely}
-use Rattle.mb_run.specs.Sights.{AreApart, IsOrderlyInSight, Sight, omitted_in, undue_in}
+use Rattle.mb_run.specs.Sights.{AreApart, IsOrderlyInSight, Sight, late_in, omitted_in, undue_in}
 use Rattle.mb_core_spec.specs.Copies.{no_pages}
 use Rattle.mb_run.specs.declared.runner.At.TheVariants as at
 use Rattle.mb_run.specs.declared.runner.Runner.{Runner}
@@ -139,3 +139,4 @@ pub record IsDrivenApart (job : Job) (asked : ℕ) (tests : ℕ → Option (Cros
   pub once : AreStruckOnce (length job.callers) new.history new.records
   pub seals : undue_in new ≤ undue_in old + asked
   pub prompt : omitted_in new ≤ omitted_in old
+  pub late : late_in new ≤ late_in old

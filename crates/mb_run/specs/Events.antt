@@ -156,7 +156,9 @@ pub record Gains (caller : ℕ) (old new : Sight) (need : Need) (before now : Pa
 
 abbrev pub GathersInSight : Sight → Sight → Ticket → Need → PagesState → PagesState → Gathered → Type 0
 GathersInSight old new ticket need before now (gathered.Skip mine was) = (ticket.incarnation ≢ old.incarnation) × (new ≡ old) × (now ≡ before)
-GathersInSight old new ticket need before now gathered.Device = (ticket.incarnation ≡ old.incarnation) × ((flight : Flight) → (old.seats ticket.caller).flight ≡ Some flight → Answers ticket.caller flight reply.Device old new)
+GathersInSight old new ticket need before now gathered.Device =
+    (ticket.incarnation ≡ old.incarnation) × ((flight : Flight) → (old.seats ticket.caller).flight ≡ Some flight → Answers ticket.caller flight reply.Device old new)
+    × (old.stage ≡ stage.Running)
 GathersInSight old new ticket need before now gathered.NoMemory = (new ≡ old) × (now ≡ before)
 GathersInSight old new ticket need before now gathered.Done = (ticket.incarnation ≡ old.incarnation) × Gains ticket.caller old new need before now
 
@@ -219,7 +221,9 @@ FinishesInSight old new ticket pages made (finished.Skip mine was) = (ticket.inc
 FinishesInSight old new ticket pages made (finished.Busy holder) = (ticket.incarnation ≡ old.incarnation) × (old.floor ≡ Some holder.caller) × (holder.caller ≢ ticket.caller) × (new ≡ old)
 FinishesInSight old new ticket pages made (finished.Stale block) = (ticket.incarnation ≡ old.incarnation) × IsStale ticket.caller old new pages
 FinishesInSight old new ticket pages made finished.NoMemory = (ticket.incarnation ≡ old.incarnation) × (new ≡ old)
-FinishesInSight old new ticket pages made finished.Logged = (ticket.incarnation ≡ old.incarnation) × ((old.floor ≡ None) ⊎ (old.floor ≡ Some ticket.caller)) × LogsInTime ticket.caller old new ticket made
+FinishesInSight old new ticket pages made finished.Logged =
+    (ticket.incarnation ≡ old.incarnation) × ((old.floor ≡ None) ⊎ (old.floor ≡ Some ticket.caller)) × LogsInTime ticket.caller old new ticket made
+    × (old.stage ≡ stage.Running)
 
 abbrev pub LeavesWith : Sight → Sight → Ticket → Left → Type 0
 LeavesWith old new ticket (left.Skip mine was) = (ticket.incarnation ≢ old.incarnation) × (new ≡ old)

@@ -71,9 +71,10 @@ omitted_in sight = omitted sight.history sight.trail
 abbrev pub late_in : Sight → ℕ
 late_in sight = late sight.history
 
--- how many checkpoints are amiss: taken where none was due, or left out behind a sync(2)
+-- how much is amiss: checkpoints taken where none was due, or left out behind a sync(2), and entries behind the failed volume's
+-- answer that are not its
 abbrev pub amiss_in : Sight → ℕ
-amiss_in sight = undue_in sight + omitted_in sight
+amiss_in sight = undue_in sight + omitted_in sight + late_in sight
 
 abbrev pub one_if : Bool → ℕ
 one_if true = 1

@@ -23,8 +23,8 @@ use Rattle.mb_run.specs.CoreSight.{seat_of, sight_of}
 use Rattle.mb_run.specs.Drives.{HasEachMoment, IsBegun, IsDrivenApart}
 use Rattle.mb_run.specs.Recovering.{crossing_of}
 use Rattle.mb_run.specs.Served.{AreApart, AreSound, calls_of}
-use Rattle.mb_run.specs.Seals.{omitted, undue}
-use Rattle.mb_run.specs.Sights.{Limits, Seat, amiss_in, limits_of, omitted_in, undue_in}
+use Rattle.mb_run.specs.Seals.{late, omitted, undue}
+use Rattle.mb_run.specs.Sights.{Limits, Seat, amiss_in, late_in, limits_of, omitted_in, undue_in}
 use Rattle.mb_turn.specs.Passes.{known}
 use Rattle.mb_run.proofs.InTime.{InTime}
 use Rattle.mb_volume_core.proofs.Orderly.{orderly}
@@ -96,6 +96,9 @@ module _ {F D : Type 0} (told : D → Option Image) (faults : D → ℕ) (core o
   none_left_out : omitted_in (sight_of old) ≡ 0
   none_left_out = ap (omitted (sight_of old).history) begun.trail ∙ none_omitted (sight_of old).history
 
+  none_late : late_in (sight_of old) ≡ 0
+  none_late = ap late begun.history
+
   pub driven_apart : amiss_in (sight_of core) ≤ amiss_in (sight_of old) → IsDrivenApart job 0 (test_of tests) (sight_of old) (sight_of core)
   driven_apart low = record {
     config = ap limits_of same;
@@ -110,6 +113,7 @@ module _ {F D : Type 0} (told : D → Option Image) (faults : D → ℕ) (core o
       apart = apart_by core.journal.records each_apart;
     };
     once = once_of_parts (sight_of core) (length job.callers) (λ caller low. (made caller low).once);
-    seals = omega (arith, low, none_taken, none_left_out);
-    prompt = omega (arith, low, none_taken, none_left_out);
+    seals = omega (arith, low, none_taken, none_left_out, none_late);
+    prompt = omega (arith, low, none_taken, none_left_out, none_late);
+    late = omega (arith, low, none_taken, none_left_out, none_late);
   }

@@ -14,7 +14,7 @@ use Rattle.mb_run.proofs.Lists.{own_mine}
 use Rattle.mb_run.proofs.Amiss.{enters_amiss, still_amiss}
 use Rattle.mb_run.specs.Events.{Answers, BeginsFlight, EntersInSight, EndsFlight, IsUnplain, entry_of}
 use Rattle.mb_run.specs.Pages.{HasTablesFor}
-use Rattle.mb_run.specs.Sights.{Limits, Seat, Sight, flight_of}
+use Rattle.mb_run.specs.Sights.{IsOrderlyInSight, Limits, Seat, Sight, flight_of}
 use Rattle.mb_run.specs.declared.answers.Enter.TheVariants as enter
 use Rattle.mb_run.specs.declared.runner.At.TheVariants as at
 use Rattle.mb_volume.specs.Attempts.{going_in}
@@ -149,10 +149,10 @@ module _ (call : Call) (test : Option (Crossing → Bool)) (from : Part) (old : 
 
 -- ---- what it leaves to the others
 
-pub moves_done : (old new : Sight) (caller : ℕ) (call : Call) (answer : Reply) → EntersInSight old new caller call (enter.Done answer) → MovesPart caller old new
-moves_done old new caller call answer enters = elim enters [
-  | inl left ↦ moves_stays caller old new left.1.stays left.1.counts.history (enters_amiss old new caller call (enter.Done answer) (inl left))
-  | inr made ↦ moves_entry caller old new (entry_of caller (flight_of old caller call (old.seats caller).flight) None answer) made.2.stays refl made.2.history (enters_amiss old new caller call (enter.Done answer) (inr made))
+pub moves_done : (old new : Sight) (caller : ℕ) (call : Call) (answer : Reply) → IsOrderlyInSight old → EntersInSight old new caller call (enter.Done answer) → MovesPart caller old new
+moves_done old new caller call answer right enters = elim enters [
+  | inl left ↦ moves_stays caller old new left.1.stays left.1.counts.history (enters_amiss old new caller call (enter.Done answer) right (inl left))
+  | inr made ↦ moves_entry caller old new (entry_of caller (flight_of old caller call (old.seats caller).flight) None answer) made.2.stays refl made.2.history (enters_amiss old new caller call (enter.Done answer) right (inr made))
 ]
 
 pub moves_begins : (old new : Sight) (caller : ℕ) (flight : Flight) → BeginsFlight caller flight old new → MovesPart caller old new

@@ -22,7 +22,7 @@ use Rattle.mb_run.proofs.Amiss.{gathers_amiss, leaves_amiss}
 use Rattle.mb_run.specs.Events.{Answers, FinishesInSight, Gains, GathersInSight, IsCallOf, IsReadyAt, IsStale, EndsFlight, LeavesOthersAlone, LeavesWith, Logs, SealsIf, entry_of, sealed}
 use Rattle.mb_run.specs.Pages.{HasTablesFor, PerformsOver}
 use Rattle.mb_run.specs.Seals.{is_due}
-use Rattle.mb_run.specs.Sights.{SeatHasTicket, Limits, Seat, Sight, amiss_in}
+use Rattle.mb_run.specs.Sights.{IsOrderlyInSight, SeatHasTicket, Limits, Seat, Sight, amiss_in}
 use Rattle.mb_run.specs.declared.runner.At.TheVariants as at
 use Rattle.mb_volume.specs.Attempts.{back_out, going_in}
 use Rattle.mb_volume.specs.Called.{MetOnce}
@@ -205,13 +205,13 @@ module _ (call : Call) (test : Option (Crossing → Bool)) (from : Part) (old : 
 -- ---- what it leaves to the others
 
 module _ (old new : Sight) (ticket : Ticket) (caller : ℕ) (mine : ticket.caller ≡ caller) where
-  pub moves_gathers : (need : Need) (before now : PagesState) (answer : Gathered) → SeatHasTicket false (old.seats ticket.caller) ticket → GathersInSight old new ticket need before now answer → MovesPart caller old new
-  moves_gathers need before now (gathered.Skip was is) has gathers = moves_nothing old new caller gathers.1
-  moves_gathers need before now gathered.Device has gathers =
+  pub moves_gathers : (need : Need) (before now : PagesState) (answer : Gathered) → IsOrderlyInSight old → SeatHasTicket false (old.seats ticket.caller) ticket → GathersInSight old new ticket need before now answer → MovesPart caller old new
+  moves_gathers need before now (gathered.Skip was is) right has gathers = moves_nothing old new caller gathers.1
+  moves_gathers need before now gathered.Device right has gathers =
       let made : Answers caller has.flight reply.Device old new = subst (λ n. Answers n has.flight reply.Device old new) mine (gathers.1 has.flight has.here) in
-      moves_entry caller old new (entry_of caller has.flight None reply.Device) made.stays refl made.history (gathers_amiss old new ticket need before now gathered.Device has gathers)
-  moves_gathers need before now gathered.NoMemory has gathers = moves_nothing old new caller gathers.0
-  moves_gathers need before now gathered.Done has gathers = let gains = subst (λ n. Gains n old new need before now) mine gathers.1 in moves_stays caller old new gains.stays gains.counts.history (gathers_amiss old new ticket need before now gathered.Done has gathers)
+      moves_entry caller old new (entry_of caller has.flight None reply.Device) made.stays refl made.history (gathers_amiss old new ticket need before now gathered.Device right has gathers)
+  moves_gathers need before now gathered.NoMemory right has gathers = moves_nothing old new caller gathers.0
+  moves_gathers need before now gathered.Done right has gathers = let gains = subst (λ n. Gains n old new need before now) mine gathers.1 in moves_stays caller old new gains.stays gains.counts.history (gathers_amiss old new ticket need before now gathered.Done right has gathers)
 
   pub moves_finishes : (pages : PagesState) (made : Call) (answer : Finished) → amiss_in new ≤ amiss_in old → FinishesInSight old new ticket pages made answer → MovesPart caller old new
   moves_finishes pages made (finished.Skip was is) seals finishes = moves_nothing old new caller finishes.1

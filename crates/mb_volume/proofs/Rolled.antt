@@ -8,7 +8,7 @@ use Rattle.mb_kinds.specs.declared.calls.Call.{Call}
 use Rattle.mb_kinds.specs.declared.replies.Reply.TheVariants as reply
 use Rattle.mb_run.specs.Events.{Answers, entry_of}
 use Rattle.mb_run.specs.Recovering.{GoOn, CrossingsGoOn, RunsForFlight, Steps, StrikesStep, Waits}
-use Rattle.mb_run.specs.Sights.{IsWaiting, Sight}
+use Rattle.mb_run.specs.Sights.{IsOrderlyInSight, IsWaiting, Sight}
 use Rattle.mb_run.specs.declared.answers.Stepped.{Stepped}
 use Rattle.mb_run.specs.declared.answers.Stepped.TheVariants as stepped
 use Rattle.mb_volume.specs.Attempts.{KeepsCrossings}
@@ -18,6 +18,7 @@ use Rattle.mb_volume.specs.Underway.{AddsEntryIf, Comes, FlightIsCall, IsCallUnd
 use Rattle.mb_volume.specs.declared.attempt.Attempt.{Attempt}
 use Rattle.mb_volume.specs.declared.events.Came.TheVariants as came
 use Rattle.mb_run.proofs.Amiss.{entry_amiss, waits_amiss}
+use Rattle.mb_run.proofs.Late.{recovers_not_failed}
 use Rattle.mb_volume.proofs.Changing.{moves_entry, moves_records}
 use Rattle.mb_volume.proofs.Entered.{answered_by, moves_nothing}
 use Rattle.mb_volume.proofs.Faulted.{underway_on, underway_struck}
@@ -82,7 +83,7 @@ module _ (call : Call) (test : Option (Crossing → Bool)) (from : Part) (old : 
 -- ---- what it leaves to the others
 
 module _ (test : Option (Crossing → Bool)) (old : Sight) (attempt : Attempt) (waiting : IsWaiting (old.seats attempt.crossings.caller)) where
-  module _ (crossings : Crossings) (on : CrossingsGoOn attempt.crossings crossings) where
+  module _ (right : IsOrderlyInSight old) (crossings : Crossings) (on : CrossingsGoOn attempt.crossings crossings) where
     moves_strikes : (new : Sight) → StrikesStep test attempt.crossings crossings old new → MovesPart attempt.crossings.caller old new
     moves_strikes new strikes = moves_records attempt.crossings.caller old new (strikes.fault ∷ []) strikes.waits.config strikes.waits.seats strikes.waits.counts.history strikes.records (strikes.taken.caller, tt) (waits_amiss old new strikes.waits)
 
@@ -102,13 +103,13 @@ module _ (test : Option (Crossing → Bool)) (old : Sight) (attempt : Attempt) (
     moves_rolled new stepped.Device steps =
         let made : Answers attempt.crossings.caller waiting.0 reply.Device old new = steps.1 waiting.0 waiting.1 in
         moves_entry attempt.crossings.caller old new (entry_of attempt.crossings.caller waiting.0 None reply.Device) made.stays refl made.history
-        (entry_amiss old new made.stays.config made.log (entry_of attempt.crossings.caller waiting.0 None reply.Device) made.history)
+        (entry_amiss old new made.stays.config made.log (entry_of attempt.crossings.caller waiting.0 None reply.Device) right (inr (recovers_not_failed old.stage steps.0)) made.history)
     moves_rolled new stepped.NoMemory steps = moves_nothing old new attempt.crossings.caller steps
 
   pub same_caller : (by : Option Crossings) (now : Attempt) → GoOn (Some attempt.crossings) by → KeepsCrossings attempt by now → now.crossings.caller ≡ attempt.crossings.caller
   same_caller None now on keeps = absurd on
   same_caller (Some crossings) now on keeps = ap (λ (a : Attempt). a.crossings.caller) keeps ∙ on.caller
 
-  pub moves_by : (new : Sight) (by : Option Crossings) (answer : Stepped) → GoOn (Some attempt.crossings) by → Steps test (Some attempt.crossings) by old new answer → MovesPart attempt.crossings.caller old new
-  moves_by new None answer on steps = absurd on
-  moves_by new (Some crossings) answer on steps = moves_rolled crossings on new answer steps
+  pub moves_by : IsOrderlyInSight old → (new : Sight) (by : Option Crossings) (answer : Stepped) → GoOn (Some attempt.crossings) by → Steps test (Some attempt.crossings) by old new answer → MovesPart attempt.crossings.caller old new
+  moves_by right new None answer on steps = absurd on
+  moves_by right new (Some crossings) answer on steps = moves_rolled right crossings on new answer steps

@@ -214,7 +214,7 @@ module _ {F D : Type 0} (told : D → Option Image) (faults : D → ℕ) (core :
         (by.0, by.1.floor ∙ ap Some (sym whose), (λ same. by.1.other (sym whose ∙ same)), ap sight_of seals ∙ ap sight_of by.2)
     finishes_are ready (finished.Stale block) by after made seals = (by.0, subst (λ (c : CoreState F D). IsStale caller (sight_of core) (sight_of c) pages) (sym seals) (is_stale ready.shared block by.0 by.1 by.2 by.3))
     finishes_are ready finished.NoMemory by after made seals = (by.0, ap sight_of seals ∙ ap sight_of by.2)
-    finishes_are ready finished.Logged by after made seals = (by.0, by.1, record { logged = sight_of new; logs = logs ready by.1 by.3; seals = seals })
+    finishes_are ready finished.Logged by after made seals = (by.0, by.1, record { logged = sight_of new; logs = logs ready by.1 by.3; seals = seals }, runs_now told faults core r ticket of by.0)
 
     -- a volume on which a call was logged runs
     pub logged_runs : (ready : Ready) → EndsBy core new ticket of.mine of.flight pages ready finished.Logged → new.stage ≡ stage.Running

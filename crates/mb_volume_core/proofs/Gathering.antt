@@ -19,6 +19,7 @@ use Rattle.mb_core_state.specs.Answers.{Gathering, IsSkipped, KeepsGathered, liv
 use Rattle.mb_core_state.specs.declared.answers.Gathered.{Gathered}
 use Rattle.mb_core_state.specs.declared.answers.Gathered.TheVariants as gathered
 use Rattle.mb_core_events.specs.Callings.{HoldsTicket, IsAsked, IsUnanswered}
+use Rattle.mb_core_events.proofs.Knowing.{runs_now}
 use Rattle.mb_run.specs.CoreSight.{is_fresh, pages_kept, seat_of, sight_of, stales_of}
 use Rattle.mb_run.specs.Events.{Answers, Gains, GathersInSight}
 use Rattle.mb_run.specs.Pages.{PagesGrow, HasTablesFor, LacksAll, has}
@@ -131,6 +132,7 @@ module _ {F D : Type 0} (told : D → Option Image) (faults : D → ℕ) (core :
             let flight_is : flight ≡ of.0.flight = same_Some flight of.0.flight (sym at.2 ∙ ap (λ (d : CallerState). d.flight) mine_is ∙ of.0.flies) in
             subst (λ (f : Flight). Answers ticket.caller f reply.Device (sight_of core) (sight_of new)) (sym flight_is)
             (answered (with_disk core new.cache.disk) new ticket.caller of.0.mine of.0.here of.0.flight of.0.flies of.1 (last_begun told faults core r ticket.caller of.0.mine of.0.flight of.0.here of.0.flies of.1) reply.Device new.cache.pins its.2)),
+        runs_now told faults core r ticket of.0 its.0,
       )
   gathers_are gathered.NoMemory of by = let its = by of.0.mine of.0.flight of.0.here of.0.flies in (ap sight_of its.1, its.2)
   gathers_are gathered.Done of by = let its = by of.0.mine of.0.flight of.0.here of.0.flies in (its.0, gains of.0.mine of.0.here its.1 its.2)

@@ -12,7 +12,7 @@ pub returns-in-Done-clause-goes : goal.returns-in-Done-clause-goes
 returns-in-Done-clause-goes g c = λ test from u. comes_done _ _ _ _ _ u _ c.args.attempt.now _ c.in-Done.ensures.enters
 
 pub returns-in-Done-clause-moves : goal.returns-in-Done-clause-moves
-returns-in-Done-clause-moves g c = moves_done _ _ _ _ _ c.in-Done.ensures.enters
+returns-in-Done-clause-moves g c = moves_done _ _ _ _ _ c.requires.right c.in-Done.ensures.enters
 
 pub returns-in-Shut-clause-goes : goal.returns-in-Shut-clause-goes
 returns-in-Shut-clause-goes g c = λ test from u. comes_shut _ _ _ _ _ u _ c.requires.outside c.in-Shut.ensures.enters

@@ -24,7 +24,7 @@ returns-in-Skip-clause-goes g c = λ test from u. rw c.back.ensures (comes_back 
 
 pub returns-in-Skip-clause-moves : goal.returns-in-Skip-clause-moves
 returns-in-Skip-clause-moves g c = moves_finishes _ _ c.args.ticket.now _ (own_ticket _ _ _ (g.C.EventCore.sight c.args.core.now) _ c.requires.on.2 _ c.requires.inside) c.args.attempt.now.pages c.args.call.now (finished.Skip c.in-Skip.mine c.in-Skip.now)
-    (finishes_amiss (g.C.EventCore.sight c.args.core.now) (g.C.EventCore.sight c.finish-finished.new.self) c.args.ticket.now c.args.attempt.now.pages c.args.call.now (finished.Skip c.in-Skip.mine c.in-Skip.now) (has_ticket _ _ _ (g.C.EventCore.sight c.args.core.now) _ c.requires.on.2 _ c.requires.inside) (call_at _ _ _ (g.C.EventCore.sight c.args.core.now) _ c.requires.on.2 _ c.requires.inside) c.requires.right.covers c.in-Skip.ensures.finishes)
+    (finishes_amiss (g.C.EventCore.sight c.args.core.now) (g.C.EventCore.sight c.finish-finished.new.self) c.args.ticket.now c.args.attempt.now.pages c.args.call.now (finished.Skip c.in-Skip.mine c.in-Skip.now) (has_ticket _ _ _ (g.C.EventCore.sight c.args.core.now) _ c.requires.on.2 _ c.requires.inside) (call_at _ _ _ (g.C.EventCore.sight c.args.core.now) _ c.requires.on.2 _ c.requires.inside) c.requires.right c.in-Skip.ensures.finishes)
     c.in-Skip.ensures.finishes
 
 pub returns-in-Busy-clause-goes : goal.returns-in-Busy-clause-goes
@@ -32,7 +32,7 @@ returns-in-Busy-clause-goes g c = λ test from u. comes_busy _ _ _ _ _ u _ c.in-
 
 pub returns-in-Busy-clause-moves : goal.returns-in-Busy-clause-moves
 returns-in-Busy-clause-moves g c = moves_finishes _ _ c.args.ticket.now _ (own_ticket _ _ _ (g.C.EventCore.sight c.args.core.now) _ c.requires.on.2 _ c.requires.inside) c.args.attempt.now.pages c.args.call.now (finished.Busy c.in-Busy.holder)
-    (finishes_amiss (g.C.EventCore.sight c.args.core.now) (g.C.EventCore.sight c.finish-finished.new.self) c.args.ticket.now c.args.attempt.now.pages c.args.call.now (finished.Busy c.in-Busy.holder) (has_ticket _ _ _ (g.C.EventCore.sight c.args.core.now) _ c.requires.on.2 _ c.requires.inside) (call_at _ _ _ (g.C.EventCore.sight c.args.core.now) _ c.requires.on.2 _ c.requires.inside) c.requires.right.covers c.in-Busy.ensures.finishes)
+    (finishes_amiss (g.C.EventCore.sight c.args.core.now) (g.C.EventCore.sight c.finish-finished.new.self) c.args.ticket.now c.args.attempt.now.pages c.args.call.now (finished.Busy c.in-Busy.holder) (has_ticket _ _ _ (g.C.EventCore.sight c.args.core.now) _ c.requires.on.2 _ c.requires.inside) (call_at _ _ _ (g.C.EventCore.sight c.args.core.now) _ c.requires.on.2 _ c.requires.inside) c.requires.right c.in-Busy.ensures.finishes)
     c.in-Busy.ensures.finishes
 
 pub returns-in-Stale-clause-goes : goal.returns-in-Stale-clause-goes
@@ -40,7 +40,7 @@ returns-in-Stale-clause-goes g c = λ test from u. rw c.go_in.ensures (comes_sta
 
 pub returns-in-Stale-clause-moves : goal.returns-in-Stale-clause-moves
 returns-in-Stale-clause-moves g c = moves_finishes _ _ c.args.ticket.now _ (own_ticket _ _ _ (g.C.EventCore.sight c.args.core.now) _ c.requires.on.2 _ c.requires.inside) c.args.attempt.now.pages c.args.call.now (finished.Stale c.in-Stale.block)
-    (finishes_amiss (g.C.EventCore.sight c.args.core.now) (g.C.EventCore.sight c.finish-finished.new.self) c.args.ticket.now c.args.attempt.now.pages c.args.call.now (finished.Stale c.in-Stale.block) (has_ticket _ _ _ (g.C.EventCore.sight c.args.core.now) _ c.requires.on.2 _ c.requires.inside) (call_at _ _ _ (g.C.EventCore.sight c.args.core.now) _ c.requires.on.2 _ c.requires.inside) c.requires.right.covers c.in-Stale.ensures.finishes)
+    (finishes_amiss (g.C.EventCore.sight c.args.core.now) (g.C.EventCore.sight c.finish-finished.new.self) c.args.ticket.now c.args.attempt.now.pages c.args.call.now (finished.Stale c.in-Stale.block) (has_ticket _ _ _ (g.C.EventCore.sight c.args.core.now) _ c.requires.on.2 _ c.requires.inside) (call_at _ _ _ (g.C.EventCore.sight c.args.core.now) _ c.requires.on.2 _ c.requires.inside) c.requires.right c.in-Stale.ensures.finishes)
     c.in-Stale.ensures.finishes
 
 pub returns-in-NoMemory-clause-goes : goal.returns-in-NoMemory-clause-goes
@@ -48,7 +48,7 @@ returns-in-NoMemory-clause-goes g c = λ test from u. comes_nothing _ _ _ _ _ u 
 
 pub returns-in-NoMemory-clause-moves : goal.returns-in-NoMemory-clause-moves
 returns-in-NoMemory-clause-moves g c = moves_finishes _ _ c.args.ticket.now _ (own_ticket _ _ _ (g.C.EventCore.sight c.args.core.now) _ c.requires.on.2 _ c.requires.inside) c.args.attempt.now.pages c.args.call.now finished.NoMemory
-    (finishes_amiss (g.C.EventCore.sight c.args.core.now) (g.C.EventCore.sight c.finish-finished.new.self) c.args.ticket.now c.args.attempt.now.pages c.args.call.now finished.NoMemory (has_ticket _ _ _ (g.C.EventCore.sight c.args.core.now) _ c.requires.on.2 _ c.requires.inside) (call_at _ _ _ (g.C.EventCore.sight c.args.core.now) _ c.requires.on.2 _ c.requires.inside) c.requires.right.covers c.in-NoMemory.ensures.finishes)
+    (finishes_amiss (g.C.EventCore.sight c.args.core.now) (g.C.EventCore.sight c.finish-finished.new.self) c.args.ticket.now c.args.attempt.now.pages c.args.call.now finished.NoMemory (has_ticket _ _ _ (g.C.EventCore.sight c.args.core.now) _ c.requires.on.2 _ c.requires.inside) (call_at _ _ _ (g.C.EventCore.sight c.args.core.now) _ c.requires.on.2 _ c.requires.inside) c.requires.right c.in-NoMemory.ensures.finishes)
     c.in-NoMemory.ensures.finishes
 
 pub returns-in-Logged-clause-goes : goal.returns-in-Logged-clause-goes
@@ -56,7 +56,7 @@ returns-in-Logged-clause-goes g c = λ test from u. comes_sealed _ _ _ _ _ u _ c
 
 pub returns-in-Logged-clause-moves : goal.returns-in-Logged-clause-moves
 returns-in-Logged-clause-moves g c = moves_finishes _ _ c.args.ticket.now _ (own_ticket _ _ _ (g.C.EventCore.sight c.args.core.now) _ c.requires.on.2 _ c.requires.inside) c.args.attempt.now.pages c.args.call.now finished.Logged
-    (finishes_amiss (g.C.EventCore.sight c.args.core.now) (g.C.EventCore.sight c.finish-finished.new.self) c.args.ticket.now c.args.attempt.now.pages c.args.call.now finished.Logged (has_ticket _ _ _ (g.C.EventCore.sight c.args.core.now) _ c.requires.on.2 _ c.requires.inside) (call_at _ _ _ (g.C.EventCore.sight c.args.core.now) _ c.requires.on.2 _ c.requires.inside) c.requires.right.covers c.in-Logged.ensures.finishes)
+    (finishes_amiss (g.C.EventCore.sight c.args.core.now) (g.C.EventCore.sight c.finish-finished.new.self) c.args.ticket.now c.args.attempt.now.pages c.args.call.now finished.Logged (has_ticket _ _ _ (g.C.EventCore.sight c.args.core.now) _ c.requires.on.2 _ c.requires.inside) (call_at _ _ _ (g.C.EventCore.sight c.args.core.now) _ c.requires.on.2 _ c.requires.inside) c.requires.right c.in-Logged.ensures.finishes)
     c.in-Logged.ensures.finishes
 
 pub returns-in-Skip-clause-still : goal.returns-in-Skip-clause-still

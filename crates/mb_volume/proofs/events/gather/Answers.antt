@@ -16,25 +16,25 @@ pub returns-in-Skip-clause-goes : goal.returns-in-Skip-clause-goes
 returns-in-Skip-clause-goes g c = λ test from u. rw c.back.ensures (comes_back _ _ _ _ _ u _ c.in-Skip.ensures.gathers.1)
 
 pub returns-in-Skip-clause-moves : goal.returns-in-Skip-clause-moves
-returns-in-Skip-clause-moves g c = let has = has_ticket _ _ _ (g.C.EventCore.sight c.args.core.now) _ c.requires.on.2 _ c.requires.inside in moves_gathers _ _ c.args.ticket.now _ (own_ticket _ _ _ (g.C.EventCore.sight c.args.core.now) _ c.requires.on.2 _ c.requires.inside) c.args.need c.args.attempt.now.pages c.gather.new.pages (gathered.Skip c.in-Skip.mine c.in-Skip.now) has c.in-Skip.ensures.gathers
+returns-in-Skip-clause-moves g c = let has = has_ticket _ _ _ (g.C.EventCore.sight c.args.core.now) _ c.requires.on.2 _ c.requires.inside in moves_gathers _ _ c.args.ticket.now _ (own_ticket _ _ _ (g.C.EventCore.sight c.args.core.now) _ c.requires.on.2 _ c.requires.inside) c.args.need c.args.attempt.now.pages c.gather.new.pages (gathered.Skip c.in-Skip.mine c.in-Skip.now) c.requires.right has c.in-Skip.ensures.gathers
 
 pub returns-in-Device-clause-goes : goal.returns-in-Device-clause-goes
 returns-in-Device-clause-goes g c = λ test from u. comes_device _ _ _ _ _ u _ c.requires.inside _ c.args.need c.args.attempt.now.pages c.gather.new.pages c.args.attempt.now c.in-Device.ensures.gathers
 
 pub returns-in-Device-clause-moves : goal.returns-in-Device-clause-moves
-returns-in-Device-clause-moves g c = let has = has_ticket _ _ _ (g.C.EventCore.sight c.args.core.now) _ c.requires.on.2 _ c.requires.inside in moves_gathers _ _ c.args.ticket.now _ (own_ticket _ _ _ (g.C.EventCore.sight c.args.core.now) _ c.requires.on.2 _ c.requires.inside) c.args.need c.args.attempt.now.pages c.gather.new.pages gathered.Device has c.in-Device.ensures.gathers
+returns-in-Device-clause-moves g c = let has = has_ticket _ _ _ (g.C.EventCore.sight c.args.core.now) _ c.requires.on.2 _ c.requires.inside in moves_gathers _ _ c.args.ticket.now _ (own_ticket _ _ _ (g.C.EventCore.sight c.args.core.now) _ c.requires.on.2 _ c.requires.inside) c.args.need c.args.attempt.now.pages c.gather.new.pages gathered.Device c.requires.right has c.in-Device.ensures.gathers
 
 pub returns-in-NoMemory-clause-goes : goal.returns-in-NoMemory-clause-goes
 returns-in-NoMemory-clause-goes g c = λ test from u. rw c.in-NoMemory.ensures.gathers.1 (comes_nothing _ _ _ _ _ u _ c.in-NoMemory.ensures.gathers.0 (lacks_inside _ _ _ (g.C.EventCore.sight c.args.core.now) _ u _ c.requires.inside))
 
 pub returns-in-NoMemory-clause-moves : goal.returns-in-NoMemory-clause-moves
-returns-in-NoMemory-clause-moves g c = let has = has_ticket _ _ _ (g.C.EventCore.sight c.args.core.now) _ c.requires.on.2 _ c.requires.inside in moves_gathers _ _ c.args.ticket.now _ (own_ticket _ _ _ (g.C.EventCore.sight c.args.core.now) _ c.requires.on.2 _ c.requires.inside) c.args.need c.args.attempt.now.pages c.gather.new.pages gathered.NoMemory has c.in-NoMemory.ensures.gathers
+returns-in-NoMemory-clause-moves g c = let has = has_ticket _ _ _ (g.C.EventCore.sight c.args.core.now) _ c.requires.on.2 _ c.requires.inside in moves_gathers _ _ c.args.ticket.now _ (own_ticket _ _ _ (g.C.EventCore.sight c.args.core.now) _ c.requires.on.2 _ c.requires.inside) c.args.need c.args.attempt.now.pages c.gather.new.pages gathered.NoMemory c.requires.right has c.in-NoMemory.ensures.gathers
 
 pub returns-in-Done-clause-goes : goal.returns-in-Done-clause-goes
 returns-in-Done-clause-goes g c = λ test from u. comes_gain _ _ _ _ _ u _ c.requires.inside _ c.args.need _ c.in-Done.ensures.gathers
 
 pub returns-in-Done-clause-moves : goal.returns-in-Done-clause-moves
-returns-in-Done-clause-moves g c = let has = has_ticket _ _ _ (g.C.EventCore.sight c.args.core.now) _ c.requires.on.2 _ c.requires.inside in moves_gathers _ _ c.args.ticket.now _ (own_ticket _ _ _ (g.C.EventCore.sight c.args.core.now) _ c.requires.on.2 _ c.requires.inside) c.args.need c.args.attempt.now.pages c.gather.new.pages gathered.Done has c.in-Done.ensures.gathers
+returns-in-Done-clause-moves g c = let has = has_ticket _ _ _ (g.C.EventCore.sight c.args.core.now) _ c.requires.on.2 _ c.requires.inside in moves_gathers _ _ c.args.ticket.now _ (own_ticket _ _ _ (g.C.EventCore.sight c.args.core.now) _ c.requires.on.2 _ c.requires.inside) c.args.need c.args.attempt.now.pages c.gather.new.pages gathered.Done c.requires.right has c.in-Done.ensures.gathers
 
 pub returns-in-Skip-clause-still : goal.returns-in-Skip-clause-still
 returns-in-Skip-clause-still g c = gathers_still _ _ c.args.ticket.now c.args.need c.args.attempt.now.pages c.gather.new.pages (gathered.Skip c.in-Skip.mine c.in-Skip.now) (has_ticket _ _ _ (g.C.EventCore.sight c.args.core.now) _ c.requires.on.2 _ c.requires.inside) c.in-Skip.ensures.gathers

@@ -27,7 +27,7 @@ pub returns-in_default-clause-same : goal.returns-in_default-clause-same
 returns-in_default-clause-same g c = same_caller (g.H.Hook.test c.args.hook.now) (g.C.EventCore.sight c.args.core.now) _ c.requires.waits _ _ c.recover_step-stepped.ensures.on c.keep.ensures
 
 pub returns-in_default-clause-moves : goal.returns-in_default-clause-moves
-returns-in_default-clause-moves g c = moves_by (g.H.Hook.test c.args.hook.now) _ c.args.attempt.now c.requires.waits _ _ c.recover_step-stepped.result c.recover_step-stepped.ensures.on c.recover_step-stepped.ensures.steps
+returns-in_default-clause-moves g c = moves_by (g.H.Hook.test c.args.hook.now) _ c.args.attempt.now c.requires.waits c.requires.right _ _ c.recover_step-stepped.result c.recover_step-stepped.ensures.on c.recover_step-stepped.ensures.steps
 
 pub returns-in_default-clause-marks : goal.returns-in_default-clause-marks
 returns-in_default-clause-marks g c =
