@@ -15,7 +15,7 @@ use Rattle.mb_jobs.specs.declared.jobs.JobFault.TheVariants.{TooLong}
 use Rattle.mb_jobs.specs.Calls.{line_call}
 use Rattle.mb_jobs.specs.Folds.{read_all}
 use Rattle.mb_jobs.specs.Job.{job_called, job_in, job_keyed, job_of_document, job_ordered, job_planned, job_with, table_in}
-use Rattle.mb_jobs.specs.Keys.{Fields, fields_in}
+use Rattle.mb_jobs.specs.Keys.{KeyFields, fields_in}
 use Rattle.mb_jobs.specs.Lists.{added_exit, call_by, call_in, calls_in, exit_at, exits_from, lacks_exit, may_follow, next_call, place_in, where_it_may, with_exits}
 use Rattle.mb_jobs.specs.Orders.{bad_in}
 use Rattle.mb_jobs.specs.Rules.{rules_in}
@@ -79,17 +79,17 @@ ordered_read : (place : Option ℕ) (job : Job) → All IsRead job.calls → Has
 ordered_read None job all = all
 ordered_read (Some place) job all = tt
 
-planned_read : (fields : Fields) (calls : List JobCall) (rules : Result (List Rule) ℕ) → All IsRead calls → HasRead (job_planned fields calls rules)
+planned_read : (fields : KeyFields) (calls : List JobCall) (rules : Result (List Rule) ℕ) → All IsRead calls → HasRead (job_planned fields calls rules)
 planned_read fields calls (Ok rules) all = ordered_read (bad_in fields.callers fields.order) (job_with fields calls rules) all
 planned_read fields calls (Err index) all = tt
 
-called_read : (fields : Fields) (found : Result (List JobCall) ℕ) → AreRead found → HasRead (job_called fields found)
+called_read : (fields : KeyFields) (found : Result (List JobCall) ℕ) → AreRead found → HasRead (job_called fields found)
 called_read fields (Ok calls) all =
     planned_read fields (with_exits fields.callers calls) (rules_in (with_exits fields.callers calls) fields.faults)
     (All-append IsRead calls (exits_from calls 0 fields.callers) all (exits_read calls 0 fields.callers))
 called_read fields (Err index) all = tt
 
-keyed_read : (found : Result Fields (List ℕ)) → HasRead (job_keyed found)
+keyed_read : (found : Result KeyFields (List ℕ)) → HasRead (job_keyed found)
 keyed_read (Ok fields) = called_read fields (calls_in fields.callers fields.calls) (calls_read fields.callers fields.calls)
 keyed_read (Err key) = tt
 

@@ -1,6 +1,6 @@
 pub mod Arguments
 pub mod Blanks
-mod Examples
+pub mod Examples
 pub mod JobCalls
 pub mod Numerals
 pub mod Ranges

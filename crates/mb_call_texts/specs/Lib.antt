@@ -1,3 +1,4 @@
 pub mod CallText
 pub mod Laws
 pub mod Writable
+pub mod Worked

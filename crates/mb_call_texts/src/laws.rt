@@ -1,4 +1,5 @@
 ghost use Rattle.mb_call_texts.specs.Laws.{HasOneText, JobsReadBack, ReadsBack, ReadsWritable};
+ghost use Rattle.mb_call_texts.specs.Worked.{WorkedReadings, WorkedTexts};
 
 /// The text of each call that a text can write is read as that call.
 pub fn reads_back()
@@ -19,4 +20,14 @@ pub fn has_one_text()
 /// is written for it.
 pub fn jobs_read_back()
     ensures { JobsReadBack }
+{}
+
+/// The texts of some calls, worked out by hand.
+pub fn worked_texts()
+    ensures { WorkedTexts }
+{}
+
+/// What is read of some texts, worked out by hand.
+pub fn worked_readings()
+    ensures { WorkedReadings }
 {}
