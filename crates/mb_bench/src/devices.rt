@@ -1,7 +1,7 @@
 ghost use Rattle.std.specs.Prelude.{◌≡◌};
 ghost use Rattle.mb_bench.specs.Gathered.{ShowsMore, is_gathered};
 
-use crate::faults::Fault;
+use crate::faults::BenchFault;
 use mb_edge::{Bytes, Disk, Fails, MemDisk};
 use mb_iface::{Changes, Need, View};
 use mb_mkfs::make;
@@ -9,7 +9,7 @@ use std::alloc::Global;
 
 /// A volume in memory, and which of its blocks are gathered for a call, which sees these alone.
 #[derive(Drop)]
-pub struct Device {
+pub struct BenchDevice {
     blocks: Vec<[u8; 512]>,
     /// The number of the call for which each block was gathered last, 0 where it never was.
     gathered: Vec<u64>,
@@ -17,7 +17,7 @@ pub struct Device {
     call: u64,
 }
 
-impl View for Device {
+impl View for BenchDevice {
     ghost use Rattle.mb_bench.specs.Gathered.{shown_of};
 
     ghost shown = { shown_of };
@@ -31,16 +31,16 @@ impl View for Device {
     }
 }
 
-impl Device {
+impl BenchDevice {
     /// The fresh volume of so many blocks and inodes, of which no block is gathered.
-    pub fn fresh(heap: Global, blocks: u16, inodes: u16) -> Result<Device, Fault> {
+    pub fn fresh(heap: Global, blocks: u16, inodes: u16) -> Result<BenchDevice, BenchFault> {
         let none = || Fails::new(heap);
         let room = u32::from(blocks);
         let mut disk = MemDisk::new(heap, Bytes::new(heap), room, none(), none(), none())?;
         if make(&mut disk, room, u32::from(inodes)).is_err() {
-            return Err(Fault::Volume);
+            return Err(BenchFault::Volume);
         }
-        let mut device = Device {
+        let mut device = BenchDevice {
             blocks: Vec::with_capacity(heap, usize::from(blocks))?,
             gathered: vec![in heap; 0; usize::from(blocks)]?,
             call: 1,
@@ -48,7 +48,7 @@ impl Device {
         let mut bytes = [0; 512];
         for block in 0..room {
             if disk.read(block, &mut bytes).is_err() {
-                return Err(Fault::Volume);
+                return Err(BenchFault::Volume);
             }
             device.blocks.push(bytes)?;
         }

@@ -3,7 +3,7 @@ use std::alloc::{AllocError, AllocFailed};
 
 /// Why a job ends early.
 #[derive(Clone, Copy, Debug, PartialEq, Drop)]
-pub enum Fault {
+pub enum BenchFault {
     /// There is no volume of the size.
     Volume,
     /// A call was refused, or asked too often.
@@ -12,31 +12,31 @@ pub enum Fault {
     NoMemory,
 }
 
-impl Fault {
+impl BenchFault {
     /// What is printed of it.
     pub fn text(self) -> &'static str {
         match self {
-            Fault::Volume => "no volume",
-            Fault::Call => "a call is refused",
-            Fault::NoMemory => "no memory",
+            BenchFault::Volume => "no volume",
+            BenchFault::Call => "a call is refused",
+            BenchFault::NoMemory => "no memory",
         }
     }
 }
 
-impl From<AllocError> for Fault {
-    fn from(_error: AllocError) -> Fault {
-        Fault::NoMemory
+impl From<AllocError> for BenchFault {
+    fn from(_error: AllocError) -> BenchFault {
+        BenchFault::NoMemory
     }
 }
 
-impl From<NoMemory> for Fault {
-    fn from(_error: NoMemory) -> Fault {
-        Fault::NoMemory
+impl From<NoMemory> for BenchFault {
+    fn from(_error: NoMemory) -> BenchFault {
+        BenchFault::NoMemory
     }
 }
 
-impl<T: Drop> From<AllocFailed<T>> for Fault {
-    fn from(_error: AllocFailed<T>) -> Fault {
-        Fault::NoMemory
+impl<T: Drop> From<AllocFailed<T>> for BenchFault {
+    fn from(_error: AllocFailed<T>) -> BenchFault {
+        BenchFault::NoMemory
     }
 }

@@ -1,11 +1,11 @@
-use crate::benches::{Bench, Counts};
-use crate::faults::Fault;
+use crate::benches::{Bench, CallCounts};
+use crate::faults::BenchFault;
 use mb_kinds::{Call, How, Octets, Path, Reply, Whence};
 use std::alloc::Global;
 
 /// The calls that are counted.
 #[derive(Clone, Copy, Debug, PartialEq, Drop)]
-pub enum Kind {
+pub enum BenchKind {
     /// `creat` and `close` of new files, and `mkdir` of each hundredth one's directory.
     Make,
     /// The paths of files, each time in another directory, and no call.
@@ -22,8 +22,8 @@ pub enum Kind {
 
 /// Calls of a kind, after so many files were made in directories of 100.
 #[derive(Clone, Copy, Debug, PartialEq, Drop)]
-pub struct Job {
-    pub kind: Kind,
+pub struct BenchJob {
+    pub kind: BenchKind,
     pub made: u32,
     pub calls: u32,
 }
@@ -35,36 +35,36 @@ const FILES: u32 = 100;
 const WRITTEN: u32 = 32_768;
 
 /// The kind that a word names.
-fn kind_of(word: &str) -> Option<Kind> {
+fn kind_of(word: &str) -> Option<BenchKind> {
     match word {
-        "make" => Some(Kind::Make),
-        "path" => Some(Kind::Path),
-        "stat" => Some(Kind::Stat),
-        "seek" => Some(Kind::Seek),
-        "read" => Some(Kind::Read),
-        "unlink" => Some(Kind::Unlink),
+        "make" => Some(BenchKind::Make),
+        "path" => Some(BenchKind::Path),
+        "stat" => Some(BenchKind::Stat),
+        "seek" => Some(BenchKind::Seek),
+        "read" => Some(BenchKind::Read),
+        "unlink" => Some(BenchKind::Unlink),
         _ => None,
     }
 }
 
 /// The name of a kind.
-pub fn name_of(kind: Kind) -> &'static str {
+pub fn name_of(kind: BenchKind) -> &'static str {
     match kind {
-        Kind::Make => "make",
-        Kind::Path => "path",
-        Kind::Stat => "stat",
-        Kind::Seek => "seek",
-        Kind::Read => "read",
-        Kind::Unlink => "unlink",
+        BenchKind::Make => "make",
+        BenchKind::Path => "path",
+        BenchKind::Stat => "stat",
+        BenchKind::Seek => "seek",
+        BenchKind::Read => "read",
+        BenchKind::Unlink => "unlink",
     }
 }
 
 /// The job of three words: a kind, how many files, and how many calls.
-pub fn job_of(words: &[String]) -> Option<Job> {
+pub fn job_of(words: &[String]) -> Option<BenchJob> {
     if words.len() != 3 {
         return None;
     }
-    Some(Job {
+    Some(BenchJob {
         kind: kind_of(words[0].as_str())?,
         made: words[1].as_str().parse::<u32>().ok()?,
         calls: words[2].as_str().parse::<u32>().ok()?,
@@ -72,48 +72,48 @@ pub fn job_of(words: &[String]) -> Option<Job> {
 }
 
 /// How many bytes a file of a job has.
-fn size_of(kind: Kind) -> u32 {
+fn size_of(kind: BenchKind) -> u32 {
     match kind {
-        Kind::Make => 0,
-        Kind::Unlink => 1_048_576,
-        Kind::Path | Kind::Stat | Kind::Seek | Kind::Read => 100,
+        BenchKind::Make => 0,
+        BenchKind::Unlink => 1_048_576,
+        BenchKind::Path | BenchKind::Stat | BenchKind::Seek | BenchKind::Read => 100,
     }
 }
 
 /// A path of a text. An error is one that is none.
-fn path_of(text: String) -> Result<Path, Fault> {
+fn path_of(text: String) -> Result<Path, BenchFault> {
     let bytes = text.into_bytes();
     if bytes.len() > 255 || bytes.contains(&0) {
-        return Err(Fault::Call);
+        return Err(BenchFault::Call);
     }
     Ok(Path::from_vec(bytes))
 }
 
 /// The path of a directory.
-fn directory(heap: Global, number: u32) -> Result<Path, Fault> {
+fn directory(heap: Global, number: u32) -> Result<Path, BenchFault> {
     path_of(format!(in heap; "/d{}", number)?)
 }
 
 /// The path of a file, in its directory.
-fn file(heap: Global, number: u32) -> Result<Path, Fault> {
+fn file(heap: Global, number: u32) -> Result<Path, BenchFault> {
     path_of(format!(in heap; "/d{}/f{}", number / FILES, number)?)
 }
 
 /// The path of a file that lies 13 directories and 73 files behind that of the number before.
-fn far_file(heap: Global, number: u32, made: u32) -> Result<Path, Fault> {
+fn far_file(heap: Global, number: u32, made: u32) -> Result<Path, BenchFault> {
     file(heap, number.wrapping_mul(1_373) % made.max(1))
 }
 
 /// The descriptor that a call was answered.
-fn descriptor_of(reply: &Reply) -> Result<u16, Fault> {
+fn descriptor_of(reply: &Reply) -> Result<u16, BenchFault> {
     match reply {
-        Reply::Num(number) => u16::try_from(*number).map_err(|_| Fault::Call),
-        _ => Err(Fault::Call),
+        Reply::Num(number) => u16::try_from(*number).map_err(|_| BenchFault::Call),
+        _ => Err(BenchFault::Call),
     }
 }
 
 /// Makes a file, and for the first one of a directory that directory; the file stays open.
-fn create(heap: Global, bench: &mut Bench, number: u32) -> Result<u16, Fault> {
+fn create(heap: Global, bench: &mut Bench, number: u32) -> Result<u16, BenchFault> {
     if number % FILES == 0 {
         let path = directory(heap, number / FILES)?;
         bench.call(&Call::Mkdir { path, mode: 0o755 })?;
@@ -123,7 +123,7 @@ fn create(heap: Global, bench: &mut Bench, number: u32) -> Result<u16, Fault> {
 }
 
 /// Writes so many bytes.
-fn write(heap: Global, bench: &mut Bench, fd: u16, count: u32) -> Result<(), Fault> {
+fn write(heap: Global, bench: &mut Bench, fd: u16, count: u32) -> Result<(), BenchFault> {
     let count = count.min(WRITTEN) as usize;
     let bytes = Octets::from_vec(vec![in heap; 65; count]?);
     bench.call(&Call::Write { fd, bytes })?;
@@ -131,7 +131,7 @@ fn write(heap: Global, bench: &mut Bench, fd: u16, count: u32) -> Result<(), Fau
 }
 
 /// Makes a file of so many bytes, and closes it.
-fn make_file(heap: Global, bench: &mut Bench, number: u32, size: u32) -> Result<(), Fault> {
+fn make_file(heap: Global, bench: &mut Bench, number: u32, size: u32) -> Result<(), BenchFault> {
     let fd = create(heap, bench, number)?;
     for _ in 0..size / WRITTEN {
         write(heap, bench, fd, WRITTEN)?;
@@ -144,7 +144,7 @@ fn make_file(heap: Global, bench: &mut Bench, number: u32, size: u32) -> Result<
 }
 
 /// Goes to the beginning of the first file so many times, and reads it there.
-fn seek(heap: Global, bench: &mut Bench, calls: u32, reads: bool) -> Result<(), Fault> {
+fn seek(heap: Global, bench: &mut Bench, calls: u32, reads: bool) -> Result<(), BenchFault> {
     let path = file(heap, 0)?;
     let how = How::Reading;
     let fd = descriptor_of(&bench.call(&Call::Open { path, how })?)?;
@@ -159,20 +159,20 @@ fn seek(heap: Global, bench: &mut Bench, calls: u32, reads: bool) -> Result<(), 
 }
 
 /// Makes the calls of a job.
-fn make_calls(heap: Global, bench: &mut Bench, job: Job) -> Result<(), Fault> {
-    let Job { kind, made, calls } = job;
+fn make_calls(heap: Global, bench: &mut Bench, job: BenchJob) -> Result<(), BenchFault> {
+    let BenchJob { kind, made, calls } = job;
     match kind {
-        Kind::Seek => return seek(heap, bench, calls, false),
-        Kind::Read => return seek(heap, bench, calls, true),
-        Kind::Make | Kind::Path | Kind::Stat | Kind::Unlink => {}
+        BenchKind::Seek => return seek(heap, bench, calls, false),
+        BenchKind::Read => return seek(heap, bench, calls, true),
+        BenchKind::Make | BenchKind::Path | BenchKind::Stat | BenchKind::Unlink => {}
     }
     for number in 0..calls {
         match kind {
-            Kind::Make => make_file(heap, bench, made.saturating_add(number), 0)?,
-            Kind::Path => {
+            BenchKind::Make => make_file(heap, bench, made.saturating_add(number), 0)?,
+            BenchKind::Path => {
                 far_file(heap, number, made)?;
             }
-            Kind::Stat => {
+            BenchKind::Stat => {
                 let path = far_file(heap, number, made)?;
                 bench.call(&Call::Stat { path })?;
             }
@@ -186,9 +186,9 @@ fn make_calls(heap: Global, bench: &mut Bench, job: Job) -> Result<(), Fault> {
 }
 
 /// Does a job on a fresh volume, and counts its calls, those that made the files left out.
-pub fn run(heap: Global, job: Job) -> Result<Counts, Fault> {
+pub fn run(heap: Global, job: BenchJob) -> Result<CallCounts, BenchFault> {
     let mut bench = match job.kind {
-        Kind::Unlink => Bench::new(heap, 65_535, 256)?,
+        BenchKind::Unlink => Bench::new(heap, 65_535, 256)?,
         _ => Bench::new(heap, 12_288, 10_240)?,
     };
     for number in 0..job.made {

@@ -12,24 +12,24 @@ mod devices;
 mod faults;
 mod jobs;
 
-use jobs::{Job, Kind, job_of, name_of, run};
+use jobs::{BenchJob, BenchKind, job_of, name_of, run};
 use std::alloc::Global;
 use std::process::ExitCode;
 use std::{env, io};
 
 /// What is done where no words tell a job.
-const ALL: [(Kind, u32, u32); 6] = [
-    (Kind::Make, 0, 200),
-    (Kind::Path, 200, 100),
-    (Kind::Stat, 200, 100),
-    (Kind::Seek, 1, 10),
-    (Kind::Read, 1, 10),
-    (Kind::Unlink, 1, 1),
+const ALL: [(BenchKind, u32, u32); 6] = [
+    (BenchKind::Make, 0, 200),
+    (BenchKind::Path, 200, 100),
+    (BenchKind::Stat, 200, 100),
+    (BenchKind::Seek, 1, 10),
+    (BenchKind::Read, 1, 10),
+    (BenchKind::Unlink, 1, 1),
 ];
 
 /// Does a job and prints a line of it. Answers whether the job came to its end.
-fn run_and_tell(rt: &HostRuntime, heap: Global, job: Job) -> io::Result<bool> {
-    let Job { kind, made, calls } = job;
+fn run_and_tell(rt: &HostRuntime, heap: Global, job: BenchJob) -> io::Result<bool> {
+    let BenchJob { kind, made, calls } = job;
     let name = name_of(kind);
     match run(heap, job) {
         Ok(counts) => {
@@ -50,7 +50,7 @@ fn run_and_tell(rt: &HostRuntime, heap: Global, job: Job) -> io::Result<bool> {
 fn run_all(rt: &HostRuntime, heap: Global) -> io::Result<bool> {
     let mut ended = true;
     for (kind, made, calls) in ALL {
-        ended &= run_and_tell(rt, heap, Job { kind, made, calls })?;
+        ended &= run_and_tell(rt, heap, BenchJob { kind, made, calls })?;
     }
     Ok(ended)
 }

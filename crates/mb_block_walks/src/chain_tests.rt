@@ -1,13 +1,13 @@
 use crate::volumes::{fresh, take_next};
 use mb_alloc::{Hung, free_block};
-use mb_gathering::{Gathered, nothing};
+use mb_gathering::{GatheredBlocks, nothing};
 use mb_iface::Changes;
 use std::test::Fail;
 
 /// Takes all of a chain of so many blocks, and then none.
 fn take_all(
-    disk: &Gathered,
-    view: &mut Gathered,
+    disk: &GatheredBlocks,
+    view: &mut GatheredBlocks,
     changes: &mut Changes,
     free: u32,
 ) -> Result<(), Fail> {
@@ -24,7 +24,7 @@ fn take_all(
 }
 
 /// Puts so many blocks back, the last one first.
-fn put_back(disk: &Gathered, changes: &mut Changes, free: u32) -> Result<(), Fail> {
+fn put_back(disk: &GatheredBlocks, changes: &mut Changes, free: u32) -> Result<(), Fail> {
     for passed in 0..free.min(3995) {
         match free_block(disk, changes, 3999 - passed) {
             Hung::Done => {}
@@ -36,8 +36,8 @@ fn put_back(disk: &Gathered, changes: &mut Changes, free: u32) -> Result<(), Fai
 
 /// Takes all of a chain, puts them back, and takes them again.
 fn take_twice(
-    disk: &Gathered,
-    view: &mut Gathered,
+    disk: &GatheredBlocks,
+    view: &mut GatheredBlocks,
     changes: &mut Changes,
     free: u32,
 ) -> Result<(), Fail> {

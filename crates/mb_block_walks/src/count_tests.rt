@@ -2,12 +2,12 @@ ghost use Rattle.std.specs.Prelude.{◌<◌};
 
 use crate::volumes::{fresh, has_bytes, holds};
 use mb_alloc::{Hung, Taken, free_block, take_block};
-use mb_gathering::Gathered;
+use mb_gathering::GatheredBlocks;
 use mb_iface::Changes;
 use std::test::Fail;
 
 /// A block is taken, or none is.
-fn takes(disk: &Gathered, changes: &mut Changes, taken: Taken) -> Result<(), Fail> {
+fn takes(disk: &GatheredBlocks, changes: &mut Changes, taken: Taken) -> Result<(), Fail> {
     holds(
         take_block(disk, changes) == taken,
         "a take tells another block",
@@ -15,7 +15,7 @@ fn takes(disk: &Gathered, changes: &mut Changes, taken: Taken) -> Result<(), Fai
 }
 
 /// A block is put back.
-fn puts_back(disk: &Gathered, changes: &mut Changes, block: u32) -> Result<(), Fail>
+fn puts_back(disk: &GatheredBlocks, changes: &mut Changes, block: u32) -> Result<(), Fail>
     requires { block < 262144 }
 {
     holds(
@@ -24,7 +24,7 @@ fn puts_back(disk: &Gathered, changes: &mut Changes, block: u32) -> Result<(), F
     )
 }
 
-fn gets_an_end(disk: &Gathered, changes: &mut Changes) -> Result<(), Fail> {
+fn gets_an_end(disk: &GatheredBlocks, changes: &mut Changes) -> Result<(), Fail> {
     takes(disk, changes, Taken::NoneLeft)?;
     puts_back(disk, changes, 3900)?;
     let list = [2, 0, 0, 0, 0, 0, 0, 0, 60, 15];
@@ -42,7 +42,7 @@ fn empty_list_gets_an_end(rt: HostRuntime) -> Result<(), Fail> {
     gets_an_end(&disk, &mut changes)
 }
 
-fn moves_into_the_block(disk: &Gathered, changes: &mut Changes) -> Result<(), Fail> {
+fn moves_into_the_block(disk: &GatheredBlocks, changes: &mut Changes) -> Result<(), Fail> {
     puts_back(disk, changes, 3900)?;
     holds(
         has_bytes(changes, 3900, 0, &[50, 0]),
@@ -60,7 +60,7 @@ fn list_of_50_moves_into_the_block(rt: HostRuntime) -> Result<(), Fail> {
     moves_into_the_block(&disk, &mut changes)
 }
 
-fn stays(disk: &Gathered, changes: &mut Changes) -> Result<(), Fail> {
+fn stays(disk: &GatheredBlocks, changes: &mut Changes) -> Result<(), Fail> {
     takes(disk, changes, Taken::NoneLeft)?;
     puts_back(disk, changes, 3900)?;
     holds(changes.len() == 0, "a block is changed")
@@ -75,7 +75,7 @@ fn list_of_51_stays(rt: HostRuntime) -> Result<(), Fail> {
     stays(&disk, &mut changes)
 }
 
-fn gives_one(disk: &Gathered, changes: &mut Changes) -> Result<(), Fail> {
+fn gives_one(disk: &GatheredBlocks, changes: &mut Changes) -> Result<(), Fail> {
     takes(disk, changes, Taken::Block(3950))?;
     takes(disk, changes, Taken::NoneLeft)
 }

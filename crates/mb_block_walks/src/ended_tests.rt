@@ -1,7 +1,7 @@
 use crate::volumes::{cached, fresh, holds, numbered, with_a_deep_part};
 use mb_alloc::{Hung, Picked, Taken, free_block, free_inode, pick_inode, take_block, take_zeroed};
 use mb_bmap::{Reached, hang, reach};
-use mb_gathering::{Gathered, gather, nothing, without};
+use mb_gathering::{GatheredBlocks, gather, nothing, without};
 use mb_iface::{Changes, Need};
 use std::alloc::Global;
 use std::test::Fail;
@@ -64,7 +64,7 @@ fn of_picked(picked: Picked) -> Told {
 }
 
 /// Makes a call once.
-fn call_on(view: &Gathered, changes: &mut Changes, call: Call) -> Told {
+fn call_on(view: &GatheredBlocks, changes: &mut Changes, call: Call) -> Told {
     match call {
         Call::Take => of_taken(take_block(view, changes)),
         Call::TakeZeroed => of_taken(take_zeroed(view, changes, 3)),
@@ -78,7 +78,7 @@ fn call_on(view: &Gathered, changes: &mut Changes, call: Call) -> Told {
 }
 
 /// The blocks of a disk that a call may look at: the first 8 and the last 100.
-fn ends_of(heap: Global, disk: &Gathered) -> Result<Gathered, Fail> {
+fn ends_of(heap: Global, disk: &GatheredBlocks) -> Result<GatheredBlocks, Fail> {
     let mut ends = nothing(heap);
     for place in 0..disk.blocks.len() {
         let (block, bytes) = disk.blocks.at(place);
@@ -108,8 +108,8 @@ fn is_same(one: &Changes, other: &Changes) -> bool {
 /// it asked.
 fn end_without(
     heap: Global,
-    disk: &Gathered,
-    view: &mut Gathered,
+    disk: &GatheredBlocks,
+    view: &mut GatheredBlocks,
     changes: &mut Changes,
     call: Call,
     lacking: u32,
@@ -130,7 +130,7 @@ fn end_without(
 /// that block with the block. Answers whether it asked.
 fn ends_without(
     heap: Global,
-    disk: &Gathered,
+    disk: &GatheredBlocks,
     call: Call,
     lacking: u32,
     whole: &Told,
@@ -149,7 +149,7 @@ fn ends_without(
 /// Each block of a view in turn is missing.
 fn ends_without_each(
     heap: Global,
-    ends: &Gathered,
+    ends: &GatheredBlocks,
     call: Call,
     read: &[u32],
     end: &Told,
@@ -170,7 +170,7 @@ fn ends_without_each(
 /// ends then as on a view with all blocks.
 fn asks_for(
     heap: Global,
-    ends: &Gathered,
+    ends: &GatheredBlocks,
     call: Call,
     read: &[u32],
     end: &Told,
@@ -187,7 +187,7 @@ fn asks_for(
 type Row<'a> = (Call, &'a [u32], Told);
 
 /// The calls of a table, each on the blocks of a disk.
-fn ask_each(heap: Global, disk: &Gathered, table: &[Row<'_>]) -> Result<(), Fail> {
+fn ask_each(heap: Global, disk: &GatheredBlocks, table: &[Row<'_>]) -> Result<(), Fail> {
     let ends = ends_of(heap, disk)?;
     for (call, read, end) in table {
         asks_for(heap, &ends, *call, read, end)?;

@@ -1,12 +1,12 @@
 use mb_alloc::{Hung, free_block};
 use mb_bmap::{Reached, reach};
-use mb_gathering::{Gathered, nothing};
+use mb_gathering::{GatheredBlocks, nothing};
 use mb_iface::Changes;
 use std::alloc::Global;
 use std::test::Fail;
 
 /// A volume of 400 blocks, of which those from 5 on are free, put back from the last one down.
-fn fresh(heap: Global) -> Result<Gathered, Fail> {
+fn fresh(heap: Global) -> Result<GatheredBlocks, Fail> {
     let mut disk = nothing(heap);
     for block in 0..400 {
         disk.blocks.put(block, &[0; 512])?;

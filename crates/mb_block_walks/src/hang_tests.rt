@@ -1,17 +1,17 @@
 use crate::volumes::{fresh, has_bytes, holds, is_changed};
 use mb_bmap::{Hung, Located, address_at, hang};
-use mb_gathering::Gathered;
+use mb_gathering::GatheredBlocks;
 use mb_iface::Changes;
 use std::test::Fail;
 
 /// The addresses of two parts of inode 3, one of them under an index block that has none.
-fn has_addresses(disk: &Gathered, changes: &Changes) -> bool {
+fn has_addresses(disk: &GatheredBlocks, changes: &Changes) -> bool {
     address_at(disk, changes, 3, 138, 0) == Located::At(3990)
         && address_at(disk, changes, 3, 0, 0) == Located::At(3991)
         && address_at(disk, changes, 3, 138, 1) == Located::Missing { level: 1 }
 }
 
-fn is_hung(disk: &Gathered, changes: &mut Changes) -> Result<(), Fail> {
+fn is_hung(disk: &GatheredBlocks, changes: &mut Changes) -> Result<(), Fail> {
     holds(
         hang(disk, changes, 3, 138, 0, 3990) == Hung::Done,
         "no index block is hung",
@@ -38,7 +38,7 @@ fn index_block_is_hung_with_zeros(rt: HostRuntime) -> Result<(), Fail> {
     is_hung(&disk, &mut changes)
 }
 
-fn is_hung_nowhere(disk: &Gathered, changes: &mut Changes) -> Result<(), Fail> {
+fn is_hung_nowhere(disk: &GatheredBlocks, changes: &mut Changes) -> Result<(), Fail> {
     holds(
         hang(disk, changes, 3, 138, 1, 3990) == Hung::Done,
         "an answer is another one",

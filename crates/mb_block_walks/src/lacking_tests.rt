@@ -1,13 +1,13 @@
 use crate::volumes::{fresh, holds, with_a_deep_part};
 use mb_alloc::{Hung, Taken, free_block, take_block};
 use mb_bmap::{Located, Reached, address, hang, reach};
-use mb_gathering::{Gathered, without};
+use mb_gathering::{GatheredBlocks, without};
 use mb_iface::Changes;
 use std::alloc::Global;
 use std::test::Fail;
 
 /// What the address of the deep part asks for first; 0 where it asks for nothing.
-fn asked_by_address(view: &Gathered, changes: &Changes) -> u32 {
+fn asked_by_address(view: &GatheredBlocks, changes: &Changes) -> u32 {
     match address(view, changes, 3, 16_522) {
         Located::Need(need) => need.first,
         _ => 0,
@@ -15,7 +15,7 @@ fn asked_by_address(view: &Gathered, changes: &Changes) -> u32 {
 }
 
 /// What the way to the deep part asks for first; 0 where it asks for nothing.
-fn asked_by_reach(view: &Gathered, changes: &mut Changes) -> u32 {
+fn asked_by_reach(view: &GatheredBlocks, changes: &mut Changes) -> u32 {
     match reach(view, changes, 3, 16_522, 1) {
         Reached::Need(need) => need.first,
         _ => 0,
@@ -23,14 +23,14 @@ fn asked_by_reach(view: &Gathered, changes: &mut Changes) -> u32 {
 }
 
 /// What a block that is hung at the deep part asks for first; 0 where it asks for nothing.
-fn asked_by_hang(view: &Gathered, changes: &mut Changes) -> u32 {
+fn asked_by_hang(view: &GatheredBlocks, changes: &mut Changes) -> u32 {
     match hang(view, changes, 3, 16_522, 3, 3990) {
         Hung::Need(need) => need.first,
         _ => 0,
     }
 }
 
-fn way_asks_for(view: &Gathered, changes: &mut Changes, lacking: u32) -> Result<(), Fail> {
+fn way_asks_for(view: &GatheredBlocks, changes: &mut Changes, lacking: u32) -> Result<(), Fail> {
     holds(
         asked_by_address(view, changes) == lacking,
         "an address asks otherwise",
@@ -47,14 +47,14 @@ fn way_asks_for(view: &Gathered, changes: &mut Changes, lacking: u32) -> Result<
 }
 
 /// The same on a view that lacks the block.
-fn way_without(heap: Global, disk: &Gathered, lacking: u32) -> Result<(), Fail> {
+fn way_without(heap: Global, disk: &GatheredBlocks, lacking: u32) -> Result<(), Fail> {
     let view = without(heap, disk, lacking)?;
     let mut changes = Changes::new(heap);
     way_asks_for(&view, &mut changes, lacking)
 }
 
 /// The part's own block is not asked for.
-fn part_is_not_asked_for(heap: Global, disk: &Gathered) -> Result<(), Fail> {
+fn part_is_not_asked_for(heap: Global, disk: &GatheredBlocks) -> Result<(), Fail> {
     let view = without(heap, disk, 3908)?;
     let changes = Changes::new(heap);
     holds(

@@ -1,11 +1,11 @@
 use crate::volumes::{cached, has_bytes, holds, is_changed, numbered};
 use mb_alloc::{Hung, Picked, free_inode, pick_inode};
-use mb_gathering::{Gathered, without};
+use mb_gathering::{GatheredBlocks, without};
 use mb_iface::Changes;
 use std::test::Fail;
 
 /// A number is picked, or none is.
-fn picks(disk: &Gathered, changes: &mut Changes, picked: Picked) -> Result<(), Fail> {
+fn picks(disk: &GatheredBlocks, changes: &mut Changes, picked: Picked) -> Result<(), Fail> {
     holds(
         pick_inode(disk, changes) == picked,
         "another number is picked",
@@ -17,7 +17,7 @@ fn caches(changes: &Changes, at: usize, bytes: &[u8]) -> Result<(), Fail> {
     holds(has_bytes(changes, 1, at, bytes), "the cache is another one")
 }
 
-fn is_filled(disk: &Gathered, changes: &mut Changes) -> Result<(), Fail> {
+fn is_filled(disk: &GatheredBlocks, changes: &mut Changes) -> Result<(), Fail> {
     picks(disk, changes, Picked::Ino(3))?;
     caches(changes, 208, &[12, 0, 16, 0])?;
     caches(changes, 232, &[5, 0])?;
@@ -34,7 +34,7 @@ fn empty_cache_is_filled_by_a_scan(rt: HostRuntime) -> Result<(), Fail> {
     is_filled(&disk, &mut changes)
 }
 
-fn are_passed_over(disk: &Gathered, changes: &mut Changes) -> Result<(), Fail> {
+fn are_passed_over(disk: &GatheredBlocks, changes: &mut Changes) -> Result<(), Fail> {
     picks(disk, changes, Picked::Ino(7))?;
     caches(changes, 208, &[96, 0])?;
     picks(disk, changes, Picked::Ino(9))
@@ -49,7 +49,7 @@ fn numbers_that_are_not_free_are_passed_over(rt: HostRuntime) -> Result<(), Fail
     are_passed_over(&disk, &mut changes)
 }
 
-fn is_filled_anew(disk: &Gathered, changes: &mut Changes) -> Result<(), Fail> {
+fn is_filled_anew(disk: &GatheredBlocks, changes: &mut Changes) -> Result<(), Fail> {
     picks(disk, changes, Picked::Ino(3))?;
     caches(changes, 208, &[12, 0])
 }
@@ -63,14 +63,14 @@ fn full_cache_without_a_free_number_is_filled_anew(rt: HostRuntime) -> Result<()
 }
 
 /// Marks each inode as one in use.
-fn use_all(disk: &mut Gathered) {
+fn use_all(disk: &mut GatheredBlocks) {
     for place in 0..8 {
         let _ = disk.blocks.patch(2, 64 * place, &[0xa4, 0x81]);
         let _ = disk.blocks.patch(3, 64 * place, &[0xa4, 0x81]);
     }
 }
 
-fn picks_none(disk: &Gathered, changes: &mut Changes) -> Result<(), Fail> {
+fn picks_none(disk: &GatheredBlocks, changes: &mut Changes) -> Result<(), Fail> {
     picks(disk, changes, Picked::NoneLeft)?;
     holds(changes.len() == 0, "a block is changed")
 }
@@ -85,14 +85,14 @@ fn no_number_is_left(rt: HostRuntime) -> Result<(), Fail> {
 }
 
 /// An inode is freed.
-fn frees(disk: &Gathered, changes: &mut Changes, ino: u16) -> Result<(), Fail> {
+fn frees(disk: &GatheredBlocks, changes: &mut Changes, ino: u16) -> Result<(), Fail> {
     holds(
         free_inode(disk, changes, ino) == Hung::Done,
         "an inode is not freed",
     )
 }
 
-fn takes_100(disk: &Gathered, changes: &mut Changes) -> Result<(), Fail> {
+fn takes_100(disk: &GatheredBlocks, changes: &mut Changes) -> Result<(), Fail> {
     frees(disk, changes, 2)?;
     holds(!is_changed(changes, 1), "number 2 is cached")?;
     frees(disk, changes, 4)?;
@@ -115,7 +115,7 @@ fn cache_takes_100_numbers(rt: HostRuntime) -> Result<(), Fail> {
 }
 
 /// What a pick asks for first; 0 where it asks for nothing.
-fn asked_by_pick(view: &Gathered, changes: &mut Changes) -> u32 {
+fn asked_by_pick(view: &GatheredBlocks, changes: &mut Changes) -> u32 {
     match pick_inode(view, changes) {
         Picked::Need(need) => need.first,
         _ => 0,
@@ -123,14 +123,14 @@ fn asked_by_pick(view: &Gathered, changes: &mut Changes) -> u32 {
 }
 
 /// What an inode that is freed asks for first; 0 where it asks for nothing.
-fn asked_by_free(view: &Gathered, changes: &mut Changes, ino: u16) -> u32 {
+fn asked_by_free(view: &GatheredBlocks, changes: &mut Changes, ino: u16) -> u32 {
     match free_inode(view, changes, ino) {
         Hung::Need(need) => need.first,
         _ => 0,
     }
 }
 
-fn asks_for(view: &Gathered, changes: &mut Changes, lacking: u32) -> Result<(), Fail> {
+fn asks_for(view: &GatheredBlocks, changes: &mut Changes, lacking: u32) -> Result<(), Fail> {
     let ino = if lacking == 3 { 9 } else { 4 };
     holds(
         asked_by_pick(view, changes) == lacking,

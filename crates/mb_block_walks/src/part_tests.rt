@@ -1,6 +1,6 @@
 use crate::volumes::{fresh, take_next};
 use mb_bmap::{Located, Reached, address, reach};
-use mb_gathering::{Gathered, gather, nothing};
+use mb_gathering::{GatheredBlocks, gather, nothing};
 use mb_iface::{Changes, Over};
 use std::alloc::Global;
 use std::test::Fail;
@@ -8,8 +8,8 @@ use std::test::Fail;
 /// Reaches a part, by trying anew with the blocks that are asked for; 0 where none is left for it.
 fn reach_part(
     heap: Global,
-    disk: &Gathered,
-    view: &mut Gathered,
+    disk: &GatheredBlocks,
+    view: &mut GatheredBlocks,
     changes: &mut Changes,
     part: u32,
 ) -> Result<u32, Fail> {
@@ -35,7 +35,7 @@ fn reach_part(
 }
 
 /// The block of a part; 0 where it has none.
-fn block_of(view: &Gathered, changes: &Changes, part: u32) -> u32 {
+fn block_of(view: &GatheredBlocks, changes: &Changes, part: u32) -> u32 {
     match address(view, changes, 3, part.min(2_113_673)) {
         Located::At(block) => block,
         _ => 0,
@@ -45,8 +45,8 @@ fn block_of(view: &Gathered, changes: &Changes, part: u32) -> u32 {
 /// A part is reached at a block, twice the same, and has its address then; the next block is free.
 fn reaches(
     heap: Global,
-    disk: &Gathered,
-    view: &mut Gathered,
+    disk: &GatheredBlocks,
+    view: &mut GatheredBlocks,
     changes: &mut Changes,
     part: u32,
     own: u32,
@@ -101,8 +101,8 @@ fn parts_under_the_triple_index_block(rt: HostRuntime) -> Result<(), Fail> {
 /// Reaches the first 94 parts, and none behind them.
 fn reach_all(
     heap: Global,
-    disk: &Gathered,
-    view: &mut Gathered,
+    disk: &GatheredBlocks,
+    view: &mut GatheredBlocks,
     changes: &mut Changes,
 ) -> Result<(), Fail> {
     for part in 0..94 {

@@ -1,13 +1,13 @@
 use mb_alloc::{Hung, Taken, free_block, take_block};
 use mb_bmap::{Reached, reach};
-use mb_gathering::{Gathered, gather, nothing};
+use mb_gathering::{GatheredBlocks, gather, nothing};
 use mb_iface::Changes;
 use std::alloc::Global;
 use std::test::Fail;
 
 /// A volume of 4,000 blocks and 16 inodes, of which so many last blocks are free, put back from the
 /// last one down.
-pub fn fresh(heap: Global, free: u32) -> Result<Gathered, Fail> {
+pub fn fresh(heap: Global, free: u32) -> Result<GatheredBlocks, Fail> {
     let mut disk = nothing(heap);
     for block in 0..4000 {
         disk.blocks.put(block, &[0; 512])?;
@@ -27,7 +27,7 @@ pub fn fresh(heap: Global, free: u32) -> Result<Gathered, Fail> {
 
 /// A volume with a file, inode 3, of which part 16,522 alone is there: block 3,908, under the index
 /// blocks 3,905 to 3,907.
-pub fn with_a_deep_part(heap: Global) -> Result<Gathered, Fail> {
+pub fn with_a_deep_part(heap: Global) -> Result<GatheredBlocks, Fail> {
     let mut disk = fresh(heap, 95)?;
     let mut made = Changes::new(heap);
     match reach(&disk, &mut made, 3, 16_522, 4) {
@@ -39,7 +39,7 @@ pub fn with_a_deep_part(heap: Global) -> Result<Gathered, Fail> {
 }
 
 /// A volume whose i-list, blocks 2 and 3, has 16 inodes, of which 1, 2 and 4 are in use.
-pub fn numbered(heap: Global) -> Result<Gathered, Fail> {
+pub fn numbered(heap: Global) -> Result<GatheredBlocks, Fail> {
     let mut disk = fresh(heap, 0)?;
     let _ = disk.blocks.patch(2, 0, &[0xed, 0x41]);
     let _ = disk.blocks.patch(2, 64, &[0xed, 0x41]);
@@ -48,7 +48,7 @@ pub fn numbered(heap: Global) -> Result<Gathered, Fail> {
 }
 
 /// The same volume with a cache of 100 numbers, which are all of the one inode but for the last four.
-pub fn cached(heap: Global, number: u8, last: &[u8; 8]) -> Result<Gathered, Fail> {
+pub fn cached(heap: Global, number: u8, last: &[u8; 8]) -> Result<GatheredBlocks, Fail> {
     let mut disk = numbered(heap)?;
     let _ = disk.blocks.patch(1, 208, &[100, 0]);
     for place in 0..96 {
@@ -59,7 +59,11 @@ pub fn cached(heap: Global, number: u8, last: &[u8; 8]) -> Result<Gathered, Fail
 }
 
 /// Takes a block, by trying anew with the blocks that are asked for; 0 where none is left.
-pub fn take_next(disk: &Gathered, view: &mut Gathered, changes: &mut Changes) -> Result<u32, Fail> {
+pub fn take_next(
+    disk: &GatheredBlocks,
+    view: &mut GatheredBlocks,
+    changes: &mut Changes,
+) -> Result<u32, Fail> {
     for _ in 0..4 {
         match take_block(view, changes) {
             Taken::Block(block) => return Ok(block),

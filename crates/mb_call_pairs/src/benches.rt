@@ -3,10 +3,10 @@ ghost use Rattle.mb_calls.specs.Following.{ViewGrows};
 ghost use Rattle.mb_kinds.specs.Changed.{changed};
 ghost use Rattle.mb_tree.specs.Sessions.{HasDescriptorInRange};
 
-use mb_calls::{Performed, Performing, Ready, perform, walks_go_on};
+use mb_calls::{Performed, Performing, ReadyCall, perform, walks_go_on};
 use mb_edge::MemDisk;
 use mb_fsops::V7;
-use mb_gathering::{Gathered, SMALL, Size, disk_of, fresh, gather, nothing};
+use mb_gathering::{GatheredBlocks, SMALL, Size, disk_of, fresh, gather, nothing};
 use mb_iface::{Changes, Opens};
 use mb_kinds::{Call, Cred, Creds, Reply};
 use mb_tables::Tables;
@@ -19,7 +19,7 @@ use std::test::Fail;
 pub(crate) struct Bench {
     heap: Global,
     size: Size,
-    disk: Gathered,
+    disk: GatheredBlocks,
     tables: Tables,
 }
 
@@ -32,7 +32,11 @@ pub struct Answered {
 }
 
 /// Gathers what a call asks for; nothing where it met want of memory.
-fn gather_for(disk: &Gathered, view: &mut Gathered, performed: Performed) -> Result<(), Fail>
+fn gather_for(
+    disk: &GatheredBlocks,
+    view: &mut GatheredBlocks,
+    performed: Performed,
+) -> Result<(), Fail>
     ensures { ViewGrows (changed view.old.blocks) (changed view.new.blocks) }
 {
     match performed {
@@ -45,13 +49,13 @@ fn gather_for(disk: &Gathered, view: &mut Gathered, performed: Performed) -> Res
 /// Goes on with a call until it asks for no block any longer, also where it met want of memory.
 fn ready(
     heap: Global,
-    disk: &Gathered,
+    disk: &GatheredBlocks,
     seats: &[Seat],
     opens: &Opens,
     caller: u8,
     call: &Call,
     moment: u32,
-) -> Result<Ready, Fail>
+) -> Result<ReadyCall, Fail>
     requires { caller < length seats.now }
     ensures { IfOk result (λ ready. HasDescriptorInRange ready.session) }
 {
@@ -85,7 +89,7 @@ impl Bench {
     }
 
     /// The blocks of the volume.
-    pub(crate) fn volume(&self) -> &Gathered {
+    pub(crate) fn volume(&self) -> &GatheredBlocks {
         &self.disk
     }
 
@@ -105,7 +109,7 @@ impl Bench {
     }
 
     /// What a call comes to, before anything is changed.
-    fn planned(&self, caller: u8, call: &Call, moment: u32) -> Result<Ready, Fail>
+    fn planned(&self, caller: u8, call: &Call, moment: u32) -> Result<ReadyCall, Fail>
         ensures { IfOk result (λ ready. HasDescriptorInRange ready.session) }
     {
         let seats = self.seats()?;
@@ -154,7 +158,7 @@ impl Bench {
 
     /// Makes a call.
     pub(crate) fn call(&mut self, caller: u8, call: &Call, moment: u32) -> Result<Answered, Fail> {
-        let Ready {
+        let ReadyCall {
             reply,
             op,
             pick,

@@ -1,6 +1,6 @@
 use crate::fields::{address, bytes, long, word};
 use crate::marks::{Marks, block_of};
-use mb_gathering::Gathered;
+use mb_gathering::GatheredBlocks;
 use mb_tree::{Body, Node, Nodes, Parts, PlainSlot, PlainSlots, Tree};
 use std::alloc::Global;
 use std::test::Fail;
@@ -18,7 +18,7 @@ fn span(levels: u8) -> u32 {
 /// The parts from that number on under an address, so many levels of index blocks down; address 0 is a hole. An index block
 /// holds an address.
 fn add_parts(
-    volume: &Gathered,
+    volume: &GatheredBlocks,
     marks: &mut Marks,
     parts: &mut Parts,
     number: u32,
@@ -49,7 +49,7 @@ fn add_parts(
 /// The parts of the inode at a byte of its block: under ten addresses, and under three of index blocks.
 fn parts_of(
     heap: Global,
-    volume: &Gathered,
+    volume: &GatheredBlocks,
     marks: &mut Marks,
     block: &[u8; 512],
     at: usize,
@@ -87,7 +87,7 @@ fn slots_of(heap: Global, parts: &Parts, size: u32) -> Result<PlainSlots, Fail> 
 /// What the inode at a byte of its block holds, by the kind of its mode.
 fn body_of(
     heap: Global,
-    volume: &Gathered,
+    volume: &GatheredBlocks,
     marks: &mut Marks,
     block: &[u8; 512],
     at: usize,
@@ -113,7 +113,12 @@ fn body_of(
 }
 
 /// The inodes in use of an i-list that ends before a block, the files without a name among them.
-fn nodes_of(heap: Global, volume: &Gathered, marks: &mut Marks, end: u16) -> Result<Nodes, Fail> {
+fn nodes_of(
+    heap: Global,
+    volume: &GatheredBlocks,
+    marks: &mut Marks,
+    end: u16,
+) -> Result<Nodes, Fail> {
     let mut nodes = Nodes::new(heap);
     let mut ino = 0u32;
     for number in 2..u32::from(end) {
@@ -143,7 +148,7 @@ fn nodes_of(heap: Global, volume: &Gathered, marks: &mut Marks, end: u16) -> Res
 
 /// The tree that the bytes of a volume show, read by V7 filsys(5) alone: neither the file system nor the checker has a part
 /// in it. A free block, a part and an index block are each held once.
-pub(crate) fn shown_tree(heap: Global, volume: &Gathered) -> Result<Tree, Fail> {
+pub(crate) fn shown_tree(heap: Global, volume: &GatheredBlocks) -> Result<Tree, Fail> {
     let first = block_of(volume, 1)?;
     let end = word(&first, 0);
     let mut marks = Marks::new(heap, u32::from(end), long(&first, 2))?;

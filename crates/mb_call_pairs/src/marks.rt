@@ -1,11 +1,11 @@
 use crate::fields::{long, word};
-use mb_gathering::Gathered;
+use mb_gathering::GatheredBlocks;
 use mb_iface::View;
 use std::alloc::Global;
 use std::test::Fail;
 
 /// The block of that number.
-pub(crate) fn block_of(volume: &Gathered, number: u32) -> Result<[u8; 512], Fail> {
+pub(crate) fn block_of(volume: &GatheredBlocks, number: u32) -> Result<[u8; 512], Fail> {
     match volume.get(number) {
         Some(block) => Ok(*block),
         None => Err("a block is not there".into()),
@@ -63,7 +63,7 @@ impl Marks {
     }
 
     /// Marks the blocks of the free chain, list after list.
-    pub(crate) fn hold_free(&mut self, volume: &Gathered) -> Result<(), Fail> {
+    pub(crate) fn hold_free(&mut self, volume: &GatheredBlocks) -> Result<(), Fail> {
         let first = block_of(volume, 1)?;
         let mut next = self.hold_list(&first, 6)?;
         for _ in 0..self.held.len() {

@@ -8,10 +8,10 @@ use std::process::Abort;
 use std::test::Fail;
 
 /// A call's text, with the letter of its caller, and the text of its reply.
-pub type Line = (&'static str, &'static str);
+pub type CallRow = (&'static str, &'static str);
 
 /// Adds the callers and the calls of a table to a job.
-fn add_job(text: &mut Vec<u8>, callers: &str, table: &[Line]) -> Result<(), AllocError> {
+fn add_job(text: &mut Vec<u8>, callers: &str, table: &[CallRow]) -> Result<(), AllocError> {
     text.extend_from_slice(b"callers = [")?;
     text.extend_from_slice(callers.as_bytes())?;
     text.extend_from_slice(b"]\ncalls = [\n")?;
@@ -24,7 +24,7 @@ fn add_job(text: &mut Vec<u8>, callers: &str, table: &[Line]) -> Result<(), Allo
 }
 
 /// The job of the calls of a table.
-fn job_of_table(heap: Global, callers: &str, table: &[Line]) -> Result<Job, Fail> {
+fn job_of_table(heap: Global, callers: &str, table: &[CallRow]) -> Result<Job, Fail> {
     let mut text = Vec::new(heap);
     add_job(&mut text, callers, table)?;
     Ok(job_of(heap, &text)?)
@@ -37,7 +37,7 @@ fn add_number(heap: Global, text: &mut Vec<u8>, number: u64) -> Result<(), Alloc
 }
 
 /// Adds the lines that a table writes.
-fn add_lines(heap: Global, text: &mut Vec<u8>, table: &[Line]) -> Result<(), AllocError> {
+fn add_lines(heap: Global, text: &mut Vec<u8>, table: &[CallRow]) -> Result<(), AllocError> {
     for (index, (call, reply)) in table.iter().enumerate() {
         add_number(heap, text, index as u64 + 1)?;
         text.push(b' ')?;
@@ -159,7 +159,7 @@ fn transcript_of(heap: Global, job: &Job) -> Result<Text, Fail> {
 }
 
 /// Whether a job's transcript is a table's.
-fn is_written<R: Abort>(rt: &R, heap: Global, text: &[u8], table: &[Line]) -> Result<(), Fail> {
+fn is_written<R: Abort>(rt: &R, heap: Global, text: &[u8], table: &[CallRow]) -> Result<(), Fail> {
     let mut wanted = Vec::new(heap);
     add_lines(heap, &mut wanted, table)?;
     assert_eq!(rt; std::str::from_utf8(text), std::str::from_utf8(&wanted));
@@ -167,13 +167,18 @@ fn is_written<R: Abort>(rt: &R, heap: Global, text: &[u8], table: &[Line]) -> Re
 }
 
 /// The calls of a table, made one after another by these callers on the fresh volume, are answered so.
-pub fn answers<R: Abort>(rt: &R, heap: Global, callers: &str, table: &[Line]) -> Result<(), Fail> {
+pub fn answers<R: Abort>(
+    rt: &R,
+    heap: Global,
+    callers: &str,
+    table: &[CallRow],
+) -> Result<(), Fail> {
     let job = job_of_table(heap, callers, table)?;
     let text = transcript_of(heap, &job)?;
     is_written(rt, heap, text.as_slice(), table)
 }
 
 /// The same by one caller of uid 0 and gid 0.
-pub fn answers_root<R: Abort>(rt: &R, heap: Global, table: &[Line]) -> Result<(), Fail> {
+pub fn answers_root<R: Abort>(rt: &R, heap: Global, table: &[CallRow]) -> Result<(), Fail> {
     answers(rt, heap, "\"a 0 0\"", table)
 }

@@ -15,7 +15,7 @@ use Rattle.mb_tree.specs.declared.lookups.Placed.{Placed}
 use Rattle.mb_tree.specs.declared.seats.Seat.{Seat}
 use Rattle.mb_tree.specs.declared.trees.Tree.{Tree}
 use Rattle.mb_calls.specs.Following.{AsksNear, IsAhead, IsCut, IsGoing, IsKept, IsPlaceOf, LacksForCall, LacksOnWay, piece_of}
-use Rattle.mb_calls.specs.Halts.{Matches, IsOver, Needs}
+use Rattle.mb_calls.specs.Halts.{Matches, IsViewOf, Needs}
 use Rattle.mb_calls.specs.Following.{ViewGrows}
 use Rattle.mb_calls.specs.Looked.{IsFirst, IsLooked, paths_of}
 use Rattle.mb_calls.specs.Looked.IsLooked.{passed}
@@ -59,7 +59,7 @@ module _ (shown : ℕ → Option (List ℕ)) (seat : Seat) (path : List ℕ) (wa
   some_with : 0 < length head
   some_with = subst (λ h. 0 < length h) (sym is) (head_some path walk.from next cut)
 
-  pub kept_on : (stat : Stat) → is_directory stat.mode ≡ true → ((image : Image) (tree : Tree) → IsOver shown seat image tree → find_path tree.nodes seat.cred walk.dir head ≡ Ok stat)
+  pub kept_on : (stat : Stat) → is_directory stat.mode ≡ true → ((image : Image) (tree : Tree) → IsViewOf shown seat image tree → find_path tree.nodes seat.cred walk.dir head ≡ Ok stat)
       → IsKept shown seat path (record { dir = stat.ino; from = next; ahead = None; end = None })
   kept_on stat d found = record {
     ahead = tt;
@@ -70,14 +70,14 @@ module _ (shown : ℕ → Option (List ℕ)) (seat : Seat) (path : List ℕ) (wa
   }
 
   -- a block on the way of the component is on the way of the path
-  pub head_near : (image : Image) (tree : Tree) → IsOver shown seat image tree → (block : ℕ) → IsNear image tree (IsOnWay tree.nodes seat.cred (start_of walk.dir head) (components head)) block
+  pub head_near : (image : Image) (tree : Tree) → IsViewOf shown seat image tree → (block : ℕ) → IsNear image tree (IsOnWay tree.nodes seat.cred (start_of walk.dir head) (components head)) block
       → IsNear image tree (IsOnWay tree.nodes seat.cred (start_of seat.cwd path) (components path)) block
   head_near image tree over block h = near_more image tree (IsOnWay tree.nodes seat.cred (start_of walk.dir head) (components head)) (IsOnWay tree.nodes seat.cred (start_of seat.cwd path) (components path)) block
       (way_head tree over.volume.sound seat.cred seat.cwd path walk.dir (drop walk.from path) head (drop next path) (kept.followed image tree over) cut_with some_with
       (tail_some path walk.from next cut) (tail_other path walk.from next cut)) h
 
 -- what the rest of a walk finds is what the path finds
-module _ (shown : ℕ → Option (List ℕ)) (seat : Seat) (path : List ℕ) (walk : PathWalk) (rest : List ℕ) (kept : IsKept shown seat path walk) (is : rest ≡ drop walk.from path) (image : Image) (tree : Tree) (over : IsOver shown seat image tree) where
+module _ (shown : ℕ → Option (List ℕ)) (seat : Seat) (path : List ℕ) (walk : PathWalk) (rest : List ℕ) (kept : IsKept shown seat path walk) (is : rest ≡ drop walk.from path) (image : Image) (tree : Tree) (over : IsViewOf shown seat image tree) where
   pub rest_place : (result : Result Placed Halt) → Matches result (find_place tree.nodes seat.cred walk.dir rest) → Matches result (find_place tree.nodes seat.cred seat.cwd path)
   rest_place result h = subst (Matches result) (sym (place_followed tree.nodes seat.cred seat.cwd path walk.dir (drop walk.from path) (kept.followed image tree over) ∙ ap (find_place tree.nodes seat.cred walk.dir) (sym is))) h
 

@@ -25,10 +25,10 @@ use Rattle.mb_tree.proofs.LawfulPicks.{lawful_made, lawful_refused, lawful_unmad
 use Rattle.mb_tree.proofs.PickedEffects.{makes_by_number}
 use Rattle.mb_tree.proofs.Repicking.{refused_plans, replans}
 use Rattle.mb_calls.specs.Endings.{ready_refused, ready_with}
-use Rattle.mb_calls.specs.Performed.{IsAnsweredBy, IsPerformed, IsServedBy}
-use Rattle.mb_calls.specs.declared.performing.Ready.{Ready}
+use Rattle.mb_calls.specs.Performed.{IsAnsweredOver, IsPerformedOver, IsServedOver}
+use Rattle.mb_calls.specs.declared.performing.ReadyCall.{ReadyCall}
 
-answered_by : (view : Image) (machine : Machine) (caller : ℕ) (made : Call) (moment : ℕ) (ready : Ready) (reply : Reply) → IsServedReply reply → IsServedBy view machine caller made moment ready → IsAnsweredBy view machine caller made moment ready reply
+answered_by : (view : Image) (machine : Machine) (caller : ℕ) (made : Call) (moment : ℕ) (ready : ReadyCall) (reply : Reply) → IsServedReply reply → IsServedOver view machine caller made moment ready → IsAnsweredOver view machine caller made moment ready reply
 answered_by view machine caller made moment ready (Num number) plain by = by
 answered_by view machine caller made moment ready (Got bytes) plain by = by
 answered_by view machine caller made moment ready (Info stat) plain by = by
@@ -52,7 +52,7 @@ not_both b t f = let no : true ≡ false = sym t ∙ f in cc
 
 module _ (machine : Machine) (caller : ℕ) (made : Call) (moment : ℕ) where
   -- ---- a plan that is refused
-  pub performed_unplanned : (view : Image) (shared : Bool) (e : Errno) → plan machine caller made moment (Some 0) ≡ Err e → IsPerformed view machine caller made moment (ready_refused shared e)
+  pub performed_unplanned : (view : Image) (shared : Bool) (e : Errno) → plan machine caller made moment (Some 0) ≡ Err e → IsPerformedOver view machine caller made moment (ready_refused shared e)
   performed_unplanned view shared e h = record {
     lawful = lawful_unplanned machine caller made moment 0 e h;
     answered = record { refused = unplanned_by machine caller made moment None e (refused_plans 0 machine caller made moment None e h); op = refl; session = refl; changes = refl };
@@ -61,7 +61,7 @@ module _ (machine : Machine) (caller : ℕ) (made : Call) (moment : ℕ) where
   module _ (planned : CallPlan) (h : plan machine caller made moment (Some 0) ≡ Ok planned) (plain : IsServedReply planned.reply) where
     -- ---- a plan without an operation
     pub performed_alone : (view : Image) (shared : Bool) → IsVolume view machine.tree → with_changes view [] ≡ view → Kept machine.tree view machine.tree view → planned.op ≡ None
-        → IsPerformed view machine caller made moment (ready_with shared planned)
+        → IsPerformedOver view machine caller made moment (ready_with shared planned)
     performed_alone view shared volume same kept none =
         let held : TreeAndOpens = record { tree = machine.tree; opens = counts machine.seats } in
         let plans : plan machine caller made moment None ≡ Ok planned = replans 0 machine caller made moment None planned h ∙ ap (λ o. repicked o None planned) none in
@@ -88,12 +88,12 @@ module _ (machine : Machine) (caller : ℕ) (made : Call) (moment : ℕ) where
       quiet_lawful quiet = lawful_unmade machine caller made moment 0 planned h (ap plan_makes is ∙ quiet)
 
       -- ---- an operation that was done
-      abbrev is_done : Option ℕ → List (ℕ × List ℕ) → Bool → Ready
+      abbrev is_done : Option ℕ → List (ℕ × List ℕ) → Bool → ReadyCall
       is_done pick changes shared = record { reply = planned.reply; op = Some op; pick = pick; changes = changes; session = fresh_on op pick planned.session; shared = shared }
 
       done_with : (view : Image) (shown : ℕ → Option (List ℕ)) (changes : List (ℕ × List ℕ)) (pick : Option ℕ) (shared : Bool)
           → HasDone shown view machine.tree (counts machine.seats) op None changes pick → (makes_inode op ≡ true → IsSome pick) → IsLawful machine caller made moment pick
-          → IsPerformed view machine caller made moment (is_done pick changes shared)
+          → IsPerformedOver view machine caller made moment (is_done pick changes shared)
       done_with view shown changes pick shared done some lawful = record {
         lawful = lawful;
         answered = answered_by view machine caller made moment (is_done pick changes shared) planned.reply plain (record {
@@ -106,7 +106,7 @@ module _ (machine : Machine) (caller : ℕ) (made : Call) (moment : ℕ) where
       }
 
       pub performed_done : (view : Image) (shown : ℕ → Option (List ℕ)) (changes : List (ℕ × List ℕ)) (pick : Option ℕ) (shared : Bool)
-          → HasDone shown view machine.tree (counts machine.seats) op None changes pick → IsPerformed view machine caller made moment (is_done pick changes shared)
+          → HasDone shown view machine.tree (counts machine.seats) op None changes pick → IsPerformedOver view machine caller made moment (is_done pick changes shared)
       performed_done view shown changes (Some ino) shared done = done_with view shown changes (Some ino) shared done (λ makes. refl) (elim (bool_of (makes_inode op)) [
         | inl makes ↦ lawful_made machine caller made moment ino (record {
           planned = with_pick op (Some ino) planned;
@@ -153,10 +153,10 @@ module _ (machine : Machine) (caller : ℕ) (made : Call) (moment : ℕ) where
       ]
 
       pub performed_refused : (view : Image) (shared : Bool) (e : Errno) → IsSound machine.tree → Fits machine.tree (counts machine.seats) op None → HasRefused machine.tree (counts machine.seats) op None e
-          → IsPerformed view machine caller made moment (ready_refused shared e)
+          → IsPerformedOver view machine caller made moment (ready_refused shared e)
       performed_refused view shared e sound fits by = go by.picked by.picks by.effect
         where
-          go : (picked : Option ℕ) → Picks machine.tree op None picked → effect machine.tree (counts machine.seats) op picked ≡ Err e → IsPerformed view machine caller made moment (ready_refused shared e)
+          go : (picked : Option ℕ) → Picks machine.tree op None picked → effect machine.tree (counts machine.seats) op picked ≡ Err e → IsPerformedOver view machine caller made moment (ready_refused shared e)
           go None picks stops = record {
             lawful = none_lawful e picks stops;
             answered = record { refused = serves_none e stops; op = refl; session = refl; changes = refl };

@@ -27,7 +27,7 @@ use Rattle.mb_tree.specs.PickLaws.{fresh_on, on_number}
 use Rattle.mb_calls.specs.Endings.IsEndOf.{alone, done, refused}
 use Rattle.mb_tree.specs.Plans.{CanMake, IsPlanFor}
 use Rattle.mb_calls.specs.Continuing.{CountMap}
-use Rattle.mb_calls.specs.declared.performing.Ready.{Ready}
+use Rattle.mb_calls.specs.declared.performing.ReadyCall.{ReadyCall}
 
 -- what a file system says of a block that an operation asks for, where the operation fits
 pub near_acted : (shown : ℕ → Option (List ℕ)) (image : Image) (tree : Tree) (opens : CountMap) (op : FsOp) (need : Need) → Acts shown image tree opens op None (acted.Need need) → Fits tree (count_of opens) op None
@@ -105,7 +105,7 @@ some_none op e = cc
 held_still : (acts : FsOp) (changes : ChangeList) (ino : ℕ) → Some acts ≡ Some (op.Hold ino) → KeepsIfHold acts changes → changes ≡ []
 held_still acts changes ino holds keeps = subst (λ o. KeepsIfHold o changes) (let e : acts ≡ op.Hold ino = cc in e) keeps
 
-pub fit_of : {shown : ℕ → Option (List ℕ)} {opens : CountMap} (seat : Seat) (shared : Bool) (planned : CallPlan) (ready : Ready) → IsPlanFor seat planned → IsEndOf shown opens shared planned ready → IsFit seat shared ready
+pub fit_of : {shown : ℕ → Option (List ℕ)} {opens : CountMap} (seat : Seat) (shared : Bool) (planned : CallPlan) (ready : ReadyCall) → IsPlanFor seat planned → IsEndOf shown opens shared planned ready → IsFit seat shared ready
 fit_of seat shared planned ready makes (alone none is) = subst (IsFit seat shared) (sym is) (record { plain = plain_reply planned.reply makes.1; session = can_apply seat planned.session makes.0; range = in_range seat planned.session (can_apply seat planned.session makes.0); shared = refl; still = λ none. refl; held = λ ino holds. refl })
 fit_of seat shared planned ready makes (done op changes pick acts has keeps is) = subst (IsFit seat shared) (sym is) (record {
   plain = plain_reply planned.reply makes.1;

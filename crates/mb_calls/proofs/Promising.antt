@@ -30,10 +30,10 @@ use Rattle.mb_kinds.specs.Changed.{IsWithinView}
 use Rattle.mb_iface.specs.Near.{IsNear, IsTouched}
 use Rattle.mb_iface.specs.declared.replies.Need.{Need}
 use Rattle.mb_calls.specs.Endings.{ActsNear, EndsNear, IsEndOf, Ends, HasActed, ready_refused}
-use Rattle.mb_calls.specs.Performed.{FitsCall, IsFit, IsNeeded, IsNeededFor, AreAlike, OthersAlike, AllAlike, IsPerformed, IsReadyFor, IsRight}
+use Rattle.mb_calls.specs.Performed.{FitsCall, IsFit, IsNeeded, IsNeededFor, AreAlike, OthersAlike, AllAlike, IsPerformedOver, IsReadyOver, IsRight}
 use Rattle.mb_tree.specs.LocalLaws.{cwds, is_shared_call}
 use Rattle.mb_calls.specs.Endings.IsEndOf.{alone, done, refused}
-use Rattle.mb_calls.specs.Halts.{Matches, IsOver}
+use Rattle.mb_calls.specs.Halts.{Matches, IsViewOf}
 use Rattle.mb_calls.specs.Looked.{IsLooked}
 use Rattle.mb_tree.specs.Plans.{IsPlanFor}
 use Rattle.mb_calls.specs.Continuing.{CountMap, BusyAlike, busy_by}
@@ -41,7 +41,7 @@ use Rattle.mb_calls.specs.declared.halts.Halt.{Halt}
 use Rattle.mb_calls.specs.declared.halts.Halt.TheVariants as why
 use Rattle.mb_calls.specs.declared.performing.Performed.{Performed}
 use Rattle.mb_calls.specs.declared.performing.Performed.TheVariants as performed
-use Rattle.mb_calls.specs.declared.performing.Ready.{Ready}
+use Rattle.mb_calls.specs.declared.performing.ReadyCall.{ReadyCall}
 use Rattle.mb_calls.proofs.Fitting.{fit_of, none_within}
 use Rattle.mb_calls.proofs.Nearby.{near_more}
 use Rattle.mb_calls.proofs.Touched.{touched_looked}
@@ -99,16 +99,16 @@ module _ (tree : Tree) (op : FsOp) (free : IsFreeOfCounts tree op) (opens others
     effect = ap (λ (r : Answer Tree). r >>= (λ (next : Tree). Ok (record { tree = next; opens = opens_after others op h.picked }))) (free.effect others opens h.picked) ∙ stops_alike (tree_after tree opens op h.picked) h.picked e h.effect;
   }
 
-shared_is : {shown : ℕ → Option (List ℕ)} {opens : CountMap} (shared : Bool) (planned : CallPlan) (ready : Ready) → IsEndOf shown opens shared planned ready → ready.shared ≡ shared
-shared_is shared planned ready (alone none is) = ap (λ (r : Ready). r.shared) is
-shared_is shared planned ready (done op changes pick acts has keeps is) = ap (λ (r : Ready). r.shared) is
-shared_is shared planned ready (refused op e acts has is) = ap (λ (r : Ready). r.shared) is
+shared_is : {shown : ℕ → Option (List ℕ)} {opens : CountMap} (shared : Bool) (planned : CallPlan) (ready : ReadyCall) → IsEndOf shown opens shared planned ready → ready.shared ≡ shared
+shared_is shared planned ready (alone none is) = ap (λ (r : ReadyCall). r.shared) is
+shared_is shared planned ready (done op changes pick acts has keeps is) = ap (λ (r : ReadyCall). r.shared) is
+shared_is shared planned ready (refused op e acts has is) = ap (λ (r : ReadyCall). r.shared) is
 
 -- ---- the promise
 
 module _ (shown : ℕ → Option (List ℕ)) (given : List Seat) (opens : CountMap) (caller : ℕ) (made : Call) (moment : ℕ) (seat : Seat) (good : IsCall made) (at : slice_get given caller ≡ Some seat) where
   abbrev pub Planned : Result CallPlan Halt → Type 0
-  Planned result = (image : Image) (tree : Tree) (others : List Seat) → IsOver shown seat image tree → BusyAlike made opens given others → Matches result (row tree.nodes others seat made moment (Some 0))
+  Planned result = (image : Image) (tree : Tree) (others : List Seat) → IsViewOf shown seat image tree → BusyAlike made opens given others → Matches result (row tree.nodes others seat made moment (Some 0))
 
   module _ (image : Image) (tree : Tree) (seats : List Seat) (part : IsPart shown image.at) (volume : IsVolume image tree) (agrees : AreAlike (is_shared_call made) caller given opens seats)
       (valid : IsValidFor (record { tree = tree; seats = seats }) caller) where
@@ -118,7 +118,7 @@ module _ (shown : ℕ → Option (List ℕ)) (given : List Seat) (opens : CountM
     there : slice_get seats caller ≡ Some seat
     there = sym agrees.own ∙ at
 
-    over_it : IsOver shown seat image tree
+    over_it : IsViewOf shown seat image tree
     over_it = record { part = part; volume = volume; seated = valid.seat seat there }
 
     planned_by : (r : Answer CallPlan) → row tree.nodes seats seat made moment (Some 0) ≡ r → plan machine caller made moment (Some 0) ≡ r
@@ -158,22 +158,22 @@ module _ (shown : ℕ → Option (List ℕ)) (given : List Seat) (opens : CountM
             let same = same_counts (count_of opens) (counts seats) agrees.counted in
             subst (λ o. HasRefused tree o op None e) same (has image tree part volume (subst (λ o. Fits tree o op None) (sym same) fits))
 
-      pub ready_for : (ready : Ready) → IsEndOf shown opens (is_shared_call made) planned ready → IsPerformed image machine caller made moment ready
-      ready_for ready (alone none is) = subst (IsPerformed image machine caller made moment) (sym is)
+      pub ready_for : (ready : ReadyCall) → IsEndOf shown opens (is_shared_call made) planned ready → IsPerformedOver image machine caller made moment ready
+      ready_for ready (alone none is) = subst (IsPerformedOver image machine caller made moment) (sym is)
           (performed_alone machine caller made moment planned plans plain image (is_shared_call made) volume (no_change image) (kept_same tree image) none)
-      ready_for ready (done op changes pick acts has keeps is) = subst (IsPerformed image machine caller made moment) (sym is)
+      ready_for ready (done op changes pick acts has keeps is) = subst (IsPerformedOver image machine caller made moment) (sym is)
           (performed_done machine caller made moment planned plans plain op acts image shown changes pick (is_shared_call made) (had_done op acts changes pick has (is_shared_call made) refl agrees.others))
-      ready_for ready (refused op e acts has is) = subst (IsPerformed image machine caller made moment) (sym is)
+      ready_for ready (refused op e acts has is) = subst (IsPerformedOver image machine caller made moment) (sym is)
           (performed_refused machine caller made moment planned plans plain op acts image (is_shared_call made) e valid.tree (fits op acts) (had_refused op acts e has (is_shared_call made) refl agrees.others))
 
   -- on each volume, for all sessions that the call cannot tell apart
   module _ (planned : CallPlan) (says : Planned (Ok planned)) (image : Image) (tree : Tree) (seats : List Seat) (part : IsPart shown image.at) (volume : IsVolume image tree)
       (agrees : AreAlike (is_shared_call made) caller given opens seats) (valid : IsValidFor (record { tree = tree; seats = seats }) caller) where
-    within_for : (ready : Ready) → IsEndOf shown opens (is_shared_call made) planned ready → IsWithinView shown ready.changes
-    within_for ready (alone none is) = subst (λ (r : Ready). IsWithinView shown r.changes) (sym is) (none_within shown)
-    within_for ready (done op changes pick acts has keeps is) = subst (λ (r : Ready). IsWithinView shown r.changes) (sym is)
+    within_for : (ready : ReadyCall) → IsEndOf shown opens (is_shared_call made) planned ready → IsWithinView shown ready.changes
+    within_for ready (alone none is) = subst (λ (r : ReadyCall). IsWithinView shown r.changes) (sym is) (none_within shown)
+    within_for ready (done op changes pick acts has keeps is) = subst (λ (r : ReadyCall). IsWithinView shown r.changes) (sym is)
         (had_done image tree seats part volume agrees valid planned says op acts changes pick has (is_shared_call made) refl agrees.others).within
-    within_for ready (refused op e acts has is) = subst (λ (r : Ready). IsWithinView shown r.changes) (sym is) (none_within shown)
+    within_for ready (refused op e acts has is) = subst (λ (r : ReadyCall). IsWithinView shown r.changes) (sym is) (none_within shown)
 
     needed_for : (need : Need) (o : Option FsOp) → planned.op ≡ o → ActsNear shown opens o need → IsNear image tree (IsLooked tree.nodes seat made) need.first
     needed_for need None acts near = absurd near
@@ -190,7 +190,7 @@ module _ (shown : ℕ → Option (List ℕ)) (given : List Seat) (opens : CountM
   right_ended planned (performed.Need need) says ends = ends
   right_ended planned performed.NoMemory says ends = tt
 
-  pub right_refused : (e : Errno) → Planned (Err (why.Refused e)) → IsReadyFor shown given opens caller made moment (ready_refused (is_shared_call made) e)
+  pub right_refused : (e : Errno) → Planned (Err (why.Refused e)) → IsReadyOver shown given opens caller made moment (ready_refused (is_shared_call made) e)
   right_refused e says = λ image tree seats part volume agrees valid. (
     performed_unplanned (record { tree = tree; seats = seats }) caller made moment image (is_shared_call made) e
         (planned_by image tree seats part volume agrees valid (Err e) (says image tree seats (over_it image tree seats part volume agrees valid) (sees_alike made given opens seats agrees.others))),
@@ -206,7 +206,7 @@ module _ (shown : ℕ → Option (List ℕ)) (given : List Seat) (opens : CountM
   needed_ended planned performed.NoMemory says ends = tt
 
   -- what a question asks for
-  pub needed_asked : (need : Need) → ((image : Image) (tree : Tree) → IsOver shown seat image tree → IsNear image tree (IsLooked tree.nodes seat made) need.first) → IsNeededFor shown given opens caller made need
+  pub needed_asked : (need : Need) → ((image : Image) (tree : Tree) → IsViewOf shown seat image tree → IsNear image tree (IsLooked tree.nodes seat made) need.first) → IsNeededFor shown given opens caller made need
   needed_asked need near = λ image tree seats other part volume agrees valid is.
       let same : seat ≡ other = let e : Some seat ≡ Some other = sym at ∙ is in cc in
       subst (λ s. IsNear image tree (IsLooked tree.nodes s made) need.first) same (near image tree (over_it image tree seats part volume agrees valid))

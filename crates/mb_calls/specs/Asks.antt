@@ -22,7 +22,7 @@ use Rattle.mb_tree.specs.declared.seats.Seat.{Seat}
 use Rattle.mb_tree.specs.declared.trees.Tree.{Tree}
 use Rattle.mb_calls.specs.Continuing.{BusyAlike, CountMap, bytes_in}
 use Rattle.mb_calls.specs.Following.{AsksNear}
-use Rattle.mb_calls.specs.Halts.{IsOver, Matches, Needs, Says}
+use Rattle.mb_calls.specs.Halts.{IsViewOf, Matches, Needs, SaysOnEach}
 use Rattle.mb_calls.specs.Halts.Scope.{around}
 use Rattle.mb_calls.specs.Looked.{IsLooked, paths_of}
 use Rattle.mb_calls.specs.Spots.{AreTold, IsBeside, MatchesPlace, SpotBeside, SpotNeeds, SpotTold, SpotWants, placed_of, used_at, used_by}
@@ -38,22 +38,22 @@ Shown = ℕ → Option (List ℕ)
 
 -- the inode to which it leads
 abbrev pub FindsInode : Shown → Seat → List ℕ → Result Stat Halt → Type 0
-FindsInode shown seat path result = Says shown seat result (λ tree. find_path tree.nodes seat.cred seat.cwd path)
+FindsInode shown seat path result = SaysOnEach shown seat result (λ tree. find_path tree.nodes seat.cred seat.cwd path)
 
 -- its place
 abbrev pub FindsPlace : Shown → Seat → List ℕ → Result Placed Halt → Type 0
-FindsPlace shown seat path result = Says shown seat result (λ tree. find_place tree.nodes seat.cred seat.cwd path)
+FindsPlace shown seat path result = SaysOnEach shown seat result (λ tree. find_place tree.nodes seat.cred seat.cwd path)
 
 -- its place, with what stat tells beside it
 abbrev pub FindsSpot : Shown → Seat → List ℕ → Result Spot Halt → Type 0
-FindsSpot shown seat path result = (image : Image) (tree : Tree) → IsOver shown seat image tree → MatchesPlace result tree.nodes (find_place tree.nodes seat.cred seat.cwd path)
+FindsSpot shown seat path result = (image : Image) (tree : Tree) → IsViewOf shown seat image tree → MatchesPlace result tree.nodes (find_place tree.nodes seat.cred seat.cwd path)
 
 -- a block near the inodes of every call that has this path
 abbrev pub NearPath : {X : Type 0} → Shown → Seat → List ℕ → Result X Halt → Type 0
-NearPath shown seat path result = (image : Image) (tree : Tree) (made : Call) → IsOver shown seat image tree → Contains (paths_of made) path → Needs (around image tree seat made) result
+NearPath shown seat path result = (image : Image) (tree : Tree) (made : Call) → IsViewOf shown seat image tree → Contains (paths_of made) path → Needs (around image tree seat made) result
 
 abbrev pub NearSpot : Shown → Seat → List ℕ → Result Spot Halt → Type 0
-NearSpot shown seat path result = (image : Image) (tree : Tree) (made : Call) → IsOver shown seat image tree → Contains (paths_of made) path → SpotWants (around image tree seat made) result
+NearSpot shown seat path result = (image : Image) (tree : Tree) (made : Call) → IsViewOf shown seat image tree → Contains (paths_of made) path → SpotWants (around image tree seat made) result
 
 -- ---- of an inode
 
@@ -123,23 +123,23 @@ NearFrom shown cred dir path result = (image : Image) (tree : Tree) → IsPart s
 
 -- a block on the way of the path
 abbrev pub NearWay : {X : Type 0} → Shown → Seat → List ℕ → Result X Halt → Type 0
-NearWay shown seat path result = (image : Image) (tree : Tree) → IsOver shown seat image tree → AsksNear image tree seat.cred seat.cwd path result
+NearWay shown seat path result = (image : Image) (tree : Tree) → IsViewOf shown seat image tree → AsksNear image tree seat.cred seat.cwd path result
 
 -- ---- of a call
 
 -- its plan is the row's, with the number 0 where an inode is made, for all sessions for which the row is the same
 abbrev pub PlansRow : Shown → CountMap → List Seat → Seat → Call → ℕ → Result CallPlan Halt → Type 0
-PlansRow shown opens given seat made moment result = (image : Image) (tree : Tree) (others : List Seat) → IsOver shown seat image tree → BusyAlike made opens given others
+PlansRow shown opens given seat made moment result = (image : Image) (tree : Tree) (others : List Seat) → IsViewOf shown seat image tree → BusyAlike made opens given others
     → Matches result (row tree.nodes others seat made moment (Some 0))
 
 -- for all sessions whatever
 abbrev pub PlansAlone : Shown → Seat → Call → ℕ → Result CallPlan Halt → Type 0
-PlansAlone shown seat made moment result = (image : Image) (tree : Tree) (others : List Seat) → IsOver shown seat image tree → Matches result (row tree.nodes others seat made moment (Some 0))
+PlansAlone shown seat made moment result = (image : Image) (tree : Tree) (others : List Seat) → IsViewOf shown seat image tree → Matches result (row tree.nodes others seat made moment (Some 0))
 
 -- a block near its inodes
 abbrev pub NearCall : {X : Type 0} → Shown → Seat → Call → Result X Halt → Type 0
-NearCall shown seat made result = (image : Image) (tree : Tree) → IsOver shown seat image tree → Needs (around image tree seat made) result
+NearCall shown seat made result = (image : Image) (tree : Tree) → IsViewOf shown seat image tree → Needs (around image tree seat made) result
 
 -- near those of every call, as it is on an open file of the session
 abbrev pub NearFile : {X : Type 0} → Shown → Seat → Result X Halt → Type 0
-NearFile shown seat result = (image : Image) (tree : Tree) (made : Call) → IsOver shown seat image tree → Needs (around image tree seat made) result
+NearFile shown seat result = (image : Image) (tree : Tree) (made : Call) → IsViewOf shown seat image tree → Needs (around image tree seat made) result

@@ -1,4 +1,4 @@
--- The last step of a call: its plan is made a Ready by the one operation, if it has one.
+-- The last step of a call: its plan is made a ReadyCall by the one operation, if it has one.
 use Rattle.std.specs.Prelude.{List, [], ℕ, ◌≡◌, Bool, Option, Some, None}
 use Rattle.mb_kinds.specs.Image.{Image}
 use Rattle.mb_kinds.specs.declared.errors.Errno.{Errno}
@@ -18,16 +18,16 @@ use Rattle.mb_tree.specs.declared.trees.Tree.{Tree}
 use Rattle.mb_calls.specs.Continuing.{CountMap}
 use Rattle.mb_iface.specs.declared.replies.Acted.TheVariants as acted
 use Rattle.mb_iface.specs.declared.replies.Need.{Need}
-use Rattle.mb_calls.specs.declared.performing.Ready.{Ready}
+use Rattle.mb_calls.specs.declared.performing.ReadyCall.{ReadyCall}
 use Rattle.mb_calls.specs.declared.performing.Performed.{Performed}
 use Rattle.mb_calls.specs.declared.performing.Performed.TheVariants as performed
 
 -- a plan without an operation; shared says whether its call looks at other sessions
-abbrev pub ready_with : Bool → CallPlan → Ready
+abbrev pub ready_with : Bool → CallPlan → ReadyCall
 ready_with shared planned = record { reply = planned.reply; op = None; pick = None; changes = []; session = planned.session; shared = shared }
 
 -- a refusal
-abbrev pub ready_refused : Bool → Errno → Ready
+abbrev pub ready_refused : Bool → Errno → ReadyCall
 ready_refused shared e = record { reply = Refused e; op = None; pick = None; changes = []; session = Same; shared = shared }
 
 -- what an operation did on each volume on which it fits, no number being demanded
@@ -35,7 +35,7 @@ abbrev pub HasActed : (ℕ → Option (List ℕ)) → CountMap → FsOp → (Ima
 HasActed shown opens op Does = (image : Image) (tree : Tree) → IsPart shown image.at → IsVolume image tree → Fits tree (count_of opens) op None → Does image tree
 
 -- how a plan ends: there is no operation, or it is done, or it is refused
-pub data IsEndOf (shown : ℕ → Option (List ℕ)) (opens : CountMap) (shared : Bool) (planned : CallPlan) (ready : Ready) : Type 0 where
+pub data IsEndOf (shown : ℕ → Option (List ℕ)) (opens : CountMap) (shared : Bool) (planned : CallPlan) (ready : ReadyCall) : Type 0 where
   alone : planned.op ≡ None → ready ≡ ready_with shared planned → IsEndOf shown opens shared planned ready
   done : (op : FsOp) (changes : List (ℕ × List ℕ)) (pick : Option ℕ) → planned.op ≡ Some op → HasActed shown opens op (λ image tree. HasDone shown image tree (count_of opens) op None changes pick)
       → KeepsWhereHeld op (acted.Done changes pick) → ready ≡ record { reply = planned.reply; op = Some op; pick = pick; changes = changes; session = fresh_on op pick planned.session; shared = shared } → IsEndOf shown opens shared planned ready

@@ -19,7 +19,7 @@ use Rattle.mb_tree.specs.declared.plans.CallPlan.{CallPlan}
 use Rattle.mb_tree.specs.declared.seats.Seat.{Seat}
 use Rattle.mb_tree.specs.declared.stops.Stop.{Stop}
 use Rattle.mb_tree.specs.declared.trees.Tree.{Tree}
-use Rattle.mb_calls.specs.Halts.{IsOver}
+use Rattle.mb_calls.specs.Halts.{IsViewOf}
 use Rattle.mb_calls.specs.Looked.{IsFirst, IsLooked, IsSecond}
 use Rattle.mb_calls.specs.declared.halts.Halt.{Halt}
 use Rattle.mb_calls.specs.declared.halts.Halt.TheVariants as why
@@ -42,7 +42,7 @@ pub record IsFollowed (nodes : Numbered Node) (cred : Cred) (cwd : ℕ) (path : 
 
 -- on each volume a path has this place
 abbrev pub IsPlaceOf : (ℕ → Option (List ℕ)) → Seat → List ℕ → Placed → Type 0
-IsPlaceOf shown seat path placed = (image : Image) (tree : Tree) → IsOver shown seat image tree → find_place tree.nodes seat.cred seat.cwd path ≡ Ok placed
+IsPlaceOf shown seat path placed = (image : Image) (tree : Tree) → IsViewOf shown seat image tree → find_place tree.nodes seat.cred seat.cwd path ≡ Ok placed
 
 -- the inode to which a place leads
 abbrev pub led_by : Placed → Option ℕ
@@ -68,13 +68,13 @@ piece_of path from next = take (next - 1 - from) (drop from path)
 -- on each volume the piece of the path leads to the inode
 pub record IsAhead (shown : ℕ → Option (List ℕ)) (seat : Seat) (path : List ℕ) (dir from : ℕ) (ahead : Ahead) : Type 0 where
   pub cut : IsCut path from ahead.next
-  pub led : (image : Image) (tree : Tree) → IsOver shown seat image tree → IsLed tree.nodes seat.cred dir (piece_of path from ahead.next) ahead.ino
+  pub led : (image : Image) (tree : Tree) → IsViewOf shown seat image tree → IsLed tree.nodes seat.cred dir (piece_of path from ahead.next) ahead.ino
 
 -- on each volume the walk is at a directory on the way of the path, what is ahead is what the next component leads to, and its end is
 -- the place of the path
 pub record IsKept (shown : ℕ → Option (List ℕ)) (seat : Seat) (path : List ℕ) (walk : PathWalk) : Type 0 where
   pub within : walk.from ≤ length path
-  pub followed : (image : Image) (tree : Tree) → IsOver shown seat image tree → IsFollowed tree.nodes seat.cred seat.cwd path walk.dir (drop walk.from path)
+  pub followed : (image : Image) (tree : Tree) → IsViewOf shown seat image tree → IsFollowed tree.nodes seat.cred seat.cwd path walk.dir (drop walk.from path)
   pub ahead : IfSome walk.ahead (IsAhead shown seat path walk.dir walk.from)
   pub place : IfSome walk.end (IsPlaceOf shown seat path)
 
@@ -90,7 +90,7 @@ AsksNear image tree cred dir path (Err stop) = HaltsNear image tree cred dir pat
 -- blocks that the view lacks, the first of them on the way of the path
 pub record LacksOnWay (shown : ℕ → Option (List ℕ)) (seat : Seat) (path : List ℕ) (need : Need) : Type 0 where
   pub lacking : IsNeed shown need
-  pub near : (image : Image) (tree : Tree) → IsOver shown seat image tree → IsNear image tree (IsOnWay tree.nodes seat.cred (start_of seat.cwd path) (components path)) need.first
+  pub near : (image : Image) (tree : Tree) → IsViewOf shown seat image tree → IsNear image tree (IsOnWay tree.nodes seat.cred (start_of seat.cwd path) (components path)) need.first
 
 -- one component further, or what is lacking for it
 abbrev pub StepsOn : (ℕ → Option (List ℕ)) → Seat → List ℕ → Stepped → Type 0
@@ -101,7 +101,7 @@ StepsOn shown seat path stepped.Stopped = Unit {0}
 -- blocks that the view lacks, the first of them near the inodes of the call
 pub record LacksForCall (shown : ℕ → Option (List ℕ)) (seat : Seat) (made : Call) (need : Need) : Type 0 where
   pub lacking : IsNeed shown need
-  pub near : (image : Image) (tree : Tree) → IsOver shown seat image tree → IsNear image tree (IsLooked tree.nodes seat made) need.first
+  pub near : (image : Image) (tree : Tree) → IsViewOf shown seat image tree → IsNear image tree (IsLooked tree.nodes seat made) need.first
 
 -- the walks of a call's paths: the first of each call that has one, and the second of link(2)
 pub record AreWalks (shown : ℕ → Option (List ℕ)) (seat : Seat) (made : Call) (walks : PathWalks) : Type 0 where

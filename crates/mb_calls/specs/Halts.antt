@@ -17,7 +17,7 @@ use Rattle.mb_calls.specs.declared.halts.Halt.{Halt}
 use Rattle.mb_calls.specs.declared.halts.Halt.TheVariants as halt
 
 -- a volume of the tree, of which the view is a part, and a session that fits it
-pub record IsOver (shown : ℕ → Option (List ℕ)) (seat : Seat) (image : Image) (tree : Tree) : Type 0 where
+pub record IsViewOf (shown : ℕ → Option (List ℕ)) (seat : Seat) (image : Image) (tree : Tree) : Type 0 where
   pub part : IsPart shown image.at
   pub volume : IsVolume image tree
   pub seated : IsSeated tree.nodes seat
@@ -34,8 +34,8 @@ Matches (Ok x) row = row ≡ Ok x
 Matches (Err why) row = HaltMatches why row
 
 -- on each volume
-abbrev pub Says : {X : Type 0} → (ℕ → Option (List ℕ)) → Seat → Result X Halt → (Tree → Answer X) → Type 0
-Says shown seat result row = (image : Image) (tree : Tree) → IsOver shown seat image tree → Matches result (row tree)
+abbrev pub SaysOnEach : {X : Type 0} → (ℕ → Option (List ℕ)) → Seat → Result X Halt → (Tree → Answer X) → Type 0
+SaysOnEach shown seat result row = (image : Image) (tree : Tree) → IsViewOf shown seat image tree → Matches result (row tree)
 
 -- what is said of a block that is asked for: that a view lacks it, or that it is near the inodes of a call
 pub data Scope : Type 0 where

@@ -29,13 +29,13 @@ use Rattle.mb_tree.specs.declared.trees.Tree.{Tree}
 use Rattle.mb_calls.specs.Continuing.{CountMap}
 use Rattle.mb_calls.specs.Looked.{IsLooked}
 use Rattle.mb_iface.specs.declared.replies.Need.{Need}
-use Rattle.mb_calls.specs.declared.performing.Ready.{Ready}
+use Rattle.mb_calls.specs.declared.performing.ReadyCall.{ReadyCall}
 use Rattle.mb_calls.specs.declared.performing.Performed.{Performed}
 use Rattle.mb_calls.specs.declared.performing.Performed.TheVariants as performed
 
 -- a call that is served, by its plan and the effect of its operation; what it changes makes a volume of the next tree,
 -- and the image keeps what holds nothing of the tree
-pub record IsServedBy (view : Image) (machine : Machine) (caller : ℕ) (made : Call) (moment : ℕ) (ready : Ready) : Type 0 where
+pub record IsServedOver (view : Image) (machine : Machine) (caller : ℕ) (made : Call) (moment : ℕ) (ready : ReadyCall) : Type 0 where
   pub planned : plan machine caller made moment ready.pick ≡ Ok (record { reply = ready.reply; op = ready.op; session = ready.session })
   pub held : TreeAndOpens
   pub effect : effect_of machine.tree (counts machine.seats) ready.op ready.pick ≡ Ok held
@@ -43,21 +43,21 @@ pub record IsServedBy (view : Image) (machine : Machine) (caller : ℕ) (made : 
   pub kept : Kept machine.tree view held.tree (with_changes view ready.changes)
 
 -- a call that is refused; it changes nothing
-pub record IsRefusedBy (machine : Machine) (caller : ℕ) (made : Call) (moment : ℕ) (ready : Ready) (e : Errno) : Type 0 where
+pub record IsRefusedOver (machine : Machine) (caller : ℕ) (made : Call) (moment : ℕ) (ready : ReadyCall) (e : Errno) : Type 0 where
   pub refused : serve machine caller made moment ready.pick ≡ Err e
   pub op : ready.op ≡ None
   pub session : ready.session ≡ Same
   pub changes : ready.changes ≡ []
 
 -- one or the other, by the reply
-abbrev pub IsAnsweredBy : Image → Machine → ℕ → Call → ℕ → Ready → Reply → Type 0
-IsAnsweredBy view machine caller made moment ready (Refused e) = IsRefusedBy machine caller made moment ready e
-IsAnsweredBy view machine caller made moment ready reply = IsServedBy view machine caller made moment ready
+abbrev pub IsAnsweredOver : Image → Machine → ℕ → Call → ℕ → ReadyCall → Reply → Type 0
+IsAnsweredOver view machine caller made moment ready (Refused e) = IsRefusedOver machine caller made moment ready e
+IsAnsweredOver view machine caller made moment ready reply = IsServedOver view machine caller made moment ready
 
 -- the model's step of the call, with a lawful pick
-pub record IsPerformed (view : Image) (machine : Machine) (caller : ℕ) (made : Call) (moment : ℕ) (ready : Ready) : Type 0 where
+pub record IsPerformedOver (view : Image) (machine : Machine) (caller : ℕ) (made : Call) (moment : ℕ) (ready : ReadyCall) : Type 0 where
   pub lawful : IsLawful machine caller made moment ready.pick
-  pub answered : IsAnsweredBy view machine caller made moment ready ready.reply
+  pub answered : IsAnsweredOver view machine caller made moment ready ready.reply
 
 -- sessions with the counts of open files and the current directories that were given
 pub record AllAlike (given : List Seat) (opens : CountMap) (seats : List Seat) : Type 0 where
@@ -76,14 +76,14 @@ pub record AreAlike (shared : Bool) (caller : ℕ) (given : List Seat) (opens : 
 
 -- on every volume of which the view is a part, for all sessions that the call cannot tell from the given ones, the
 -- model's step; and it changes blocks alone that the view has
-abbrev pub IsReadyFor : (ℕ → Option (List ℕ)) → List Seat → CountMap → ℕ → Call → ℕ → Ready → Type 0
-IsReadyFor shown given opens caller made moment ready = (image : Image) (tree : Tree) (seats : List Seat)
+abbrev pub IsReadyOver : (ℕ → Option (List ℕ)) → List Seat → CountMap → ℕ → Call → ℕ → ReadyCall → Type 0
+IsReadyOver shown given opens caller made moment ready = (image : Image) (tree : Tree) (seats : List Seat)
     → IsPart shown image.at → IsVolume image tree → AreAlike ready.shared caller given opens seats → IsValidFor (record { tree = tree; seats = seats }) caller
-    → IsPerformed image (record { tree = tree; seats = seats }) caller made moment ready × IsWithinView shown ready.changes
+    → IsPerformedOver image (record { tree = tree; seats = seats }) caller made moment ready × IsWithinView shown ready.changes
 
 -- and a Need names blocks that the view lacks, on every view
 abbrev pub IsRight : (ℕ → Option (List ℕ)) → List Seat → CountMap → ℕ → Call → ℕ → Performed → Type 0
-IsRight shown given opens caller made moment (performed.Ready ready) = IsReadyFor shown given opens caller made moment ready
+IsRight shown given opens caller made moment (performed.Ready ready) = IsReadyOver shown given opens caller made moment ready
 IsRight shown given opens caller made moment (performed.Need need) = IsNeed shown need
 IsRight shown given opens caller made moment performed.NoMemory = Unit {0}
 
@@ -115,9 +115,9 @@ abbrev pub IsPlainReply : Reply → Type 0
 IsPlainReply (Refused e) = Unit {0}
 IsPlainReply reply = IsServedReply reply
 
--- what a Ready is whatever the view shows; looks says whether its call looks at other sessions. Without an operation no block
+-- what a ReadyCall is whatever the view shows; looks says whether its call looks at other sessions. Without an operation no block
 -- is changed, nor by one that holds a file open.
-pub record IsFit (seat : Seat) (looks : Bool) (ready : Ready) : Type 0 where
+pub record IsFit (seat : Seat) (looks : Bool) (ready : ReadyCall) : Type 0 where
   pub plain : IsPlainReply ready.reply
   pub session : CanApply seat ready.session
   pub range : HasDescriptorInRange ready.session

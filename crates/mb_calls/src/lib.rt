@@ -28,6 +28,6 @@ mod spots;
 mod tests;
 mod walks;
 
-pub use performing::{KeptPlan, Performed, Ready, perform};
+pub use performing::{KeptPlan, Performed, ReadyCall, perform};
 pub use resuming::{Performing, walks_go_on};
 pub use walks::{Ahead, PathWalk, PathWalks};

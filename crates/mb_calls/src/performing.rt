@@ -16,7 +16,7 @@ use std::alloc::Global;
 
 /// What a call comes to, before anything is changed.
 #[derive(Drop)]
-pub struct Ready {
+pub struct ReadyCall {
     /// Its reply: a number, bytes, what stat tells, or a refusal.
     pub reply: Reply,
     /// Its one operation on the file system, or none. A refused call has none.
@@ -36,7 +36,7 @@ pub struct Ready {
 #[derive(Drop)]
 pub enum Performed {
     /// All blocks were there.
-    Ready(Ready),
+    Ready(ReadyCall),
     /// These blocks, which the view lacks, have to be gathered first.
     Need(Need),
     /// It met want of memory, which says nothing of the call.
@@ -67,10 +67,10 @@ fn fresh_on(op: &FsOp, pick: Option<u16>, change: SessionChange) -> SessionChang
 }
 
 /// A call that is refused.
-fn refused(alloc: Global, shared: bool, error: Errno) -> Ready
+fn refused(alloc: Global, shared: bool, error: Errno) -> ReadyCall
     ensures { result ≡ ready_refused shared error }
 {
-    Ready {
+    ReadyCall {
         reply: Reply::Refused(error),
         op: None,
         pick: None,
@@ -108,7 +108,7 @@ fn complete<F: FileSys, V: View>(
 {
     let CallPlan { reply, op, session } = plan;
     let Some(op) = op else {
-        return Performed::Ready(Ready {
+        return Performed::Ready(ReadyCall {
             reply,
             op: None,
             pick: None,
@@ -120,7 +120,7 @@ fn complete<F: FileSys, V: View>(
     match fs.act(alloc, view, opens, &op, None) {
         Acted::Done { changes, pick } => {
             let session = fresh_on(&op, pick, session);
-            Performed::Ready(Ready {
+            Performed::Ready(ReadyCall {
                 reply,
                 op: Some(op),
                 pick,
@@ -153,7 +153,7 @@ fn complete_write<F: FileSys, V: View>(
 {
     let CallPlan { reply, op, session } = plan;
     let Some(op) = op else {
-        return Performed::Ready(Ready {
+        return Performed::Ready(ReadyCall {
             reply,
             op: None,
             pick: None,
@@ -165,7 +165,7 @@ fn complete_write<F: FileSys, V: View>(
     match fs.act(alloc, view, opens, &op, None) {
         Acted::Done { changes, pick } => {
             let session = fresh_on(&op, pick, session);
-            Performed::Ready(Ready {
+            Performed::Ready(ReadyCall {
                 reply,
                 op: Some(op),
                 pick,

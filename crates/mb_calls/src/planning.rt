@@ -4,7 +4,7 @@ ghost use Rattle.mb_tree.specs.Rows.{fstat_row, lseek_row, read_row};
 ghost use Rattle.mb_tree.specs.Trees.{IsThere};
 ghost use Rattle.mb_calls.specs.Asks.{NearCall, NearFile, NearInode, PlansAlone, PlansRow, TellsBase};
 ghost use Rattle.mb_calls.specs.Following.{AreWalks};
-ghost use Rattle.mb_calls.specs.Halts.{Needs, Says};
+ghost use Rattle.mb_calls.specs.Halts.{Needs, SaysOnEach};
 ghost use Rattle.mb_calls.specs.Halts.Scope.{lacking};
 
 use crate::asks::{bytes, find, info, place, used};
@@ -33,7 +33,7 @@ fn read_row<F: FileSys, V: View>(
     count: u16,
 ) -> Result<CallPlan, Halt>
     ensures wants { Needs (lacking (V.shown view.now)) result }
-    ensures says { Says (V.shown view.now) seat.now result (λ tree. read_row tree.nodes seat.now fd count) }
+    ensures says { SaysOnEach (V.shown view.now) seat.now result (λ tree. read_row tree.nodes seat.now fd count) }
     ensures near { NearFile (V.shown view.now) seat.now result }
     ensures ready { IfOk result (λ plan. IsPlanFor seat.now plan) }
 {
@@ -55,7 +55,7 @@ fn fstat_row<F: FileSys, V: View>(
     fd: u16,
 ) -> Result<CallPlan, Halt>
     ensures wants { Needs (lacking (V.shown view.now)) result }
-    ensures says { Says (V.shown view.now) seat.now result (λ tree. fstat_row tree.nodes seat.now fd) }
+    ensures says { SaysOnEach (V.shown view.now) seat.now result (λ tree. fstat_row tree.nodes seat.now fd) }
     ensures near { NearFile (V.shown view.now) seat.now result }
     ensures ready { IfOk result (λ plan. IsPlanFor seat.now plan) }
 {
@@ -272,7 +272,7 @@ fn lseek_row<F: FileSys, V: View>(
     whence: Whence,
 ) -> Result<CallPlan, Halt>
     ensures wants { Needs (lacking (V.shown view.now)) result }
-    ensures says { Says (V.shown view.now) seat.now result (λ tree. lseek_row tree.nodes seat.now fd by whence) }
+    ensures says { SaysOnEach (V.shown view.now) seat.now result (λ tree. lseek_row tree.nodes seat.now fd by whence) }
     ensures near { NearFile (V.shown view.now) seat.now result }
     ensures ready { IfOk result (λ plan. IsPlanFor seat.now plan) }
 {

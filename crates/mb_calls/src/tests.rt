@@ -5,7 +5,7 @@ ghost use Rattle.std.specs.Prelude.{None};
 
 use crate::decisions::create_asked;
 use crate::halts::Halt;
-use crate::performing::{Performed, Ready, perform};
+use crate::performing::{Performed, ReadyCall, perform};
 use crate::spots::link_spot;
 use crate::walks::cut;
 use mb_iface::{Acted, Asked, FileSys, Need, Opens, Query, View};
@@ -92,7 +92,7 @@ fn by_one(alloc: Global, call: &Call) -> Performed {
 }
 
 /// What a call comes to that asks nothing.
-fn ready(alloc: Global, call: &Call) -> Result<Ready, Fail> {
+fn ready(alloc: Global, call: &Call) -> Result<ReadyCall, Fail> {
     match by_one(alloc, call) {
         Performed::Ready(ready) => Ok(ready),
         _ => Err(Fail::from("it is not ready")),

@@ -117,10 +117,10 @@ pub fn all_broken(rt: &HostRuntime, table: &[Breach<'_>]) -> Result<(), Fail> {
 }
 
 /// Bytes that are changed, with the figures then.
-pub type Kept<'a> = (&'a [Patch], Figures);
+pub type KeptBytes<'a> = (&'a [Patch], Figures);
 
 /// No rule is broken in any row, and the figures are the row's.
-pub fn all_kept(rt: &HostRuntime, table: &[Kept<'_>]) -> Result<(), Fail> {
+pub fn all_kept(rt: &HostRuntime, table: &[KeptBytes<'_>]) -> Result<(), Fail> {
     for (patches, wanted) in table {
         keeps(rt, patches, *wanted)?;
     }

@@ -1,5 +1,5 @@
 //! Checks of what a walk left.
-use crate::walks::{Walked, job};
+use crate::walks::{WalkEnd, job};
 use mb_core_spec::Step;
 use mb_jobs::Job;
 use mb_run::{DriveEnd, SettleEnd};
@@ -18,7 +18,7 @@ fn calls_of(job: &Job, caller: u8) -> u32 {
 }
 
 /// Whether so many calls of a caller were answered.
-fn are_answered(left: &Walked, caller: u8, calls: u32) -> bool {
+fn are_answered(left: &WalkEnd, caller: u8, calls: u32) -> bool {
     let answered = left.notes.answered();
     answered.get(usize::from(caller)).copied() == Some(calls)
 }
@@ -37,7 +37,7 @@ fn are_in_order(entries: &[(u8, u32)], caller: u8, calls: u32) -> bool {
     last == calls
 }
 
-fn each_answered_once<R: Abort>(rt: &R, job: &Job, left: &Walked) {
+fn each_answered_once<R: Abort>(rt: &R, job: &Job, left: &WalkEnd) {
     assert!(rt; left.end != DriveEnd::NoMemory);
     assert!(rt; left.told.entries.len() == job.calls.len());
     for caller in 0u8..8 {
@@ -51,7 +51,7 @@ fn each_answered_once<R: Abort>(rt: &R, job: &Job, left: &Walked) {
 pub fn all_answered_once<R: Abort + AllocGlobal>(
     rt: &R,
     text: &str,
-    left: &Walked,
+    left: &WalkEnd,
 ) -> Result<(), Fail> {
     let job = job(rt.alloc(), text)?;
     each_answered_once(rt, &job, left);
@@ -59,7 +59,7 @@ pub fn all_answered_once<R: Abort + AllocGlobal>(
 }
 
 /// The history is the reference model's, but for the calls that a fault or the disk ended, and the image is a volume.
-pub fn is_legal<R: Abort>(rt: &R, left: &Walked) -> Result<(), Fail> {
+pub fn is_legal<R: Abort>(rt: &R, left: &WalkEnd) -> Result<(), Fail> {
     let apart = &left.told.apart;
     assert!(rt; apart.is_none(), "{apart:?}");
     assert!(rt; left.settled[1] == SettleEnd::Clean);

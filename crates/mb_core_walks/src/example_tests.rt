@@ -3,7 +3,7 @@ use crate::examples::{
     Example, FAILING_REMOUNT, FLOOR_TAKEN, FOLDED_RUN, LIMIT_PASSED, RACED_CREAT, RESUMED_BY_OTHER,
     STRUCK_TWICE, TWO_CALLERS_WIPED,
 };
-use crate::walks::{Failing, NOTHING_FAILS, Walked, walk};
+use crate::walks::{Failing, NOTHING_FAILS, WalkEnd, walk};
 use std::alloc::Global;
 use std::process::Abort;
 use std::test::Fail;
@@ -18,7 +18,7 @@ const GIVEN_UP: &str = "- idle\nclean\n- idle\nclean\n";
 fn is_answered<R: Abort + AllocGlobal>(
     rt: &R,
     example: Example,
-    left: &Walked,
+    left: &WalkEnd,
     end: &str,
 ) -> Result<(), Fail> {
     let events = format!(in rt.alloc(); "{}{end}", example.events)?;
@@ -27,7 +27,7 @@ fn is_answered<R: Abort + AllocGlobal>(
 }
 
 /// The faults and the steps are as many as the example says.
-fn counts_so<R: Abort>(rt: &R, example: Example, left: &Walked) {
+fn counts_so<R: Abort>(rt: &R, example: Example, left: &WalkEnd) {
     assert!(rt; left.told.records.len() == example.faults);
     assert!(rt; stale(&left.told.trail) == example.stale);
     assert!(rt; unwound(&left.told.trail) == example.unwound);
@@ -38,7 +38,7 @@ fn counts_so<R: Abort>(rt: &R, example: Example, left: &Walked) {
 fn went<R: Abort + AllocGlobal>(
     rt: &R,
     example: Example,
-    left: &Walked,
+    left: &WalkEnd,
     end: &str,
 ) -> Result<(), Fail> {
     is_answered(rt, example, left, end)?;

@@ -3,7 +3,7 @@ use crate::examples::{
     Example, FAILING_REMOUNT, FLOOR_TAKEN, FOLDED_RUN, LIMIT_PASSED, RACED_CREAT, RESUMED_BY_OTHER,
     STRUCK_TWICE, TWO_CALLERS_WIPED,
 };
-use crate::walks::{Failing, NOTHING_FAILS, Walked, walk};
+use crate::walks::{Failing, NOTHING_FAILS, WalkEnd, walk};
 use mb_check::OpenFault;
 use mb_run::SettleEnd;
 use std::alloc::Global;
@@ -17,7 +17,7 @@ const MOST: u64 = 500;
 const LATER: u32 = 8;
 
 /// A walk over a disk that never fails.
-fn plain(alloc: Global, example: Example) -> Result<Walked, Fail> {
+fn plain(alloc: Global, example: Example) -> Result<WalkEnd, Fail> {
     match walk(alloc, example.job, NOTHING_FAILS)? {
         Ok(left) => Ok(left),
         Err(_) => Err("the volume is not opened".into()),
@@ -26,7 +26,11 @@ fn plain(alloc: Global, example: Example) -> Result<Walked, Fail> {
 
 /// What holds of a walk over a disk of which one call failed, or none: each call was answered once, the history is the
 /// model's but for what a fault or the disk ended, and at most one event was answered so.
-fn is_allowed<R: Abort + AllocGlobal>(rt: &R, example: Example, left: &Walked) -> Result<(), Fail> {
+fn is_allowed<R: Abort + AllocGlobal>(
+    rt: &R,
+    example: Example,
+    left: &WalkEnd,
+) -> Result<(), Fail> {
     all_answered_once(rt, example.job, left)?;
     is_legal(rt, left)?;
     assert!(rt; left.notes.failed() <= 1);
@@ -35,7 +39,7 @@ fn is_allowed<R: Abort + AllocGlobal>(rt: &R, example: Example, left: &Walked) -
 }
 
 /// Both walks came to the same.
-fn is_same<R: Abort>(rt: &R, left: &Walked, wanted: &Walked) -> Result<(), Fail> {
+fn is_same<R: Abort>(rt: &R, left: &WalkEnd, wanted: &WalkEnd) -> Result<(), Fail> {
     assert!(rt; left.notes.lines() == wanted.notes.lines());
     assert!(rt; left.told.transcript == wanted.told.transcript);
     assert!(rt; left.told.trail == wanted.told.trail);
@@ -48,8 +52,8 @@ fn is_same<R: Abort>(rt: &R, left: &Walked, wanted: &Walked) -> Result<(), Fail>
 fn has_met<R: Abort + AllocGlobal>(
     rt: &R,
     example: Example,
-    left: &Walked,
-    wanted: &Walked,
+    left: &WalkEnd,
+    wanted: &WalkEnd,
 ) -> Result<bool, Fail> {
     is_allowed(rt, example, left)?;
     if left.notes.failed() == 0 {
@@ -63,7 +67,7 @@ fn has_met<R: Abort + AllocGlobal>(
 fn meets_read<R: Abort + AllocGlobal>(
     rt: &R,
     example: Example,
-    wanted: &Walked,
+    wanted: &WalkEnd,
     read: u64,
 ) -> Result<bool, Fail> {
     let reads = [read];
@@ -83,7 +87,7 @@ fn meets_read<R: Abort + AllocGlobal>(
 fn meets_each_read<R: Abort + AllocGlobal>(
     rt: &R,
     example: Example,
-    wanted: &Walked,
+    wanted: &WalkEnd,
 ) -> Result<(), Fail> {
     let mut unmet = 0u32;
     for read in 1..MOST {
@@ -110,8 +114,8 @@ fn fails_at_each_read<R: Abort + AllocGlobal>(rt: &R, example: Example) -> Resul
 fn has_gone_on<R: Abort + AllocGlobal>(
     rt: &R,
     example: Example,
-    left: &Walked,
-    wanted: &Walked,
+    left: &WalkEnd,
+    wanted: &WalkEnd,
 ) -> Result<bool, Fail> {
     is_allowed(rt, example, left)?;
     assert!(rt; left.told.transcript == wanted.told.transcript);
@@ -129,7 +133,7 @@ fn has_gone_on<R: Abort + AllocGlobal>(
 fn meets_write<R: Abort + AllocGlobal>(
     rt: &R,
     example: Example,
-    wanted: &Walked,
+    wanted: &WalkEnd,
     write: u64,
 ) -> Result<bool, Fail> {
     let writes = [write];
@@ -146,7 +150,7 @@ fn meets_write<R: Abort + AllocGlobal>(
 fn meets_each_write<R: Abort + AllocGlobal>(
     rt: &R,
     example: Example,
-    wanted: &Walked,
+    wanted: &WalkEnd,
 ) -> Result<(), Fail> {
     for write in 1..MOST {
         let is_met = meets_write(rt, example, wanted, write)?;
@@ -167,7 +171,7 @@ fn fails_at_each_write<R: Abort + AllocGlobal>(rt: &R, example: Example) -> Resu
 fn meets_size<R: Abort + AllocGlobal>(
     rt: &R,
     example: Example,
-    wanted: &Walked,
+    wanted: &WalkEnd,
     size: u64,
 ) -> Result<bool, Fail> {
     let sizes = [size];
@@ -190,7 +194,7 @@ fn meets_size<R: Abort + AllocGlobal>(
 fn meets_each_size<R: Abort + AllocGlobal>(
     rt: &R,
     example: Example,
-    wanted: &Walked,
+    wanted: &WalkEnd,
 ) -> Result<(), Fail> {
     for size in 1..MOST {
         let is_met = meets_size(rt, example, wanted, size)?;

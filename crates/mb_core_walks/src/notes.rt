@@ -3,7 +3,7 @@ use std::alloc::{AllocError, Global};
 /// What a core answered, event after event: a line for each but for a gathering that was done and a page that was written,
 /// of which there are as many as the file system has blocks to look at. A line has the letter of the caller, or `-` for none.
 #[derive(Drop)]
-pub struct Notes {
+pub struct EventNotes {
     alloc: Global,
     lines: String,
     /// Whether a line was lost for want of memory.
@@ -14,9 +14,9 @@ pub struct Notes {
     failed: u32,
 }
 
-impl Notes {
-    pub fn new(alloc: Global) -> Notes {
-        Notes {
+impl EventNotes {
+    pub fn new(alloc: Global) -> EventNotes {
+        EventNotes {
             alloc,
             lines: String::new(alloc),
             lost: false,

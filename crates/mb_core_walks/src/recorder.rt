@@ -1,20 +1,20 @@
 //! A core that notes what each of its events is answered.
-use crate::notes::Notes;
+use crate::notes::EventNotes;
 use mb_cache::Flushed;
 use mb_callers::Pages;
-use mb_calls::{Performed, Performing, Ready};
+use mb_calls::{Performed, Performing, ReadyCall};
 use mb_core_spec::{Config, Stage};
 use mb_core_state::{Fault, Finished, Gathered, Left};
 use mb_edge::{Crossings, Hook, NoMemory};
 use mb_iface::Need;
 use mb_kinds::{Call, Kind, Ticket};
-use mb_run::{Enter, EventCore, Stepped};
+use mb_run::{EnterAnswer, EventCore, StepAnswer};
 use std::alloc::Global;
 
 /// A core, and what its events were answered.
 pub struct Recorder<C: EventCore> {
     pub core: C,
-    pub notes: Notes,
+    pub notes: EventNotes,
 }
 
 impl<C: EventCore> EventCore for Recorder<C> {
@@ -53,7 +53,7 @@ impl<C: EventCore> EventCore for Recorder<C> {
         self.core.perform(alloc, pages, ticket, call, way)
     }
 
-    fn enter(&mut self, alloc: Global, caller: u8, call: &Call) -> Enter {
+    fn enter(&mut self, alloc: Global, caller: u8, call: &Call) -> EnterAnswer {
         let answer = self.core.enter(alloc, caller, call);
         note_enter(&mut self.notes, caller, &answer);
         answer
@@ -77,7 +77,7 @@ impl<C: EventCore> EventCore for Recorder<C> {
         ticket: &Ticket,
         pages: &Pages,
         call: &Call,
-        ready: Ready,
+        ready: ReadyCall,
     ) -> Finished {
         let answer = self.core.finish(alloc, ticket, pages, call, ready);
         note_finish(&mut self.notes, ticket.caller, answer);
@@ -101,7 +101,7 @@ impl<C: EventCore> EventCore for Recorder<C> {
         alloc: Global,
         by: &mut Option<Crossings>,
         hook: &mut H,
-    ) -> Stepped {
+    ) -> StepAnswer {
         let answer = self.core.recover_step(alloc, by, hook);
         note_step(&mut self.notes, caller_of(by), answer);
         answer
@@ -136,20 +136,20 @@ fn caller_of(by: &Option<Crossings>) -> Option<u8> {
     }
 }
 
-fn note_enter(notes: &mut Notes, caller: u8, answer: &Enter) {
+fn note_enter(notes: &mut EventNotes, caller: u8, answer: &EnterAnswer) {
     let by = Some(caller);
     match answer {
-        Enter::Done(_) => {
+        EnterAnswer::Done(_) => {
             notes.answer(caller);
             notes.add_of(by, "enter done");
         }
-        Enter::Shut => notes.add_of(by, "enter shut"),
-        Enter::Inside(_) => notes.add_of(by, "enter inside"),
-        Enter::NoMemory => notes.add_of(by, "enter no memory"),
+        EnterAnswer::Shut => notes.add_of(by, "enter shut"),
+        EnterAnswer::Inside(_) => notes.add_of(by, "enter inside"),
+        EnterAnswer::NoMemory => notes.add_of(by, "enter no memory"),
     }
 }
 
-fn note_gather(notes: &mut Notes, caller: u8, answer: Gathered) {
+fn note_gather(notes: &mut EventNotes, caller: u8, answer: Gathered) {
     let by = Some(caller);
     match answer {
         Gathered::Done => {}
@@ -163,7 +163,7 @@ fn note_gather(notes: &mut Notes, caller: u8, answer: Gathered) {
     }
 }
 
-fn note_finish(notes: &mut Notes, caller: u8, answer: Finished) {
+fn note_finish(notes: &mut EventNotes, caller: u8, answer: Finished) {
     let by = Some(caller);
     match answer {
         Finished::Skip { .. } => notes.add_of(by, "finish skip"),
@@ -177,7 +177,7 @@ fn note_finish(notes: &mut Notes, caller: u8, answer: Finished) {
     }
 }
 
-fn note_leave(notes: &mut Notes, caller: u8, answer: &Left) {
+fn note_leave(notes: &mut EventNotes, caller: u8, answer: &Left) {
     let by = Some(caller);
     match answer {
         Left::Skip { .. } => notes.add_of(by, "leave skip"),
@@ -188,34 +188,34 @@ fn note_leave(notes: &mut Notes, caller: u8, answer: &Left) {
     }
 }
 
-fn note_fault(notes: &mut Notes, caller: u8, answer: Fault) {
+fn note_fault(notes: &mut EventNotes, caller: u8, answer: Fault) {
     match answer {
         Fault::Skip { .. } => notes.add_of(Some(caller), "fault skip"),
         Fault::Struck { number } => notes.add_number(Some(caller), "struck", number),
     }
 }
 
-fn note_step(notes: &mut Notes, by: Option<u8>, answer: Stepped) {
+fn note_step(notes: &mut EventNotes, by: Option<u8>, answer: StepAnswer) {
     match answer {
-        Stepped::Idle => notes.add_of(by, "idle"),
-        Stepped::Unwound(ticket) => {
+        StepAnswer::Idle => notes.add_of(by, "idle"),
+        StepAnswer::Unwound(ticket) => {
             notes.add_of(by, "unwinds");
             notes.add_of(Some(ticket.caller), "unwound");
         }
-        Stepped::Failed { faults } => notes.add_number(by, "failed", faults),
-        Stepped::Dropped => notes.add_of(by, "dropped"),
-        Stepped::Remounted => notes.add_of(by, "remounted"),
-        Stepped::Reopened => notes.add_of(by, "reopened"),
-        Stepped::Replayed(number) => notes.add_number(by, "replayed", number),
-        Stepped::Resumed => notes.add_of(by, "resumed"),
-        Stepped::Again { faults } => notes.add_number(by, "again", faults),
-        Stepped::Device => note_failed_step(notes, by),
-        Stepped::NoMemory => notes.add_of(by, "step no memory"),
+        StepAnswer::Failed { faults } => notes.add_number(by, "failed", faults),
+        StepAnswer::Dropped => notes.add_of(by, "dropped"),
+        StepAnswer::Remounted => notes.add_of(by, "remounted"),
+        StepAnswer::Reopened => notes.add_of(by, "reopened"),
+        StepAnswer::Replayed(number) => notes.add_number(by, "replayed", number),
+        StepAnswer::Resumed => notes.add_of(by, "resumed"),
+        StepAnswer::Again { faults } => notes.add_number(by, "again", faults),
+        StepAnswer::Device => note_failed_step(notes, by),
+        StepAnswer::NoMemory => notes.add_of(by, "step no memory"),
     }
 }
 
 /// The call that runs a step of a recovery is answered where the disk fails the step.
-fn note_failed_step(notes: &mut Notes, by: Option<u8>) {
+fn note_failed_step(notes: &mut EventNotes, by: Option<u8>) {
     notes.fail();
     if let Some(caller) = by {
         notes.answer(caller);
@@ -223,7 +223,7 @@ fn note_failed_step(notes: &mut Notes, by: Option<u8>) {
     notes.add_of(by, "step device");
 }
 
-fn note_flush(notes: &mut Notes, answer: Flushed) {
+fn note_flush(notes: &mut EventNotes, answer: Flushed) {
     match answer {
         Flushed::One => {}
         Flushed::Clean => notes.add("clean"),

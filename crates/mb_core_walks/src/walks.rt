@@ -3,7 +3,7 @@ ghost use Rattle.mb_headline.specs.Laws.{IsFitJob};
 ghost use Rattle.mb_run.specs.CoreSight.{sight_of};
 ghost use Rattle.mb_run.specs.Drives.{IsBegun};
 
-use crate::notes::Notes;
+use crate::notes::EventNotes;
 use crate::recorder::Recorder;
 use mb_check::{OpenFault, sound};
 use mb_core_events::{Core, Refusal};
@@ -60,11 +60,11 @@ pub struct Told {
 
 /// What a walk left.
 #[derive(Drop)]
-pub struct Walked {
+pub struct WalkEnd {
     /// How it ended, before its end was settled.
     pub end: DriveEnd,
     /// What the events were answered.
-    pub notes: Notes,
+    pub notes: EventNotes,
     pub told: Told,
     /// How the end of the walk went, and how once it was settled again.
     pub settled: [SettleEnd; 2],
@@ -187,14 +187,14 @@ pub fn walk(
     alloc: Global,
     text: &str,
     failing: Failing,
-) -> Result<Result<Walked, OpenFault>, Fail> {
+) -> Result<Result<WalkEnd, OpenFault>, Fail> {
     jobs_are_fit();
     let job = job_of(alloc, text.as_bytes())?;
     walk_job(alloc, &job, failing)
 }
 
 /// The same of a job that was read.
-fn walk_job(alloc: Global, job: &Job, failing: Failing) -> Result<Result<Walked, OpenFault>, Fail>
+fn walk_job(alloc: Global, job: &Job, failing: Failing) -> Result<Result<WalkEnd, OpenFault>, Fail>
     requires { IsFitJob job.now }
 {
     let image = fresh(alloc)?;
@@ -273,7 +273,7 @@ fn tell(alloc: Global, core: &Core<V7, MemDisk>, job: &Job) -> Result<Told, Fail
 /// A core at the end of a walk, with what its events were answered, and how the end went.
 struct Ended {
     core: Core<V7, MemDisk>,
-    notes: Notes,
+    notes: EventNotes,
     end: DriveEnd,
     settled: [SettleEnd; 2],
 }
@@ -285,7 +285,7 @@ fn walk_to_the_end(alloc: Global, core: Core<V7, MemDisk>, job: &Job) -> Ended
     let mut hook = job.plan.hook();
     let recorder = Recorder {
         core: VolumeCore { core },
-        notes: Notes::new(alloc),
+        notes: EventNotes::new(alloc),
     };
     let Driven { core, end } = drive(alloc, recorder, job, &mut hook);
     let Settled { core, end: first } = settle(alloc, core);
@@ -329,7 +329,7 @@ fn look_at(
     look_at_disk(alloc, told, &disk)
 }
 
-fn walk_over(alloc: Global, core: Core<V7, MemDisk>, job: &Job) -> Result<Walked, Fail>
+fn walk_over(alloc: Global, core: Core<V7, MemDisk>, job: &Job) -> Result<WalkEnd, Fail>
     requires fit { IsFitJob job.now }
     requires begun { IsBegun job.now (sight_of core) }
 {
@@ -340,7 +340,7 @@ fn walk_over(alloc: Global, core: Core<V7, MemDisk>, job: &Job) -> Result<Walked
         settled,
     } = walk_to_the_end(alloc, core, job);
     let (told, sound, image) = look_at(alloc, core, job)?;
-    Ok(Walked {
+    Ok(WalkEnd {
         end,
         notes,
         told,

@@ -1,5 +1,5 @@
 use crate::draws::Draws;
-use crate::tallies::Tally;
+use crate::tallies::OperationTally;
 use mb_call_pairs::{Answered, Pair};
 use mb_gathering::{SMALL, Size};
 use mb_kinds::{Cred, Creds};
@@ -41,7 +41,7 @@ fn random_calls_are_answered_as_the_model_answers(rt: HostRuntime) -> Result<(),
 }
 
 /// After an operation the image shows the model's tree, and the checker finds no fault in every hundredth.
-fn shows(pair: &Pair, tally: &mut Tally, op: &FsOp) -> Result<(), Fail> {
+fn shows(pair: &Pair, tally: &mut OperationTally, op: &FsOp) -> Result<(), Fail> {
     pair.shows_the_tree()?;
     tally.add(op);
     if tally.total() % 100 == 0 {
@@ -55,7 +55,7 @@ fn shows_next(
     heap: Global,
     draws: &mut Draws,
     pair: &mut Pair,
-    tally: &mut Tally,
+    tally: &mut OperationTally,
     moment: u32,
 ) -> Result<(), Fail> {
     let answered = agrees(heap, draws, pair, moment)?;
@@ -66,8 +66,12 @@ fn shows_next(
 }
 
 /// The next 10,000 operations leave the model's tree, in at most 200,000 calls.
-fn operations_agree(heap: Global, draws: &mut Draws, pair: &mut Pair) -> Result<Tally, Fail> {
-    let mut tally = Tally::new();
+fn operations_agree(
+    heap: Global,
+    draws: &mut Draws,
+    pair: &mut Pair,
+) -> Result<OperationTally, Fail> {
+    let mut tally = OperationTally::new();
     for moment in 1..200_001 {
         shows_next(heap, draws, pair, &mut tally, moment)?;
         if tally.total() == 10_000 {
@@ -78,7 +82,7 @@ fn operations_agree(heap: Global, draws: &mut Draws, pair: &mut Pair) -> Result<
 }
 
 /// There are 10,000 operations, ten at least of each kind.
-fn are_enough(rt: &impl Abort, tally: Tally) {
+fn are_enough(rt: &impl Abort, tally: OperationTally) {
     assert_eq!(rt; tally.total(), 10_000);
     assert!(rt; tally.least() >= 10);
 }

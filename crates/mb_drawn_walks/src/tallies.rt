@@ -4,7 +4,7 @@ use mb_tree::FsOp;
 
 /// How many operations of each kind there were.
 #[derive(Clone, Copy, Drop)]
-pub struct Tally {
+pub struct OperationTally {
     counts: [u32; 12],
 }
 
@@ -28,10 +28,10 @@ fn kind(op: &FsOp) -> usize
     }
 }
 
-impl Tally {
+impl OperationTally {
     /// None.
-    pub fn new() -> Tally {
-        Tally { counts: [0; 12] }
+    pub fn new() -> OperationTally {
+        OperationTally { counts: [0; 12] }
     }
 
     /// One more.

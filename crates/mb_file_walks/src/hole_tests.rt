@@ -1,5 +1,5 @@
 use crate::volumes::{cost, fresh, put_on, read_on, size};
-use mb_gathering::Gathered;
+use mb_gathering::GatheredBlocks;
 use std::alloc::Global;
 use std::process::Abort;
 use std::test::Fail;
@@ -31,7 +31,7 @@ fn holes_before_double_and_triple_parts(rt: HostRuntime) -> Result<(), Fail> {
     Ok(())
 }
 
-fn uncovers_bytes<R: Abort + AllocGlobal>(rt: &R, disk: &mut Gathered) -> Result<(), Fail> {
+fn uncovers_bytes<R: Abort + AllocGlobal>(rt: &R, disk: &mut GatheredBlocks) -> Result<(), Fail> {
     let _ = put_on(rt.alloc(), disk, 0, &[7; 400])?;
     // size 100 of the third inode, the long's low word
     let _ = disk.blocks.patch(2, 138, &[100, 0]);
@@ -55,7 +55,7 @@ fn growing_size_uncovers_bytes(rt: HostRuntime) -> Result<(), Fail> {
     uncovers_bytes(&rt, &mut disk)
 }
 
-fn uncovers_parts<R: Abort + AllocGlobal>(rt: &R, disk: &mut Gathered) -> Result<(), Fail> {
+fn uncovers_parts<R: Abort + AllocGlobal>(rt: &R, disk: &mut GatheredBlocks) -> Result<(), Fail> {
     let _ = put_on(rt.alloc(), disk, 0, &[7; 1536])?;
     // size 100 of the third inode, the long's low word
     let _ = disk.blocks.patch(2, 138, &[100, 0]);
@@ -80,7 +80,7 @@ fn growing_size_uncovers_parts(rt: HostRuntime) -> Result<(), Fail> {
     uncovers_parts(&rt, &mut disk)
 }
 
-fn puts_a_piece<R: Abort + AllocGlobal>(rt: &R, disk: &mut Gathered) -> Result<(), Fail> {
+fn puts_a_piece<R: Abort + AllocGlobal>(rt: &R, disk: &mut GatheredBlocks) -> Result<(), Fail> {
     let _ = put_on(rt.alloc(), disk, 0, &[1; 512])?;
     let _ = put_on(rt.alloc(), disk, 1024, &[3; 512])?;
     assert_eq!(rt;

@@ -1,5 +1,5 @@
 use crate::volumes::{cost, fresh, put_on, read_on};
-use mb_gathering::Gathered;
+use mb_gathering::GatheredBlocks;
 use std::process::Abort;
 use std::test::Fail;
 
@@ -60,7 +60,7 @@ fn bytes_of_part(byte: u8) -> [u8; 512] {
 }
 
 /// Puts a byte into each part, which is a hole before.
-fn fills<R: Abort + AllocGlobal>(rt: &R, disk: &mut Gathered) -> Result<(), Fail> {
+fn fills<R: Abort + AllocGlobal>(rt: &R, disk: &mut GatheredBlocks) -> Result<(), Fail> {
     let mut byte = 0u8;
     for filled in &PARTS {
         let at = filled.part.saturating_mul(512);
@@ -74,7 +74,7 @@ fn fills<R: Abort + AllocGlobal>(rt: &R, disk: &mut Gathered) -> Result<(), Fail
 }
 
 /// Reads each part, which has its byte alone.
-fn has_bytes<R: Abort + AllocGlobal>(rt: &R, disk: &Gathered) -> Result<(), Fail> {
+fn has_bytes<R: Abort + AllocGlobal>(rt: &R, disk: &GatheredBlocks) -> Result<(), Fail> {
     let mut byte = 0u8;
     for filled in &PARTS {
         byte = byte.saturating_add(1);

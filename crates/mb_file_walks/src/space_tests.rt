@@ -1,7 +1,7 @@
 use crate::volumes::{
     Ended, cost, empty_on, erase_on, free, fresh, fresh_of, put_on, read_on, size,
 };
-use mb_gathering::{Gathered, Size};
+use mb_gathering::{GatheredBlocks, Size};
 use mb_kinds::Errno;
 use std::process::Abort;
 use std::test::Fail;
@@ -17,7 +17,7 @@ fn file_fills_the_volume(rt: HostRuntime) -> Result<(), Fail> {
     Ok(())
 }
 
-fn refuses_a_byte<R: Abort + AllocGlobal>(rt: &R, disk: &mut Gathered) -> Result<(), Fail> {
+fn refuses_a_byte<R: Abort + AllocGlobal>(rt: &R, disk: &mut GatheredBlocks) -> Result<(), Fail> {
     let bytes = vec![in rt.alloc(); 65; 48_128]?;
     let _ = put_on(rt.alloc(), disk, 0, &bytes)?;
     let more = put_on(rt.alloc(), disk, 48_128, &[1])?;
@@ -37,7 +37,7 @@ fn full_volume_refuses_a_byte(rt: HostRuntime) -> Result<(), Fail> {
     refuses_a_byte(&rt, &mut disk)
 }
 
-fn keeps_its_size<R: Abort + AllocGlobal>(rt: &R, disk: &mut Gathered) -> Result<(), Fail> {
+fn keeps_its_size<R: Abort + AllocGlobal>(rt: &R, disk: &mut GatheredBlocks) -> Result<(), Fail> {
     let past = put_on(rt.alloc(), disk, 1_082_201_088, &[1])?;
     assert_eq!(rt; past, Ended::Refused(Errno::EFBIG, 0));
     let over = put_on(rt.alloc(), disk, 1_082_201_087, &[1, 1])?;
@@ -52,7 +52,10 @@ fn greatest_size_is_kept(rt: HostRuntime) -> Result<(), Fail> {
     keeps_its_size(&rt, &mut disk)
 }
 
-fn gives_its_blocks_back<R: Abort + AllocGlobal>(rt: &R, disk: &mut Gathered) -> Result<(), Fail> {
+fn gives_its_blocks_back<R: Abort + AllocGlobal>(
+    rt: &R,
+    disk: &mut GatheredBlocks,
+) -> Result<(), Fail> {
     let bytes = vec![in rt.alloc(); 65; 48_128]?;
     let _ = put_on(rt.alloc(), disk, 0, &bytes)?;
     let _ = empty_on(rt.alloc(), disk)?;
@@ -69,7 +72,7 @@ fn emptied_file_gives_its_blocks_back(rt: HostRuntime) -> Result<(), Fail> {
     gives_its_blocks_back(&rt, &mut disk)
 }
 
-fn has_one_byte<R: Abort + AllocGlobal>(rt: &R, disk: &mut Gathered) -> Result<(), Fail> {
+fn has_one_byte<R: Abort + AllocGlobal>(rt: &R, disk: &mut GatheredBlocks) -> Result<(), Fail> {
     let _ = put_on(rt.alloc(), disk, 1_082_201_087, &[9])?;
     assert_eq!(rt; (cost(disk), size(disk)), (5, 1_082_201_088));
     assert_eq!(rt;
@@ -99,7 +102,10 @@ fn greatest_file_has_one_byte(rt: HostRuntime) -> Result<(), Fail> {
     has_one_byte(&rt, &mut disk)
 }
 
-fn is_asked_for_first<R: Abort + AllocGlobal>(rt: &R, disk: &mut Gathered) -> Result<(), Fail> {
+fn is_asked_for_first<R: Abort + AllocGlobal>(
+    rt: &R,
+    disk: &mut GatheredBlocks,
+) -> Result<(), Fail> {
     let bytes = vec![in rt.alloc(); 65; 48_128]?;
     let _ = put_on(rt.alloc(), disk, 0, &bytes)?;
     erase_on(rt.alloc(), disk)?;
@@ -117,7 +123,7 @@ fn erased_file_is_asked_for_first(rt: HostRuntime) -> Result<(), Fail> {
 
 fn is_emptied_after_three_asks<R: Abort + AllocGlobal>(
     rt: &R,
-    disk: &mut Gathered,
+    disk: &mut GatheredBlocks,
 ) -> Result<(), Fail> {
     let bytes = vec![in rt.alloc(); 65; 51_200]?;
     for chunk in 0..10 {
@@ -142,7 +148,7 @@ fn long_file_is_emptied_after_three_asks(rt: HostRuntime) -> Result<(), Fail> {
     is_emptied_after_three_asks(&rt, &mut disk)
 }
 
-fn keeps_its_count<R: Abort + AllocGlobal>(rt: &R, disk: &mut Gathered) -> Result<(), Fail> {
+fn keeps_its_count<R: Abort + AllocGlobal>(rt: &R, disk: &mut GatheredBlocks) -> Result<(), Fail> {
     let _ = put_on(rt.alloc(), disk, 0, &[65; 5000])?;
     let _ = disk.blocks.patch(1, 6, &[51, 0]);
     let before = disk.blocks.get(1).copied();

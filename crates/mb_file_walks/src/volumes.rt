@@ -1,5 +1,5 @@
 use mb_file::{Hung, empty, erase_in, put, read};
-use mb_gathering::{Gathered, SMALL, Size, gather, nothing};
+use mb_gathering::{GatheredBlocks, SMALL, Size, gather, nothing};
 use mb_iface::{Acted, Answer, Asked, Changes, View};
 use mb_kinds::{Errno, Octets};
 use mb_layout::Dinode;
@@ -8,12 +8,12 @@ use std::alloc::Global;
 use std::test::Fail;
 
 /// The fresh volume of 100 blocks and 16 inodes, in which inode 3 is a regular file of no bytes.
-pub fn fresh(heap: Global) -> Result<Gathered, Fail> {
+pub fn fresh(heap: Global) -> Result<GatheredBlocks, Fail> {
     fresh_of(heap, SMALL)
 }
 
 /// The fresh volume of a size, in which inode 3 is a regular file of no bytes.
-pub fn fresh_of(heap: Global, size: Size) -> Result<Gathered, Fail> {
+pub fn fresh_of(heap: Global, size: Size) -> Result<GatheredBlocks, Fail> {
     let mut disk = mb_gathering::fresh(heap, size)?;
     // the mode 0100644, in the third inode of the i-list's first block
     let _ = disk.blocks.patch(2, 128, &[0xa4, 0x81]);
@@ -28,7 +28,12 @@ pub enum Ended {
 }
 
 /// Puts bytes into inode 3, from a view of nothing.
-pub fn put_on(heap: Global, disk: &mut Gathered, offset: u32, bytes: &[u8]) -> Result<Ended, Fail> {
+pub fn put_on(
+    heap: Global,
+    disk: &mut GatheredBlocks,
+    offset: u32,
+    bytes: &[u8],
+) -> Result<Ended, Fail> {
     let mut view = nothing(heap);
     for asked in 0..400 {
         match put(heap, &view, 3, offset, bytes, 7) {
@@ -45,7 +50,7 @@ pub fn put_on(heap: Global, disk: &mut Gathered, offset: u32, bytes: &[u8]) -> R
 }
 
 /// Empties inode 3, from a view of nothing.
-pub fn empty_on(heap: Global, disk: &mut Gathered) -> Result<Ended, Fail> {
+pub fn empty_on(heap: Global, disk: &mut GatheredBlocks) -> Result<Ended, Fail> {
     let mut view = nothing(heap);
     for asked in 0..400 {
         match empty(heap, &view, 3, 8) {
@@ -62,7 +67,7 @@ pub fn empty_on(heap: Global, disk: &mut Gathered) -> Result<Ended, Fail> {
 }
 
 /// Erases inode 3, from a view of nothing. As long as it asks it has changed no block.
-pub fn erase_on(heap: Global, disk: &mut Gathered) -> Result<(), Fail> {
+pub fn erase_on(heap: Global, disk: &mut GatheredBlocks) -> Result<(), Fail> {
     let mut view = nothing(heap);
     for _ in 0..400 {
         let mut changes = Changes::new(heap);
@@ -84,7 +89,12 @@ pub fn erase_on(heap: Global, disk: &mut Gathered) -> Result<(), Fail> {
 }
 
 /// Reads bytes of inode 3, from a view of nothing.
-pub fn read_on(heap: Global, disk: &Gathered, offset: u32, count: u16) -> Result<Octets, Fail> {
+pub fn read_on(
+    heap: Global,
+    disk: &GatheredBlocks,
+    offset: u32,
+    count: u16,
+) -> Result<Octets, Fail> {
     let mut view = nothing(heap);
     for _ in 0..400 {
         match read(heap, &view, 3, offset, count) {
@@ -97,7 +107,7 @@ pub fn read_on(heap: Global, disk: &Gathered, offset: u32, count: u16) -> Result
 }
 
 /// How many blocks an address leads to, so many levels of index blocks down.
-fn held_under(disk: &Gathered, address: u32, levels: u8) -> u32 {
+fn held_under(disk: &GatheredBlocks, address: u32, levels: u8) -> u32 {
     if address == 0 {
         return 0;
     }
@@ -114,7 +124,7 @@ fn held_under(disk: &Gathered, address: u32, levels: u8) -> u32 {
 }
 
 /// The blocks in use: the root's, and those that inode 3 holds.
-pub fn cost(disk: &Gathered) -> u32 {
+pub fn cost(disk: &GatheredBlocks) -> u32 {
     let Some(inodes) = disk.get(2) else {
         return 0;
     };
@@ -128,7 +138,7 @@ pub fn cost(disk: &Gathered) -> u32 {
 }
 
 /// The blocks of the free chain, list after list.
-pub fn free(disk: &Gathered) -> u32 {
+pub fn free(disk: &GatheredBlocks) -> u32 {
     let mut free = 0u32;
     let mut holder = 1;
     for _ in 0..100 {
@@ -148,7 +158,7 @@ pub fn free(disk: &Gathered) -> u32 {
 }
 
 /// The size of inode 3.
-pub fn size(disk: &Gathered) -> u32 {
+pub fn size(disk: &GatheredBlocks) -> u32 {
     let Some(inodes) = disk.get(2) else {
         return 0;
     };

@@ -1,6 +1,6 @@
 use crate::volumes::{
-    Ended, Volume, at_path, counts, counts_open, ends, fresh, info, is_missing, is_refused,
-    leads_to, lets_go, name_at, puts, reads,
+    MemVolume, OperationEnd, at_path, counts, counts_open, ends, fresh, info, is_missing,
+    is_refused, leads_to, lets_go, name_at, puts, reads,
 };
 use mb_kinds::{Errno, Stat};
 use mb_tree::FsOp;
@@ -9,7 +9,7 @@ use std::test::Fail;
 
 /// Makes a file as the super-user does with mode 0644, under the name to which a path leads, and counts it
 /// as open.
-fn creates_at(volume: &mut Volume, path: &[u8], moment: u32, ino: u16) -> Result<(), Fail> {
+fn creates_at(volume: &mut MemVolume, path: &[u8], moment: u32, ino: u16) -> Result<(), Fail> {
     let (dir, name) = name_at(volume, path)?;
     let op = FsOp::Create {
         dir,
@@ -19,12 +19,12 @@ fn creates_at(volume: &mut Volume, path: &[u8], moment: u32, ino: u16) -> Result
         gid: 0,
         moment,
     };
-    ends(volume, op, Ended::Done(Some(ino)))?;
+    ends(volume, op, OperationEnd::Done(Some(ino)))?;
     counts_open(volume, ino, 1)
 }
 
 /// Makes a directory as the super-user does with mode 0755, under the name to which a path leads.
-fn makes_dir_at(volume: &mut Volume, path: &[u8], moment: u32, ino: u16) -> Result<(), Fail> {
+fn makes_dir_at(volume: &mut MemVolume, path: &[u8], moment: u32, ino: u16) -> Result<(), Fail> {
     let (dir, name) = name_at(volume, path)?;
     let op = FsOp::MakeDir {
         dir,
@@ -34,7 +34,7 @@ fn makes_dir_at(volume: &mut Volume, path: &[u8], moment: u32, ino: u16) -> Resu
         gid: 0,
         moment,
     };
-    ends(volume, op, Ended::Done(Some(ino)))
+    ends(volume, op, OperationEnd::Done(Some(ino)))
 }
 
 /// What stat tells of a file of the super-user with mode 0644 and one name, untouched since it was made.
@@ -54,7 +54,7 @@ fn new_file(ino: u16, moment: u32) -> Stat {
 
 /// The directory steps: a file of inode 3 by a name that is cut to 14 bytes, `/d` with a file in it, and
 /// `/e`.
-fn makes_directories(volume: &mut Volume) -> Result<(), Fail> {
+fn makes_directories(volume: &mut MemVolume) -> Result<(), Fail> {
     creates_at(volume, b"/abcdefghijklmno", 1, 3)?;
     makes_dir_at(volume, b"/d", 3, 4)?;
     creates_at(volume, b"/d/k", 4, 5)?;
@@ -62,26 +62,26 @@ fn makes_directories(volume: &mut Volume) -> Result<(), Fail> {
 }
 
 /// The volume after the directory steps.
-fn with_directories(rt: &HostRuntime) -> Result<Volume, Fail> {
+fn with_directories(rt: &HostRuntime) -> Result<MemVolume, Fail> {
     let mut volume = fresh(rt.alloc())?;
     makes_directories(&mut volume)?;
     Ok(volume)
 }
 
 /// A path leads to what stat tells so.
-fn tells(volume: &Volume, path: &[u8], wanted: &Stat) -> Result<bool, Fail> {
+fn tells(volume: &MemVolume, path: &[u8], wanted: &Stat) -> Result<bool, Fail> {
     let stat = at_path(volume, path)?;
     Ok(stat == *wanted)
 }
 
 /// A path leads to an inode of this mode.
-fn has_mode(volume: &Volume, path: &[u8], mode: u16) -> Result<bool, Fail> {
+fn has_mode(volume: &MemVolume, path: &[u8], mode: u16) -> Result<bool, Fail> {
     let stat = at_path(volume, path)?;
     Ok(stat.mode == mode)
 }
 
 /// A name of 14 bytes or more leads to the file, and one of 13 bytes leads nowhere.
-fn is_cut(rt: &impl Abort, volume: &Volume) -> Result<(), Fail> {
+fn is_cut(rt: &impl Abort, volume: &MemVolume) -> Result<(), Fail> {
     let file = new_file(3, 1);
     assert!(rt; tells(volume, b"/abcdefghijklmn", &file)?);
     assert!(rt; tells(volume, b"/abcdefghijklmnop", &file)?);
@@ -96,7 +96,7 @@ fn name_of_15_bytes_is_cut(rt: HostRuntime) -> Result<(), Fail> {
 }
 
 /// `/d` has three slots in use, `/e` two.
-fn is_in_use(rt: &impl Abort, volume: &Volume) -> Result<(), Fail> {
+fn is_in_use(rt: &impl Abort, volume: &MemVolume) -> Result<(), Fail> {
     assert!(rt; has_mode(volume, b"/d", 0o040755)?);
     counts(volume, 4, 3)?;
     counts(volume, 6, 2)
@@ -110,7 +110,7 @@ fn directory_with_a_name_is_seen_to_be_in_use(rt: HostRuntime) -> Result<(), Fai
 }
 
 /// `/e` and `/d` lead to their own numbers.
-fn are_known(rt: &impl Abort, volume: &Volume) -> Result<(), Fail> {
+fn are_known(rt: &impl Abort, volume: &MemVolume) -> Result<(), Fail> {
     assert!(rt; has_mode(volume, b"/e", 0o040755)?);
     leads_to(volume, b"/e", 6)?;
     leads_to(volume, b"/d", 4)
@@ -124,7 +124,7 @@ fn current_directory_is_known_by_its_number(rt: HostRuntime) -> Result<(), Fail>
 }
 
 /// The file has a file's mode, and no path goes through it.
-fn is_no_directory(rt: &impl Abort, volume: &Volume) -> Result<(), Fail> {
+fn is_no_directory(rt: &impl Abort, volume: &MemVolume) -> Result<(), Fail> {
     assert!(rt; has_mode(volume, b"/abcdefghijklmn", 0o100644)?);
     is_refused(volume, b"/abcdefghijklmn/k", Errno::ENOTDIR)
 }
@@ -137,19 +137,19 @@ fn file_is_seen_to_be_no_directory(rt: HostRuntime) -> Result<(), Fail> {
 }
 
 /// A file of inode 3 that is open twice loses its name.
-fn loses_its_name(volume: &mut Volume) -> Result<(), Fail> {
+fn loses_its_name(volume: &mut MemVolume) -> Result<(), Fail> {
     creates_at(volume, b"/f", 1, 3)?;
-    ends(volume, FsOp::Hold { ino: 3 }, Ended::Done(None))?;
+    ends(volume, FsOp::Hold { ino: 3 }, OperationEnd::Done(None))?;
     counts_open(volume, 3, 2)?;
     let (dir, name) = name_at(volume, b"/f")?;
     let moment = 3;
     let op = FsOp::Delink { dir, name, moment };
-    ends(volume, op, Ended::Done(None))?;
+    ends(volume, op, OperationEnd::Done(None))?;
     is_missing(volume, b"/f")
 }
 
 /// The file without a name is written and read, and goes with the second of the two that hold it.
-fn goes_with_the_second(volume: &mut Volume) -> Result<(), Fail> {
+fn goes_with_the_second(volume: &mut MemVolume) -> Result<(), Fail> {
     puts(volume, 3, 0, b"lost")?;
     reads(volume, 3, 0, b"lost")?;
     lets_go(volume, 3, 1)?;
@@ -158,7 +158,7 @@ fn goes_with_the_second(volume: &mut Volume) -> Result<(), Fail> {
 }
 
 /// The number of the file is picked again.
-fn number_is_picked_again(rt: &impl Abort, volume: &mut Volume) -> Result<(), Fail> {
+fn number_is_picked_again(rt: &impl Abort, volume: &mut MemVolume) -> Result<(), Fail> {
     creates_at(volume, b"/g", 8, 3)?;
     assert_eq!(rt; info(volume, 3)?, new_file(3, 8));
     Ok(())
@@ -166,7 +166,7 @@ fn number_is_picked_again(rt: &impl Abort, volume: &mut Volume) -> Result<(), Fa
 
 /// A file that is open twice loses its name, is written and read, and goes with the second of the two; its
 /// number is picked again.
-fn is_read_until_it_is_let_go(rt: &impl Abort, volume: &mut Volume) -> Result<(), Fail> {
+fn is_read_until_it_is_let_go(rt: &impl Abort, volume: &mut MemVolume) -> Result<(), Fail> {
     loses_its_name(volume)?;
     goes_with_the_second(volume)?;
     number_is_picked_again(rt, volume)

@@ -1,7 +1,7 @@
 ghost use Rattle.std.specs.Prelude.{◌≤◌};
 
 use mb_fsops::V7;
-use mb_gathering::{Gathered, nothing};
+use mb_gathering::{GatheredBlocks, nothing};
 use mb_iface::{Acted, Asked, Changes, FileSys, Need, Opens, Query, View};
 use mb_tree::FsOp;
 use std::alloc::Global;
@@ -12,14 +12,14 @@ const ROUNDS: u32 = 40;
 
 /// Numbers that are drawn one after another, the same ones for the same seed.
 #[derive(Drop)]
-pub struct Draws {
+pub struct HostileDraws {
     state: u64,
 }
 
-impl Draws {
+impl HostileDraws {
     /// The draws of a seed.
-    pub fn new(seed: u64) -> Draws {
-        Draws { state: seed }
+    pub fn new(seed: u64) -> HostileDraws {
+        HostileDraws { state: seed }
     }
 
     /// The next number, of 16 bits.
@@ -71,7 +71,7 @@ impl Wild {
     /// any kind, or the same byte throughout.
     fn bytes(&self, block: u32) -> [u8; 512] {
         let seed = self.seed.wrapping_mul(1_000_003) ^ u64::from(block);
-        let mut draws = Draws::new(seed.wrapping_mul(0x9e37_79b9_7f4a_7c15));
+        let mut draws = HostileDraws::new(seed.wrapping_mul(0x9e37_79b9_7f4a_7c15));
         let kind = draws.next() % 8;
         let mut bytes = [0; 512];
         if (2..20).contains(&block) && kind < 6 {
@@ -86,7 +86,7 @@ impl Wild {
 }
 
 /// A byte at a place of a block of a kind.
-fn byte_of(draws: &mut Draws, kind: u16, at: usize) -> u8 {
+fn byte_of(draws: &mut HostileDraws, kind: u16, at: usize) -> u8 {
     match kind {
         // longs below 64: the addresses of a few blocks, which lead to each other
         0 | 1 | 2 => if at % 4 == 2 { draws.byte() % 64 } else { 0 },
@@ -111,14 +111,14 @@ fn byte_of(draws: &mut Draws, kind: u16, at: usize) -> u8 {
 }
 
 /// Draws eight inodes: free ones, regular files and directories with addresses of any kind.
-fn fill_inodes(draws: &mut Draws, bytes: &mut [u8; 512]) {
+fn fill_inodes(draws: &mut HostileDraws, bytes: &mut [u8; 512]) {
     for place in 0..8usize {
         fill_inode(draws, bytes, 64 * place);
     }
 }
 
 /// Draws an inode from an offset of a block on: its mode, its links, its size and its addresses.
-fn fill_inode(draws: &mut Draws, bytes: &mut [u8; 512], at: usize)
+fn fill_inode(draws: &mut HostileDraws, bytes: &mut [u8; 512], at: usize)
     requires { at ≤ 448 }
 {
     bytes[at + 1] = match draws.next() % 4 {
@@ -145,7 +145,7 @@ fn fill_inode(draws: &mut Draws, bytes: &mut [u8; 512], at: usize)
 }
 
 /// Gathers what is asked for, which has to be lacking and within the greatest volume.
-fn gather(wild: &Wild, view: &mut Gathered, need: Need) -> Result<(), Fail> {
+fn gather(wild: &Wild, view: &mut GatheredBlocks, need: Need) -> Result<(), Fail> {
     if need.first == 0 || need.first >= 262_144 || need.count == 0 || need.count > 32 {
         return Err("no run of blocks of a volume is asked for".into());
     }
@@ -171,7 +171,12 @@ fn are_below(changes: &Changes) -> Result<(), Fail> {
 }
 
 /// A query of a view comes to an answer, or asks for more blocks each time.
-fn asks_over(heap: Global, wild: &Wild, view: &mut Gathered, query: &Query) -> Result<(), Fail> {
+fn asks_over(
+    heap: Global,
+    wild: &Wild,
+    view: &mut GatheredBlocks,
+    query: &Query,
+) -> Result<(), Fail> {
     for _ in 0..ROUNDS {
         match V7.ask(heap, view, query) {
             Asked::Need(need) => gather(wild, view, need)?,
@@ -191,7 +196,7 @@ pub fn asks_well(heap: Global, wild: &Wild, query: &Query) -> Result<(), Fail> {
 fn acts_over(
     heap: Global,
     wild: &Wild,
-    view: &mut Gathered,
+    view: &mut GatheredBlocks,
     opens: &Opens,
     op: &FsOp,
     pick: Option<u16>,

@@ -1,4 +1,4 @@
-use crate::hostile::{Draws, Wild, acts_well, asks_well};
+use crate::hostile::{HostileDraws, Wild, acts_well, asks_well};
 use mb_iface::Query;
 use mb_kinds::{Cred, Name, Octets, Path};
 use mb_tree::{FsOp, Inos};
@@ -9,14 +9,14 @@ use std::test::Fail;
 const SEEDS: u64 = 60;
 
 /// A short name.
-fn name_of(draws: &mut Draws) -> Name {
+fn name_of(draws: &mut HostileDraws) -> Name {
     let mut name = [0; 14];
     name[0] = b'a' + draws.byte() % 4;
     name
 }
 
 /// A path of two components.
-fn path_of(heap: Global, draws: &mut Draws) -> Result<Path, Fail> {
+fn path_of(heap: Global, draws: &mut HostileDraws) -> Result<Path, Fail> {
     let first = b'a' + draws.byte() % 4;
     let second = b'a' + draws.byte() % 4;
     let text = [b'/', first, b'/', second].to_vec(heap)?;
@@ -27,7 +27,7 @@ fn path_of(heap: Global, draws: &mut Draws) -> Result<Path, Fail> {
 }
 
 /// The query with an index of 0 to 4.
-fn query_of(heap: Global, draws: &mut Draws, index: u32) -> Result<Query, Fail> {
+fn query_of(heap: Global, draws: &mut HostileDraws, index: u32) -> Result<Query, Fail> {
     let cred = Cred { uid: 0, gid: 0 };
     let cwd = draws.ino();
     let ino = draws.ino();
@@ -54,7 +54,7 @@ fn query_of(heap: Global, draws: &mut Draws, index: u32) -> Result<Query, Fail> 
 }
 
 /// Bytes that are written.
-fn octets_of(heap: Global, draws: &mut Draws) -> Result<Octets, Fail> {
+fn octets_of(heap: Global, draws: &mut HostileDraws) -> Result<Octets, Fail> {
     let bytes = vec![in heap; 7; usize::from(draws.next() % 2000)]?;
     if bytes.len() > 65_535 {
         return Err("too many bytes are drawn".into());
@@ -63,7 +63,7 @@ fn octets_of(heap: Global, draws: &mut Draws) -> Result<Octets, Fail> {
 }
 
 /// The operation on names with an index of 0 to 4.
-fn names_op(draws: &mut Draws, index: u32) -> FsOp {
+fn names_op(draws: &mut HostileDraws, index: u32) -> FsOp {
     let dir = draws.ino();
     let name = name_of(draws);
     let ino = draws.ino();
@@ -98,7 +98,7 @@ fn names_op(draws: &mut Draws, index: u32) -> FsOp {
 }
 
 /// The operation on an inode with an index of 0 to 6.
-fn inode_op(heap: Global, draws: &mut Draws, index: u32) -> Result<FsOp, Fail> {
+fn inode_op(heap: Global, draws: &mut HostileDraws, index: u32) -> Result<FsOp, Fail> {
     let ino = draws.ino();
     let moment = draws.long();
     let op = match index {
@@ -135,7 +135,7 @@ fn inode_op(heap: Global, draws: &mut Draws, index: u32) -> Result<FsOp, Fail> {
 }
 
 /// The number that is demanded of an operation, or none.
-fn pick_of(draws: &mut Draws) -> Option<u16> {
+fn pick_of(draws: &mut HostileDraws) -> Option<u16> {
     if draws.next() % 4 == 0 {
         Some(draws.ino())
     } else {
@@ -144,7 +144,7 @@ fn pick_of(draws: &mut Draws) -> Option<u16> {
 }
 
 /// The next query of an index comes to an answer.
-fn asks(heap: Global, wild: &Wild, draws: &mut Draws, index: u32) -> Result<(), Fail> {
+fn asks(heap: Global, wild: &Wild, draws: &mut HostileDraws, index: u32) -> Result<(), Fail> {
     let query = query_of(heap, draws, index)?;
     asks_well(heap, wild, &query)
 }
@@ -152,7 +152,7 @@ fn asks(heap: Global, wild: &Wild, draws: &mut Draws, index: u32) -> Result<(), 
 /// Of the blocks of a seed each query comes to an answer.
 fn asks_of(heap: Global, seed: u64) -> Result<(), Fail> {
     let wild = Wild::new(seed);
-    let mut draws = Draws::new(seed);
+    let mut draws = HostileDraws::new(seed);
     for index in 0..5 {
         asks(heap, &wild, &mut draws, index)?;
     }
@@ -170,7 +170,7 @@ fn queries_of_any_blocks_are_answered(rt: HostRuntime) -> Result<(), Fail> {
 }
 
 /// The next operation on names of an index comes to an end.
-fn renames(heap: Global, wild: &Wild, draws: &mut Draws, index: u32) -> Result<(), Fail> {
+fn renames(heap: Global, wild: &Wild, draws: &mut HostileDraws, index: u32) -> Result<(), Fail> {
     let op = names_op(draws, index);
     let pick = pick_of(draws);
     acts_well(heap, wild, &op, pick)
@@ -179,7 +179,7 @@ fn renames(heap: Global, wild: &Wild, draws: &mut Draws, index: u32) -> Result<(
 /// In the blocks of a seed each operation on names comes to an end.
 fn renames_in(heap: Global, seed: u64) -> Result<(), Fail> {
     let wild = Wild::new(seed);
-    let mut draws = Draws::new(seed);
+    let mut draws = HostileDraws::new(seed);
     for index in 0..5 {
         renames(heap, &wild, &mut draws, index)?;
     }
@@ -197,7 +197,7 @@ fn names_in_any_blocks_are_changed(rt: HostRuntime) -> Result<(), Fail> {
 }
 
 /// The next operation on an inode of an index comes to an end.
-fn changes(heap: Global, wild: &Wild, draws: &mut Draws, index: u32) -> Result<(), Fail> {
+fn changes(heap: Global, wild: &Wild, draws: &mut HostileDraws, index: u32) -> Result<(), Fail> {
     let op = inode_op(heap, draws, index)?;
     acts_well(heap, wild, &op, None)
 }
@@ -205,7 +205,7 @@ fn changes(heap: Global, wild: &Wild, draws: &mut Draws, index: u32) -> Result<(
 /// In the blocks of a seed each operation on an inode comes to an end.
 fn changes_in(heap: Global, seed: u64) -> Result<(), Fail> {
     let wild = Wild::new(seed);
-    let mut draws = Draws::new(seed);
+    let mut draws = HostileDraws::new(seed);
     for index in 0..7 {
         changes(heap, &wild, &mut draws, index)?;
     }

@@ -1,26 +1,27 @@
 use crate::volumes::{
-    Ended, ROOT, Volume, creates, delinks, fresh, is_missing, is_so, opens, puts, reads, releases,
+    MemVolume, OperationEnd, ROOT, creates, delinks, fresh, is_missing, is_so, opens, puts, reads,
+    releases,
 };
 use std::alloc::Global;
 use std::test::Fail;
 
 /// A file of inode 3 is opened, gets bytes and loses its one name.
-fn loses_its_name(volume: &mut Volume) -> Result<(), Fail> {
-    creates(volume, ROOT, b"f", Ended::Done(Some(3)))?;
+fn loses_its_name(volume: &mut MemVolume) -> Result<(), Fail> {
+    creates(volume, ROOT, b"f", OperationEnd::Done(Some(3)))?;
     opens(volume, 3)?;
     puts(volume, 3, 0, b"open")?;
-    delinks(volume, b"f", Ended::Done(None))
+    delinks(volume, b"f", OperationEnd::Done(None))
 }
 
 /// A volume with an open file of inode 3, whose one name is taken out.
-fn with_nameless_file(heap: Global) -> Result<Volume, Fail> {
+fn with_nameless_file(heap: Global) -> Result<MemVolume, Fail> {
     let mut volume = fresh(heap)?;
     loses_its_name(&mut volume)?;
     Ok(volume)
 }
 
 /// The file has no name and its bytes.
-fn is_there_without_a_name(volume: &Volume) -> Result<(), Fail> {
+fn is_there_without_a_name(volume: &MemVolume) -> Result<(), Fail> {
     is_missing(volume, b"/f")?;
     is_so(volume, 3, 0o100644, 0, 4)?;
     reads(volume, 3, 0, b"open")
@@ -33,8 +34,8 @@ fn open_file_stays_without_a_name(rt: HostRuntime) -> Result<(), Fail> {
 }
 
 /// Another file gets another number and another block.
-fn gets_another_file(volume: &mut Volume) -> Result<(), Fail> {
-    creates(volume, ROOT, b"g", Ended::Done(Some(4)))?;
+fn gets_another_file(volume: &mut MemVolume) -> Result<(), Fail> {
+    creates(volume, ROOT, b"g", OperationEnd::Done(Some(4)))?;
     puts(volume, 4, 0, b"other")?;
     reads(volume, 3, 0, b"open")
 }
@@ -46,9 +47,9 @@ fn neither_its_number_nor_its_block_is_given_away(rt: HostRuntime) -> Result<(),
 }
 
 /// The file goes as it is let go, and its number is picked again.
-fn goes_at_its_release(volume: &mut Volume) -> Result<(), Fail> {
+fn goes_at_its_release(volume: &mut MemVolume) -> Result<(), Fail> {
     releases(volume, 3)?;
-    creates(volume, ROOT, b"h", Ended::Done(Some(3)))?;
+    creates(volume, ROOT, b"h", OperationEnd::Done(Some(3)))?;
     is_so(volume, 3, 0o100644, 1, 0)
 }
 

@@ -1,5 +1,5 @@
 use mb_fsops::V7;
-use mb_gathering::{Gathered, SMALL, gather, nothing};
+use mb_gathering::{GatheredBlocks, SMALL, gather, nothing};
 use mb_iface::{Acted, Answer, Asked, FileSys, Opens, Query};
 use mb_kinds::{Cred, Errno, Name, Octets, Path, Stat};
 use mb_tree::{FsOp, Inos};
@@ -11,22 +11,22 @@ pub const ROOT: u16 = 2;
 
 /// A volume in memory with the open files on it.
 #[derive(Drop)]
-pub struct Volume {
+pub struct MemVolume {
     heap: Global,
-    blocks: Gathered,
+    blocks: GatheredBlocks,
     opens: Opens,
 }
 
 /// What an operation came to.
 #[derive(Clone, Copy, Debug, PartialEq, Drop)]
-pub enum Ended {
+pub enum OperationEnd {
     Done(Option<u16>),
     Refused(Errno),
 }
 
 /// The fresh volume of 100 blocks and 16 inodes, which has the root alone.
-pub fn fresh(heap: Global) -> Result<Volume, Fail> {
-    Ok(Volume {
+pub fn fresh(heap: Global) -> Result<MemVolume, Fail> {
+    Ok(MemVolume {
         heap,
         blocks: mb_gathering::fresh(heap, SMALL)?,
         opens: Opens::new(heap),
@@ -34,7 +34,7 @@ pub fn fresh(heap: Global) -> Result<Volume, Fail> {
 }
 
 /// Asks the file system over a view until it asks for no block any longer.
-fn asked_over(volume: &Volume, view: &mut Gathered, query: &Query) -> Result<Asked, Fail> {
+fn asked_over(volume: &MemVolume, view: &mut GatheredBlocks, query: &Query) -> Result<Asked, Fail> {
     for _ in 0..100 {
         match V7.ask(volume.heap, view, query) {
             Asked::Need(need) => gather(&volume.blocks, view, need)?,
@@ -45,14 +45,14 @@ fn asked_over(volume: &Volume, view: &mut Gathered, query: &Query) -> Result<Ask
 }
 
 /// Asks the file system until it asks for no block any longer.
-fn asked(volume: &Volume, query: &Query) -> Result<Asked, Fail> {
+fn asked(volume: &MemVolume, query: &Query) -> Result<Asked, Fail> {
     asked_over(volume, &mut nothing(volume.heap), query)
 }
 
 /// Lets the file system act over a view until it asks for no block any longer.
 fn acted_over(
-    volume: &Volume,
-    view: &mut Gathered,
+    volume: &MemVolume,
+    view: &mut GatheredBlocks,
     op: &FsOp,
     pick: Option<u16>,
 ) -> Result<Acted, Fail> {
@@ -66,14 +66,14 @@ fn acted_over(
 }
 
 /// Lets the file system act until it asks for no block any longer.
-fn acted(volume: &Volume, op: &FsOp, pick: Option<u16>) -> Result<Acted, Fail> {
+fn acted(volume: &MemVolume, op: &FsOp, pick: Option<u16>) -> Result<Acted, Fail> {
     acted_over(volume, &mut nothing(volume.heap), op, pick)
 }
 
 /// Adds the first block of each of an operation's needs, one after another.
 fn add_needs(
-    volume: &Volume,
-    view: &mut Gathered,
+    volume: &MemVolume,
+    view: &mut GatheredBlocks,
     asked: &mut Vec<u32>,
     op: &FsOp,
     pick: Option<u16>,
@@ -91,7 +91,7 @@ fn add_needs(
 }
 
 /// The first block of each of an operation's needs, one after another.
-fn asks_for(volume: &Volume, op: &FsOp, pick: Option<u16>) -> Result<Vec<u32>, Fail> {
+fn asks_for(volume: &MemVolume, op: &FsOp, pick: Option<u16>) -> Result<Vec<u32>, Fail> {
     let mut asked = Vec::new(volume.heap);
     add_needs(volume, &mut nothing(volume.heap), &mut asked, op, pick)?;
     Ok(asked)
@@ -107,7 +107,7 @@ fn last_of(asked: &[u32], count: usize, first: &[u32]) -> Result<u32, Fail> {
 
 /// The last of the blocks that an operation asks for, which are so many and begin with these.
 pub fn last_need(
-    volume: &Volume,
+    volume: &MemVolume,
     op: &FsOp,
     pick: Option<u16>,
     count: usize,
@@ -118,19 +118,19 @@ pub fn last_need(
 }
 
 /// Does an operation on the volume, with a demanded number or without one.
-fn perform(volume: &mut Volume, op: &FsOp, pick: Option<u16>) -> Result<Ended, Fail> {
+fn perform(volume: &mut MemVolume, op: &FsOp, pick: Option<u16>) -> Result<OperationEnd, Fail> {
     match acted(volume, op, pick)? {
         Acted::Done { changes, pick } => {
             volume.blocks.blocks.absorb(changes)?;
-            Ok(Ended::Done(pick))
+            Ok(OperationEnd::Done(pick))
         }
-        Acted::Refused(error) => Ok(Ended::Refused(error)),
+        Acted::Refused(error) => Ok(OperationEnd::Refused(error)),
         _ => Err("no end".into()),
     }
 }
 
 /// Does an operation, which has to end so.
-pub fn ends(volume: &mut Volume, op: FsOp, wanted: Ended) -> Result<(), Fail> {
+pub fn ends(volume: &mut MemVolume, op: FsOp, wanted: OperationEnd) -> Result<(), Fail> {
     if perform(volume, &op, None)? == wanted {
         Ok(())
     } else {
@@ -162,13 +162,18 @@ pub fn creation(dir: u16, text: &[u8]) -> FsOp {
 }
 
 /// Makes a file under a name of a directory.
-pub fn creates(volume: &mut Volume, dir: u16, text: &[u8], wanted: Ended) -> Result<(), Fail> {
+pub fn creates(
+    volume: &mut MemVolume,
+    dir: u16,
+    text: &[u8],
+    wanted: OperationEnd,
+) -> Result<(), Fail> {
     ends(volume, creation(dir, text), wanted)
 }
 
 /// Makes a file with a demanded number under a name of the root.
-pub fn creates_as(volume: &mut Volume, text: &[u8], ino: u16) -> Result<(), Fail> {
-    if perform(volume, &creation(ROOT, text), Some(ino))? == Ended::Done(Some(ino)) {
+pub fn creates_as(volume: &mut MemVolume, text: &[u8], ino: u16) -> Result<(), Fail> {
+    if perform(volume, &creation(ROOT, text), Some(ino))? == OperationEnd::Done(Some(ino)) {
         Ok(())
     } else {
         Err("another number".into())
@@ -188,7 +193,7 @@ pub fn directory_creation(text: &[u8]) -> FsOp {
 }
 
 /// Makes a directory under a name of the root.
-pub fn makes_dir(volume: &mut Volume, text: &[u8], wanted: Ended) -> Result<(), Fail> {
+pub fn makes_dir(volume: &mut MemVolume, text: &[u8], wanted: OperationEnd) -> Result<(), Fail> {
     ends(volume, directory_creation(text), wanted)
 }
 
@@ -202,12 +207,17 @@ pub fn removal(text: &[u8]) -> FsOp {
 }
 
 /// Removes a directory by its name in the root.
-pub fn removes_dir(volume: &mut Volume, text: &[u8], wanted: Ended) -> Result<(), Fail> {
+pub fn removes_dir(volume: &mut MemVolume, text: &[u8], wanted: OperationEnd) -> Result<(), Fail> {
     ends(volume, removal(text), wanted)
 }
 
 /// Enters a further name of an inode in the root.
-pub fn enlinks(volume: &mut Volume, text: &[u8], ino: u16, wanted: Ended) -> Result<(), Fail> {
+pub fn enlinks(
+    volume: &mut MemVolume,
+    text: &[u8],
+    ino: u16,
+    wanted: OperationEnd,
+) -> Result<(), Fail> {
     let op = FsOp::Enlink {
         dir: ROOT,
         name: named(text),
@@ -218,7 +228,7 @@ pub fn enlinks(volume: &mut Volume, text: &[u8], ino: u16, wanted: Ended) -> Res
 }
 
 /// Takes a name out of the root.
-pub fn delinks(volume: &mut Volume, text: &[u8], wanted: Ended) -> Result<(), Fail> {
+pub fn delinks(volume: &mut MemVolume, text: &[u8], wanted: OperationEnd) -> Result<(), Fail> {
     let op = FsOp::Delink {
         dir: ROOT,
         name: named(text),
@@ -228,7 +238,7 @@ pub fn delinks(volume: &mut Volume, text: &[u8], wanted: Ended) -> Result<(), Fa
 }
 
 /// Puts bytes into a file.
-pub fn puts(volume: &mut Volume, ino: u16, offset: u32, text: &[u8]) -> Result<(), Fail> {
+pub fn puts(volume: &mut MemVolume, ino: u16, offset: u32, text: &[u8]) -> Result<(), Fail> {
     if text.len() > 65_535 {
         return Err("too many bytes".into());
     }
@@ -238,31 +248,31 @@ pub fn puts(volume: &mut Volume, ino: u16, offset: u32, text: &[u8]) -> Result<(
         bytes: Octets::from_vec(text.to_vec(volume.heap)?),
         moment: 9,
     };
-    ends(volume, op, Ended::Done(None))
+    ends(volume, op, OperationEnd::Done(None))
 }
 
 /// Sets how many open files an inode has.
-pub fn counts_open(volume: &mut Volume, ino: u16, count: u32) -> Result<(), Fail> {
+pub fn counts_open(volume: &mut MemVolume, ino: u16, count: u32) -> Result<(), Fail> {
     volume.opens.set(ino, count)?;
     Ok(())
 }
 
 /// Counts one open file on an inode.
-pub fn opens(volume: &mut Volume, ino: u16) -> Result<(), Fail> {
+pub fn opens(volume: &mut MemVolume, ino: u16) -> Result<(), Fail> {
     counts_open(volume, ino, 1)
 }
 
 /// Lets one open file on an inode go, after which it has so many.
-pub fn lets_go(volume: &mut Volume, ino: u16, left: u32) -> Result<(), Fail> {
+pub fn lets_go(volume: &mut MemVolume, ino: u16, left: u32) -> Result<(), Fail> {
     let op = FsOp::Release {
         inos: Inos::from_vec([ino].to_vec(volume.heap)?),
     };
-    ends(volume, op, Ended::Done(None))?;
+    ends(volume, op, OperationEnd::Done(None))?;
     counts_open(volume, ino, left)
 }
 
 /// Lets the one open file on an inode go.
-pub fn releases(volume: &mut Volume, ino: u16) -> Result<(), Fail> {
+pub fn releases(volume: &mut MemVolume, ino: u16) -> Result<(), Fail> {
     lets_go(volume, ino, 0)
 }
 
@@ -275,7 +285,7 @@ fn path_of(heap: Global, text: &[u8]) -> Result<Path, Fail> {
 }
 
 /// Finds a path.
-fn found(volume: &Volume, text: &[u8]) -> Result<Asked, Fail> {
+fn found(volume: &MemVolume, text: &[u8]) -> Result<Asked, Fail> {
     let query = Query::Find {
         cwd: ROOT,
         cred: Cred { uid: 5, gid: 6 },
@@ -285,7 +295,7 @@ fn found(volume: &Volume, text: &[u8]) -> Result<Asked, Fail> {
 }
 
 /// Finds the place of a path's last component as the super-user does.
-fn placed(volume: &Volume, text: &[u8]) -> Result<Asked, Fail> {
+fn placed(volume: &MemVolume, text: &[u8]) -> Result<Asked, Fail> {
     let query = Query::Place {
         cwd: ROOT,
         cred: Cred { uid: 0, gid: 0 },
@@ -295,7 +305,7 @@ fn placed(volume: &Volume, text: &[u8]) -> Result<Asked, Fail> {
 }
 
 /// The directory and the name of a path's last component, as the super-user finds them.
-pub fn name_at(volume: &Volume, text: &[u8]) -> Result<(u16, Name), Fail> {
+pub fn name_at(volume: &MemVolume, text: &[u8]) -> Result<(u16, Name), Fail> {
     match placed(volume, text)? {
         Asked::Found(Answer::Place { dir, name, .. }) => Ok((dir, name)),
         _ => Err("no place".into()),
@@ -303,7 +313,7 @@ pub fn name_at(volume: &Volume, text: &[u8]) -> Result<(u16, Name), Fail> {
 }
 
 /// What stat tells of the inode to which a path leads.
-pub fn at_path(volume: &Volume, text: &[u8]) -> Result<Stat, Fail> {
+pub fn at_path(volume: &MemVolume, text: &[u8]) -> Result<Stat, Fail> {
     match found(volume, text)? {
         Asked::Found(Answer::Node(stat)) => Ok(stat),
         _ => Err("no inode is found".into()),
@@ -311,7 +321,7 @@ pub fn at_path(volume: &Volume, text: &[u8]) -> Result<Stat, Fail> {
 }
 
 /// A path leads to this inode.
-pub fn leads_to(volume: &Volume, text: &[u8], ino: u16) -> Result<(), Fail> {
+pub fn leads_to(volume: &MemVolume, text: &[u8], ino: u16) -> Result<(), Fail> {
     if at_path(volume, text)?.ino == ino {
         Ok(())
     } else {
@@ -320,7 +330,7 @@ pub fn leads_to(volume: &Volume, text: &[u8], ino: u16) -> Result<(), Fail> {
 }
 
 /// A path is refused with this error.
-pub fn is_refused(volume: &Volume, text: &[u8], wanted: Errno) -> Result<(), Fail> {
+pub fn is_refused(volume: &MemVolume, text: &[u8], wanted: Errno) -> Result<(), Fail> {
     match found(volume, text)? {
         Asked::Refused(error) => {
             if error == wanted {
@@ -334,12 +344,12 @@ pub fn is_refused(volume: &Volume, text: &[u8], wanted: Errno) -> Result<(), Fai
 }
 
 /// A path leads nowhere.
-pub fn is_missing(volume: &Volume, text: &[u8]) -> Result<(), Fail> {
+pub fn is_missing(volume: &MemVolume, text: &[u8]) -> Result<(), Fail> {
     is_refused(volume, text, Errno::ENOENT)
 }
 
 /// What stat tells of an inode.
-pub fn info(volume: &Volume, ino: u16) -> Result<Stat, Fail> {
+pub fn info(volume: &MemVolume, ino: u16) -> Result<Stat, Fail> {
     match asked(volume, &Query::Info { ino })? {
         Asked::Found(Answer::Node(stat)) => Ok(stat),
         _ => Err("no inode".into()),
@@ -347,7 +357,7 @@ pub fn info(volume: &Volume, ino: u16) -> Result<Stat, Fail> {
 }
 
 /// An inode has this mode, so many links and so many bytes.
-pub fn is_so(volume: &Volume, ino: u16, mode: u16, nlink: u16, size: u32) -> Result<(), Fail> {
+pub fn is_so(volume: &MemVolume, ino: u16, mode: u16, nlink: u16, size: u32) -> Result<(), Fail> {
     let stat = info(volume, ino)?;
     if stat.mode == mode && stat.nlink == nlink && stat.size == size {
         Ok(())
@@ -357,7 +367,7 @@ pub fn is_so(volume: &Volume, ino: u16, mode: u16, nlink: u16, size: u32) -> Res
 }
 
 /// So many slots of a directory are in use.
-pub fn counts(volume: &Volume, ino: u16, wanted: u32) -> Result<(), Fail> {
+pub fn counts(volume: &MemVolume, ino: u16, wanted: u32) -> Result<(), Fail> {
     match asked(volume, &Query::Used { ino })? {
         Asked::Found(Answer::Used(count)) => {
             if count == wanted {
@@ -371,7 +381,7 @@ pub fn counts(volume: &Volume, ino: u16, wanted: u32) -> Result<(), Fail> {
 }
 
 /// Reads 100 bytes of a file.
-fn bytes_at(volume: &Volume, ino: u16, offset: u32) -> Result<Asked, Fail> {
+fn bytes_at(volume: &MemVolume, ino: u16, offset: u32) -> Result<Asked, Fail> {
     let query = Query::Bytes {
         ino,
         offset,
@@ -390,7 +400,7 @@ fn are(bytes: &[u8], wanted: &[u8]) -> Result<(), Fail> {
 }
 
 /// A read of 100 bytes of a file gets these.
-pub fn reads(volume: &Volume, ino: u16, offset: u32, wanted: &[u8]) -> Result<(), Fail> {
+pub fn reads(volume: &MemVolume, ino: u16, offset: u32, wanted: &[u8]) -> Result<(), Fail> {
     match bytes_at(volume, ino, offset)? {
         Asked::Found(Answer::Bytes(bytes)) => are(bytes.as_slice(), wanted),
         _ => Err("no bytes".into()),

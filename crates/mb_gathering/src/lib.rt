@@ -1,5 +1,5 @@
 //! Blocks that are gathered as they are asked for: tools for tests that run a query or an operation to
-//! its end over a volume in memory. `Gathered` is a view, which begins with no block (`nothing`), and
+//! its end over a volume in memory. `GatheredBlocks` is a view, which begins with no block (`nothing`), and
 //! `gather` brings what a `Need` names from the blocks of a volume. `fresh` has those of a fresh
 //! volume, and `without` leaves one out.
 //!
@@ -9,5 +9,5 @@
 mod views;
 mod volumes;
 
-pub use views::{Gathered, gather, nothing, without};
+pub use views::{GatheredBlocks, gather, nothing, without};
 pub use volumes::{SMALL, Size, disk_of, fresh};

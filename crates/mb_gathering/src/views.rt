@@ -8,11 +8,11 @@ use std::test::Fail;
 
 /// The blocks that somebody has gathered.
 #[derive(Drop)]
-pub struct Gathered {
+pub struct GatheredBlocks {
     pub blocks: Changes,
 }
 
-impl View for Gathered {
+impl View for GatheredBlocks {
     ghost use Rattle.mb_kinds.specs.Changed.{changed};
 
     ghost shown = { λ g. changed g.blocks };
@@ -23,16 +23,16 @@ impl View for Gathered {
 }
 
 /// No block.
-pub fn nothing(heap: Global) -> Gathered
+pub fn nothing(heap: Global) -> GatheredBlocks
     ensures { result.blocks ≡ [] }
 {
-    Gathered {
+    GatheredBlocks {
         blocks: Changes::new(heap),
     }
 }
 
 /// The blocks of a disk without one of them. The only error is want of memory.
-pub fn without(heap: Global, disk: &Gathered, lacking: u32) -> Result<Gathered, Fail>
+pub fn without(heap: Global, disk: &GatheredBlocks, lacking: u32) -> Result<GatheredBlocks, Fail>
     ensures { IfOk result (λ view. changed view.blocks lacking ≡ None) }
 {
     let mut view = nothing(heap);
@@ -46,7 +46,7 @@ pub fn without(heap: Global, disk: &Gathered, lacking: u32) -> Result<Gathered, 
 }
 
 /// Gathers a block that the view lacks, where the disk has it.
-fn gather_block(disk: &Gathered, view: &mut Gathered, block: u32) -> Result<(), Fail>
+fn gather_block(disk: &GatheredBlocks, view: &mut GatheredBlocks, block: u32) -> Result<(), Fail>
     requires { block < 262144 }
     ensures grows { ShowsAllOf (changed view.old.blocks) (changed view.new.blocks) }
     ensures from { IsFrom (changed disk.now.blocks) (changed view.old.blocks) (changed view.new.blocks) }
@@ -62,7 +62,7 @@ fn gather_block(disk: &Gathered, view: &mut Gathered, block: u32) -> Result<(), 
 
 /// Gathers the blocks that are asked for, as far as the disk has them. An error is a first block that
 /// is there already, with a view as before, or want of memory.
-pub fn gather(disk: &Gathered, view: &mut Gathered, need: Need) -> Result<(), Fail>
+pub fn gather(disk: &GatheredBlocks, view: &mut GatheredBlocks, need: Need) -> Result<(), Fail>
     ensures grows { ShowsAllOf (changed view.old.blocks) (changed view.new.blocks) }
     ensures from { IsFrom (changed disk.now.blocks) (changed view.old.blocks) (changed view.new.blocks) }
 {

@@ -1,4 +1,4 @@
-use crate::views::{Gathered, nothing};
+use crate::views::{GatheredBlocks, nothing};
 use mb_edge::{Bytes, Disk, Fails, MemDisk};
 use mb_mkfs::make;
 use std::alloc::Global;
@@ -26,7 +26,7 @@ fn empty_disk(heap: Global, blocks: u16) -> Result<MemDisk, Fail> {
 
 /// The blocks of the fresh volume of a size, which has the root alone. An error is a size that no
 /// volume has, or want of memory.
-pub fn fresh(heap: Global, size: Size) -> Result<Gathered, Fail> {
+pub fn fresh(heap: Global, size: Size) -> Result<GatheredBlocks, Fail> {
     let mut disk = empty_disk(heap, size.blocks)?;
     if make(&mut disk, u32::from(size.blocks), u32::from(size.inodes)).is_err() {
         return Err("no volume is made".into());
@@ -35,7 +35,7 @@ pub fn fresh(heap: Global, size: Size) -> Result<Gathered, Fail> {
 }
 
 /// So many blocks of a disk.
-fn whole(heap: Global, disk: &mut MemDisk, blocks: u16) -> Result<Gathered, Fail> {
+fn whole(heap: Global, disk: &mut MemDisk, blocks: u16) -> Result<GatheredBlocks, Fail> {
     let mut all = nothing(heap);
     let mut bytes = [0; 512];
     for block in 0..blocks {
@@ -49,7 +49,7 @@ fn whole(heap: Global, disk: &mut MemDisk, blocks: u16) -> Result<Gathered, Fail
 
 /// A disk of all blocks of a volume of a size. An error is a block that the size has no room for, or
 /// want of memory.
-pub fn disk_of(heap: Global, volume: &Gathered, size: Size) -> Result<MemDisk, Fail> {
+pub fn disk_of(heap: Global, volume: &GatheredBlocks, size: Size) -> Result<MemDisk, Fail> {
     let mut disk = empty_disk(heap, size.blocks)?;
     for place in 0..volume.blocks.len() {
         let (block, bytes) = volume.blocks.at(place);

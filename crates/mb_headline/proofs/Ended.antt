@@ -17,9 +17,9 @@ use Rattle.mb_kinds.specs.Image.{Image}
 use Rattle.mb_kinds.specs.declared.entries.Entry.{Entry}
 use Rattle.mb_run.specs.CoreSight.{seat_of, sight_of}
 use Rattle.mb_run.specs.Settling.{IsSettled}
-use Rattle.mb_run.specs.Sights.{Limits, Seat, recovers}
-use Rattle.mb_headline.specs.Headline.{FewerDevices, IsAtRest, IsDone, IsGivenUp, LeavesImage, opened}
-use Rattle.mb_headline.specs.Laws.{IsPath}
+use Rattle.mb_run.specs.Sights.{Limits, SightSeat, recovers}
+use Rattle.mb_headline.specs.Headline.{FewerDevices, IsAtRest, IsDone, HasGivenUp, LeavesImage, opened}
+use Rattle.mb_headline.specs.Laws.{IsPathOfRun}
 use Rattle.mb_headline.proofs.Running.{path_few, path_first, path_history, path_opened, told_now}
 
 no_both : true ≡ false → ⊥
@@ -41,7 +41,7 @@ rose_past count before middle now few rose low =
     let below : middle < 2 ^ 64 - 1 = omega (arith, less, low) in
     let most = few below in omega (arith, most, less)
 
-module _ {F D : Type 0} (fs : F) (told : D → Option Image) (faults : D → ℕ) (asked : ℕ) (job : Job) (disk : D) (begun driven ended : CoreState F D) (path : IsPath fs told faults asked job disk begun driven ended) where
+module _ {F D : Type 0} (fs : F) (told : D → Option Image) (faults : D → ℕ) (asked : ℕ) (job : Job) (disk : D) (begun driven ended : CoreState F D) (path : IsPathOfRun fs told faults asked job disk begun driven ended) where
   callers_same : length ended.config.callers ≡ length driven.config.callers
   callers_same = ap (λ (limits : Limits). limits.callers) path.keeps.config
 
@@ -49,7 +49,7 @@ module _ {F D : Type 0} (fs : F) (told : D → Option Image) (faults : D → ℕ
   path_free caller mine here =
       let within : caller < length ended.callers = slice_get_within ended.callers caller mine here in
       let low : caller < length driven.config.callers = omega (arith, within, path.right.orderly.numbered.callers_are, callers_same) in
-      ap (λ found. (seat_of found).flight) (sym here) ∙ ap (λ (seat : Seat). seat.flight) (path.keeps.seats caller) ∙ path.drives.free caller low
+      ap (λ found. (seat_of found).flight) (sym here) ∙ ap (λ (seat : SightSeat). seat.flight) (path.keeps.seats caller) ∙ path.drives.free caller low
 
   module _ (settled : IsSettled (sight_of driven) (sight_of ended)) where
     path_rest : IsAtRest ended
@@ -71,7 +71,7 @@ module _ {F D : Type 0} (fs : F) (told : D → Option Image) (faults : D → ℕ
         (path_opened fs told faults asked job disk begun driven ended path tree) held) in
         (now.0, now.1, record { within = there.within; volume = there.volume; kept = there.kept })
 
-    pub path_ends : IsDone job ended ⊎ IsGivenUp job ended
+    pub path_ends : IsDone job ended ⊎ HasGivenUp job ended
     path_ends = elim (runs_or_failed ended.stage settled.over) [
       | inl runs ↦ inl (record {
         rest = path_rest;

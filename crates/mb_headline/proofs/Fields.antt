@@ -7,7 +7,7 @@ use Rattle.toml.specs.Data.{Data, integer, Members, get_member}
 use Rattle.mb_jobs.specs.declared.jobs.Caller.{Caller}
 use Rattle.mb_jobs.specs.Callers.{callers_in, next_caller, the_caller}
 use Rattle.mb_jobs.specs.Folds.{read_all}
-use Rattle.mb_jobs.specs.Keys.{Fields, fields_in, given, known_beside, known_fields, needs, or_unknown, some_callers, some_faults, some_order, texts_in, unknown_key, whole_from}
+use Rattle.mb_jobs.specs.Keys.{KeyFields, fields_in, given, known_beside, known_fields, needs, or_unknown, some_callers, some_faults, some_order, texts_in, unknown_key, whole_from}
 use Rattle.mb_run.specs.Letters.{AreLetters, letters_of}
 use Rattle.mb_headline.proofs.Letters.{letters_read, the_letter}
 use Rattle.mb_headline.proofs.Reading.{and_then_some, needs_then, no_ok, no_some, ok_some, read_length, same_ok, when_some}
@@ -19,7 +19,7 @@ pub record AreCallers (callers : List Caller) : Type 0 where
   pub letters : AreLetters (letters_of callers)
 
 -- such callers, and each number in its range
-pub record AreFit (fields : Fields) : Type 0 where
+pub record AreFit (fields : KeyFields) : Type 0 where
   pub callers : AreCallers fields.callers
   pub limit : fields.limit ≤ 255
   pub start : fields.start ≤ 1000000000
@@ -71,26 +71,26 @@ found_fit callers limit start threshold members some low early often = (
 )
 
 -- what comes after each key
-abbrev after_start : Members → List Caller → List (List ℕ) → List (List ℕ) → ℕ → Option (List ℕ) → ℕ → Result Fields (List ℕ)
+abbrev after_start : Members → List Caller → List (List ℕ) → List (List ℕ) → ℕ → Option (List ℕ) → ℕ → Result KeyFields (List ℕ)
 after_start members callers texts faults limit order start = needs (codes "threshold") (given 64 (whole_from 1 4096) (get_member (codes "threshold") members))
     (λ threshold. Ok (record { callers = callers; calls = texts; faults = faults; limit = limit; order = order; start = start; threshold = threshold }))
 
-abbrev after_order : Members → List Caller → List (List ℕ) → List (List ℕ) → ℕ → Option (List ℕ) → Result Fields (List ℕ)
+abbrev after_order : Members → List Caller → List (List ℕ) → List (List ℕ) → ℕ → Option (List ℕ) → Result KeyFields (List ℕ)
 after_order members callers texts faults limit order = needs (codes "start") (given 0 (whole_from 0 1000000000) (get_member (codes "start") members)) (after_start members callers texts faults limit order)
 
-abbrev after_limit : Members → List Caller → List (List ℕ) → List (List ℕ) → ℕ → Result Fields (List ℕ)
+abbrev after_limit : Members → List Caller → List (List ℕ) → List (List ℕ) → ℕ → Result KeyFields (List ℕ)
 after_limit members callers texts faults limit = needs (codes "order") (given None some_order (get_member (codes "order") members)) (after_order members callers texts faults limit)
 
-abbrev after_faults : Members → List Caller → List (List ℕ) → List (List ℕ) → Result Fields (List ℕ)
+abbrev after_faults : Members → List Caller → List (List ℕ) → List (List ℕ) → Result KeyFields (List ℕ)
 after_faults members callers texts faults = needs (codes "limit") (given 255 (whole_from 0 255) (get_member (codes "limit") members)) (after_limit members callers texts faults)
 
-abbrev after_calls : Members → List Caller → List (List ℕ) → Result Fields (List ℕ)
+abbrev after_calls : Members → List Caller → List (List ℕ) → Result KeyFields (List ℕ)
 after_calls members callers texts = needs (codes "faults") (given [] some_faults (get_member (codes "faults") members)) (after_faults members callers texts)
 
-abbrev after_callers : Option Data → Members → List Caller → Result Fields (List ℕ)
+abbrev after_callers : Option Data → Members → List Caller → Result KeyFields (List ℕ)
 after_callers calls members callers = needs (codes "calls") (option_and_then texts_in calls) (after_calls members callers)
 
-known_fit : (calls : Option Data) (members : Members) (fields : Fields) → known_beside calls members ≡ Ok fields → AreFit fields
+known_fit : (calls : Option Data) (members : Members) (fields : KeyFields) → known_beside calls members ≡ Ok fields → AreFit fields
 known_fit calls members fields is =
     needs_then _ _ (after_callers calls members) fields (AreFit fields) is (λ callers some called.
     needs_then _ _ (after_calls members callers) fields (AreFit fields) called (λ texts written struck.
@@ -99,14 +99,14 @@ known_fit calls members fields is =
     needs_then _ _ (after_order members callers texts faults limit) fields (AreFit fields) ordered (λ order told started.
     needs_then _ _ (after_start members callers texts faults limit order) fields (AreFit fields) started (λ start early due.
     needs_then _ _ _ fields (AreFit fields) due (λ threshold often made.
-    (let found : Fields = record { callers = callers; calls = texts; faults = faults; limit = limit; order = order; start = start; threshold = threshold } in
+    (let found : KeyFields = record { callers = callers; calls = texts; faults = faults; limit = limit; order = order; start = start; threshold = threshold } in
     let fit = found_fit callers limit start threshold members some low early often in
     subst AreFit (same_ok (Ok found) found fields refl made) (record { callers = fit.0; limit = fit.1.1; start = fit.2.1; due = fit.3.0; often = fit.3.1 })))))))))
 
-known_of : (unknown : Option (List ℕ)) (found : Result Fields (List ℕ)) (fields : Fields) → or_unknown unknown found ≡ Ok fields → found ≡ Ok fields
+known_of : (unknown : Option (List ℕ)) (found : Result KeyFields (List ℕ)) (fields : KeyFields) → or_unknown unknown found ≡ Ok fields → found ≡ Ok fields
 known_of None found fields is = is
 known_of (Some key) (Ok other) fields is = absurd (no_ok fields key is)
 known_of (Some key) (Err bad) fields is = absurd (no_ok fields _ is)
 
-pub fields_fit : (members : Members) (fields : Fields) → fields_in members ≡ Ok fields → AreFit fields
+pub fields_fit : (members : Members) (fields : KeyFields) → fields_in members ≡ Ok fields → AreFit fields
 fields_fit members fields is = known_fit (get_member (codes "calls") members) members fields (known_of (unknown_key members) (known_fields members) fields is)

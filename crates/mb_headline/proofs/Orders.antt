@@ -30,7 +30,7 @@ use Rattle.mb_run.specs.Drives.{EntersByOrder, IsDriven, IsDrivenApart, RisesByO
 use Rattle.mb_run.specs.Letters.{AreLetters, letters_of}
 use Rattle.mb_run.specs.Orders.{asked_by}
 use Rattle.mb_run.specs.Served.{AreSound, AreSoundBy}
-use Rattle.mb_run.specs.Sights.{Seat, Sight}
+use Rattle.mb_run.specs.Sights.{SightSeat, Sight}
 use Rattle.mb_kinds.specs.declared.faults.FaultRecord.{FaultRecord}
 use Rattle.mb_plan.specs.Fires.{fires}
 use Rattle.mb_plan.specs.declared.rules.Rule.{Rule}
@@ -112,7 +112,7 @@ module _ {F D : Type 0} (told : D → Option Image) (faults : D → ℕ) (fs : F
   bare = ap (λ (core : CoreState F D). core.journal.trail) over.over.begun
 
   nobody : (caller : ℕ) → ((sight_of begun).seats caller).flight ≡ None
-  nobody caller = ap (λ (core : CoreState F D). (seat_of (slice_get core.callers caller)).flight) over.over.begun ∙ ap (λ (s : Seat). s.flight) (idle_seat (length over.config.callers) caller)
+  nobody caller = ap (λ (core : CoreState F D). (seat_of (slice_get core.callers caller)).flight) over.over.begun ∙ ap (λ (s : SightSeat). s.flight) (idle_seat (length over.config.callers) caller)
 
   -- no call is in flight yet
   counts : CountsStales (sight_of begun)

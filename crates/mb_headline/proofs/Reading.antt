@@ -11,7 +11,7 @@ use Rattle.mb_jobs.specs.declared.jobs.JobCall.{JobCall}
 use Rattle.mb_jobs.specs.declared.jobs.JobFault.TheVariants.{TooLong, NotToml, BadKey, BadCall, BadFault, BadOrder}
 use Rattle.mb_jobs.specs.Folds.{read_all}
 use Rattle.mb_jobs.specs.Job.{job_called, job_in, job_keyed, job_of_document, job_ordered, job_planned, job_with, table_in}
-use Rattle.mb_jobs.specs.Keys.{Fields, fields_in, needs}
+use Rattle.mb_jobs.specs.Keys.{KeyFields, fields_in, needs}
 use Rattle.mb_jobs.specs.Lists.{calls_in, with_exits}
 use Rattle.mb_jobs.specs.Orders.{bad_in}
 use Rattle.mb_jobs.specs.Rules.{rules_in}
@@ -87,7 +87,7 @@ module _ {A : Type 0} (next : List A → List ℕ → Option A) where
 -- ---- the whole
 
 -- a job was made of a table's fields: of these calls, and of the rules that their texts write
-pub record IsReadFrom (fields : Fields) (job : Job) : Type 0 where
+pub record IsReadFrom (fields : KeyFields) (job : Job) : Type 0 where
   pub calls : List JobCall
   pub rules : List Rule
   pub called : calls_in fields.callers fields.calls ≡ Ok calls
@@ -98,25 +98,25 @@ ordered_job : (bad : Option ℕ) (made job : Job) → job_ordered bad made ≡ O
 ordered_job (Some place) made job is = absurd (no_ok job (BadOrder place) is)
 ordered_job None made job is = same_ok (job_ordered None made) made job refl is
 
-planned_job : (fields : Fields) (calls : List JobCall) (found : Result (List Rule) ℕ) (job : Job) → job_planned fields calls found ≡ Ok job
+planned_job : (fields : KeyFields) (calls : List JobCall) (found : Result (List Rule) ℕ) (job : Job) → job_planned fields calls found ≡ Ok job
     → (rules : List Rule) × (found ≡ Ok rules) × (job_with fields calls rules ≡ job)
 planned_job fields calls (Ok rules) job is = (rules, refl, ordered_job (bad_in fields.callers fields.order) (job_with fields calls rules) job is)
 planned_job fields calls (Err index) job is = absurd (no_ok job (BadFault index) is)
 
-called_job : (fields : Fields) (found : Result (List JobCall) ℕ) (job : Job) → calls_in fields.callers fields.calls ≡ found → job_called fields found ≡ Ok job → IsReadFrom fields job
+called_job : (fields : KeyFields) (found : Result (List JobCall) ℕ) (job : Job) → calls_in fields.callers fields.calls ≡ found → job_called fields found ≡ Ok job → IsReadFrom fields job
 called_job fields (Ok calls) job here is =
     let parts = planned_job fields (with_exits fields.callers calls) (rules_in (with_exits fields.callers calls) fields.faults) job is in
     record { calls = calls; rules = parts.0; called = here; planned = parts.1; is = parts.2 }
 called_job fields (Err index) job here is = absurd (no_ok job (BadCall index) is)
 
-keyed_job : (found : Result Fields (List ℕ)) (job : Job) → job_keyed found ≡ Ok job → (fields : Fields) × (found ≡ Ok fields) × IsReadFrom fields job
+keyed_job : (found : Result KeyFields (List ℕ)) (job : Job) → job_keyed found ≡ Ok job → (fields : KeyFields) × (found ≡ Ok fields) × IsReadFrom fields job
 keyed_job (Ok fields) job is = (fields, refl, called_job fields (calls_in fields.callers fields.calls) job refl is)
 keyed_job (Err key) job is = absurd (no_ok job (BadKey key) is)
 
 -- the fields of a table that a text writes
 pub record IsRead (job : Job) : Type 0 where
   pub members : Members
-  pub fields : Fields
+  pub fields : KeyFields
   pub keyed : fields_in members ≡ Ok fields
   pub made : IsReadFrom fields job
 

@@ -19,7 +19,7 @@ use Rattle.mb_plan.specs.Fires.{fires}
 use Rattle.mb_plan.specs.declared.rules.Rule.{Rule}
 use Rattle.mb_run.specs.CoreSight.{seat_of, sight_of}
 use Rattle.mb_run.specs.Drives.{HasEachMoment}
-use Rattle.mb_run.specs.Sights.{Seat, omitted_in, undue_in}
+use Rattle.mb_run.specs.Sights.{SightSeat, omitted_in, undue_in}
 use Rattle.mb_run.specs.Recovering.{crossing_of}
 use Rattle.mb_run.specs.Runs.{AreDistinct, AnswersFailed, HasRecords, IsStruckOnceIfPlain, NamesTwo}
 use Rattle.mb_run.specs.Seals.{AreAskedFor, AreInTime, late, omitted}
@@ -27,8 +27,8 @@ use Rattle.mb_run.specs.Served.{AreApart, AreSoundBy, IsApart, calls_in}
 use Rattle.mb_tree.specs.History.{Legal}
 use Rattle.mb_tree.specs.Opening.{opening}
 use Rattle.mb_tree.specs.declared.trees.Tree.{Tree}
-use Rattle.mb_headline.specs.Headline.{HasHistory, HasOrdinals, HasOwnCalls, IsConfigOf, IsRun, opened}
-use Rattle.mb_headline.specs.Laws.{IsEarly, IsPath}
+use Rattle.mb_headline.specs.Headline.{HasHistory, HasOrdinals, HasOwnCalls, IsConfigOf, IsRunOf, opened}
+use Rattle.mb_headline.specs.Laws.{IsEarly, IsPathOfRun}
 use Rattle.mb_run.proofs.Omitted.{none_omitted}
 use Rattle.mb_run.proofs.Sealings.{none_undue}
 use Rattle.mb_headline.proofs.Planned.{fires_early}
@@ -119,7 +119,7 @@ of_declared Fact start bound callers named (entry ∷ history) same are all = (
 
 -- ---- the path
 
-module _ {F D : Type 0} (fs : F) (told : D → Option Image) (faults : D → ℕ) (asked : ℕ) (job : Job) (disk : D) (begun driven ended : CoreState F D) (path : IsPath fs told faults asked job disk begun driven ended) where
+module _ {F D : Type 0} (fs : F) (told : D → Option Image) (faults : D → ℕ) (asked : ℕ) (job : Job) (disk : D) (begun driven ended : CoreState F D) (path : IsPathOfRun fs told faults asked job disk begun driven ended) where
   pub path_first : told ended.first ≡ told disk
   path_first = ap told path.first ∙ path.over.over.first
 
@@ -149,7 +149,7 @@ module _ {F D : Type 0} (fs : F) (told : D → Option Image) (faults : D → ℕ
   path_calls caller low = ap (λ h. calls_in h caller) path_history ∙ path.drives.own_calls caller low
 
   path_begun : total (λ (mine : CallerState). mine.begun) ended.callers ≡ length ended.journal.history
-  path_begun = same_begun ended.callers driven.callers (λ caller. ap (λ (seat : Seat). seat.begun) (path.keeps.seats caller)) ∙ path.drives.begun ∙ ap length (sym path_history)
+  path_begun = same_begun ended.callers driven.callers (λ caller. ap (λ (seat : SightSeat). seat.begun) (path.keeps.seats caller)) ∙ path.drives.begun ∙ ap length (sym path_history)
 
   path_ordinals : HasOrdinals job ended.journal.history
   path_ordinals caller low =
@@ -211,7 +211,7 @@ module _ {F D : Type 0} (fs : F) (told : D → Option Image) (faults : D → ℕ
       let same = ap late path_history in
       omega (arith, none, driving, same)
 
-  pub path_run : AllByRecursion IsEarly job.plan → IsRun told faults asked job disk ended
+  pub path_run : AllByRecursion IsEarly job.plan → IsRunOf told faults asked job disk ended
   path_run early = record {
     right = path.right;
     first = path_first;

@@ -86,7 +86,7 @@ HasOrdinals job history = (caller : ℕ) → caller < length job.callers → Are
 -- time: since the last one no sync(2) was done and fewer operations than the threshold are logged, also where the volume failed.
 -- Where so many checkpoints were asked for, no more were taken where none was due, but for the one that ends the run, and right
 -- behind each sync(2) that was logged one was taken; and once the failed volume answered, every later entry has its answer
-pub record IsRun {F D : Type 0} (told : D → Option Image) (faults : D → ℕ) (asked : ℕ) (job : Job) (disk : D) (core : CoreState F D) : Type 0 where
+pub record IsRunOf {F D : Type 0} (told : D → Option Image) (faults : D → ℕ) (asked : ℕ) (job : Job) (disk : D) (core : CoreState F D) : Type 0 where
   pub right : Right told faults core
   pub first : told core.first ≡ told disk
   pub config : IsConfigOf job core.config
@@ -148,7 +148,7 @@ pub record IsDone {F D : Type 0} (job : Job) (core : CoreState F D) : Type 0 whe
   pub sealed_at : core.journal.sealed_at ≡ length core.journal.history
 
 -- the volume failed: one fault more struck than are survived
-pub record IsGivenUp {F D : Type 0} (job : Job) (core : CoreState F D) : Type 0 where
+pub record HasGivenUp {F D : Type 0} (job : Job) (core : CoreState F D) : Type 0 where
   pub rest : IsAtRest core
   pub failed : core.stage ≡ stage.Failed
   pub many : length core.journal.records ≡ job.limit + 1

@@ -22,7 +22,7 @@ use Rattle.mb_run.specs.Orders.{asked_by}
 use Rattle.mb_run.specs.Seals.{AreInTime}
 use Rattle.mb_run.specs.Settling.{IsSettled, KeepsHistory, SealsAtEnd}
 use Rattle.mb_run.specs.Sights.{Sight}
-use Rattle.mb_headline.specs.Headline.{FewerDevices, IsConfigOf, IsDone, IsGivenUp, IsRun, KeepsOrder, LeavesImage}
+use Rattle.mb_headline.specs.Headline.{FewerDevices, IsConfigOf, IsDone, HasGivenUp, IsRunOf, KeepsOrder, LeavesImage}
 
 -- each caller may begin all its calls
 abbrev pub MayBeginAll : Job → Config → Type 0
@@ -77,7 +77,7 @@ BegunRuns F D told faults = (fs : F) (job : Job) (disk : D) (core : CoreState F 
 
 -- a core that was begun over a disk for a job, the core that a driver of its callers left, and the core at the end; so many
 -- checkpoints were asked for
-pub record IsPath {F D : Type 0} (fs : F) (told : D → Option Image) (faults : D → ℕ) (asked : ℕ) (job : Job) (disk : D) (begun driven ended : CoreState F D) : Type 0 where
+pub record IsPathOfRun {F D : Type 0} (fs : F) (told : D → Option Image) (faults : D → ℕ) (asked : ℕ) (job : Job) (disk : D) (begun driven ended : CoreState F D) : Type 0 where
   pub over : IsBegunFor told faults fs job disk begun
   pub drives : IsDrivenApart job asked (λ (caller : ℕ). Some (fires job.plan)) (sight_of begun) (sight_of driven)
   pub first : ended.first ≡ begun.first
@@ -90,17 +90,17 @@ pub record IsPath {F D : Type 0} (fs : F) (told : D → Option Image) (faults : 
 -- such a run is one of the job, where that is fit to be run
 abbrev pub PathsAreRuns : (F D : Type 0) → (D → Option Image) → (D → ℕ) → Type 0
 PathsAreRuns F D told faults = (fs : F) (asked : ℕ) (job : Job) (disk : D) (begun driven ended : CoreState F D)
-    → IsFitJob job → IsPath fs told faults asked job disk begun driven ended → IsRun told faults asked job disk ended
+    → IsFitJob job → IsPathOfRun fs told faults asked job disk begun driven ended → IsRunOf told faults asked job disk ended
 
 -- where it was settled, it is done or the volume was given up, and the image is that of the last checkpoint
 abbrev pub PathsEnd : (F D : Type 0) → (D → Option Image) → (D → ℕ) → Type 0
 PathsEnd F D told faults = (fs : F) (asked : ℕ) (job : Job) (disk : D) (begun driven ended : CoreState F D)
-    → IsPath fs told faults asked job disk begun driven ended → IsSettled (sight_of driven) (sight_of ended)
-    → (IsDone job ended ⊎ IsGivenUp job ended) × LeavesImage told job disk ended
+    → IsPathOfRun fs told faults asked job disk begun driven ended → IsSettled (sight_of driven) (sight_of ended)
+    → (IsDone job ended ⊎ HasGivenUp job ended) × LeavesImage told job disk ended
 
 -- where the disk failed in the end of the run, fewer calls than its faults were ended by the disk
 abbrev pub PathsFail : (F D : Type 0) → (D → Option Image) → (D → ℕ) → Type 0
 PathsFail F D told faults = (fs : F) (asked : ℕ) (job : Job) (disk : D) (begun driven ended : CoreState F D)
-    → IsPath fs told faults asked job disk begun driven ended → Right told faults driven → driven.first ≡ begun.first
+    → IsPathOfRun fs told faults asked job disk begun driven ended → Right told faults driven → driven.first ≡ begun.first
     → Rose (faults driven.cache.disk) (faults ended.cache.disk)
     → FewerDevices (faults disk) (faults ended.cache.disk) ended.journal.history

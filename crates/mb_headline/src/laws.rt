@@ -27,7 +27,8 @@ pub fn drives_apart()
 {}
 
 /// What that driver leaves keeps the job's order: that of its list, or that of its `order` as far as the callers' first calls go.
-/// In list order the faults of the plan were taken; by an order without faults the event trace begins with those calls.
+/// In list order the faults of the plan were taken, and by an order those where calls enter; by an order without faults the event
+/// trace begins with the callers' first calls.
 pub fn drives_keep_order<F, D: Disk>()
     ensures { DrivesKeepOrder F D D.told D.faults }
 {}

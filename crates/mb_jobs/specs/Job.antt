@@ -12,7 +12,7 @@ use Rattle.mb_jobs.specs.declared.jobs.Job.{Job}
 use Rattle.mb_jobs.specs.declared.jobs.JobCall.{JobCall}
 use Rattle.mb_jobs.specs.declared.jobs.JobFault.{JobFault}
 use Rattle.mb_jobs.specs.declared.jobs.JobFault.TheVariants.{TooLong, NotToml, BadKey, BadCall, BadFault, BadOrder, NoMemory}
-use Rattle.mb_jobs.specs.Keys.{Fields, fields_in}
+use Rattle.mb_jobs.specs.Keys.{KeyFields, fields_in}
 use Rattle.mb_jobs.specs.Lists.{calls_in, with_exits}
 use Rattle.mb_jobs.specs.Orders.{bad_in}
 use Rattle.mb_jobs.specs.Rules.{rules_in}
@@ -22,7 +22,7 @@ abbrev pub table_in : List ℕ → Option Members
 table_in bytes = if is_utf8 bytes then parse_document bytes else None
 
 -- the job of a table's fields, of its calls and of its rules
-abbrev pub job_with : Fields → List JobCall → List Rule → Job
+abbrev pub job_with : KeyFields → List JobCall → List Rule → Job
 job_with fields calls rules =
     record { callers = fields.callers; calls = calls; plan = rules; order = fields.order; start = fields.start; threshold = fields.threshold; limit = fields.limit }
 
@@ -32,17 +32,17 @@ job_ordered (Some place) job = Err (BadOrder place)
 job_ordered None job = Ok job
 
 -- before it comes a fault that is no rule
-abbrev pub job_planned : Fields → List JobCall → Result (List Rule) ℕ → Result Job JobFault
+abbrev pub job_planned : KeyFields → List JobCall → Result (List Rule) ℕ → Result Job JobFault
 job_planned fields calls (Ok rules) = job_ordered (bad_in fields.callers fields.order) (job_with fields calls rules)
 job_planned fields calls (Err index) = Err (BadFault index)
 
 -- before that a call that is none; the rules speak of the calls with the added exits
-abbrev pub job_called : Fields → Result (List JobCall) ℕ → Result Job JobFault
+abbrev pub job_called : KeyFields → Result (List JobCall) ℕ → Result Job JobFault
 job_called fields (Ok calls) = job_planned fields (with_exits fields.callers calls) (rules_in (with_exits fields.callers calls) fields.faults)
 job_called fields (Err index) = Err (BadCall index)
 
 -- before that a bad key
-abbrev pub job_keyed : Result Fields (List ℕ) → Result Job JobFault
+abbrev pub job_keyed : Result KeyFields (List ℕ) → Result Job JobFault
 job_keyed (Ok fields) = job_called fields (calls_in fields.callers fields.calls)
 job_keyed (Err key) = Err (BadKey key)
 
@@ -56,10 +56,10 @@ abbrev pub job_in : List ℕ → Result Job JobFault
 job_in bytes = if nat_le (length bytes) 4194304 then job_of_document (table_in bytes) else Err TooLong
 
 -- what was answered is the job or its refusal, unless memory ran out
-abbrev pub Gives : Result Job JobFault → Result Job JobFault → Type 0
-Gives (Ok job) answer = answer ≡ Ok job
-Gives (Err NoMemory) answer = Unit {0}
-Gives (Err fault) answer = answer ≡ Err fault
+abbrev pub GivesJob : Result Job JobFault → Result Job JobFault → Type 0
+GivesJob (Ok job) answer = answer ≡ Ok job
+GivesJob (Err NoMemory) answer = Unit {0}
+GivesJob (Err fault) answer = answer ≡ Err fault
 
 -- the same of the table
 abbrev pub GivesTable : Result (BTreeMap (String Global) Value) JobFault → Option Members → Type 0

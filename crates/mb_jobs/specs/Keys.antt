@@ -46,7 +46,7 @@ whole_from least most (integer (pos number)) = if nat_le least number && nat_le 
 whole_from least most value = None
 
 -- what a table holds under its keys
-pub record Fields : Type 0 where
+pub record KeyFields : Type 0 where
   pub callers : List Caller
   pub calls : List (List ℕ)
   pub faults : List (List ℕ)
@@ -56,7 +56,7 @@ pub record Fields : Type 0 where
   pub threshold : ℕ
 
 -- fields with as many callers and faults as a job may have
-pub record HasFew (fields : Fields) : Type 0 where
+pub record HasFew (fields : KeyFields) : Type 0 where
   pub callers : length fields.callers ≤ 8
   pub faults : length fields.faults ≤ 1000
 
@@ -76,7 +76,7 @@ abbrev pub order_under : Members → Option (Option (List ℕ))
 order_under members = given None some_order (get_member (codes "order") members)
 
 -- the known keys, in byte order, or the first of them that is bad; the value of `calls` stands apart
-abbrev pub known_beside : Option Data → Members → Result Fields (List ℕ)
+abbrev pub known_beside : Option Data → Members → Result KeyFields (List ℕ)
 known_beside calls members =
     needs (codes "callers") (callers_under members) (λ callers.
     -- it may not be missing
@@ -89,7 +89,7 @@ known_beside calls members =
     Ok (record { callers = callers; calls = calls; faults = faults; limit = limit; order = order; start = start; threshold = threshold }))))))))
 
 -- the same of the whole table
-abbrev pub known_fields : Members → Result Fields (List ℕ)
+abbrev pub known_fields : Members → Result KeyFields (List ℕ)
 known_fields members = known_beside (get_member (codes "calls") members) members
 
 -- one of the seven known keys
@@ -108,21 +108,21 @@ abbrev pub lesser : List ℕ → List ℕ → List ℕ
 lesser key other = if is_lt (slice_cmp nat_cmp key other) then key else other
 
 -- the first of the bad keys
-abbrev pub or_unknown : Option (List ℕ) → Result Fields (List ℕ) → Result Fields (List ℕ)
+abbrev pub or_unknown : Option (List ℕ) → Result KeyFields (List ℕ) → Result KeyFields (List ℕ)
 or_unknown None found = found
 or_unknown (Some key) (Ok fields) = Err key
 or_unknown (Some key) (Err bad) = Err (lesser key bad)
 
 -- what a table holds, or its first bad key: unknown, missing, of another type, or out of range
-abbrev pub fields_in : Members → Result Fields (List ℕ)
+abbrev pub fields_in : Members → Result KeyFields (List ℕ)
 fields_in members = or_unknown (unknown_key members) (known_fields members)
 
 -- the same where the value of `calls` stands apart
-abbrev pub fields_beside : Option Data → Members → Result Fields (List ℕ)
+abbrev pub fields_beside : Option Data → Members → Result KeyFields (List ℕ)
 fields_beside calls members = or_unknown (unknown_key members) (known_beside calls members)
 
 -- what was answered are the fields or the bad key, unless memory ran out
-abbrev pub GivesFields : Result Fields JobFault → Result Fields (List ℕ) → Type 0
+abbrev pub GivesFields : Result KeyFields JobFault → Result KeyFields (List ℕ) → Type 0
 GivesFields (Ok fields) answer = answer ≡ Ok fields
 GivesFields (Err NoMemory) answer = Unit {0}
 GivesFields (Err (BadKey key)) answer = answer ≡ Err key

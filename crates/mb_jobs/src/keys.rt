@@ -15,7 +15,7 @@ use toml::{Table, Value};
 
 /// What a job's table holds under its keys.
 #[derive(Drop)]
-pub(crate) struct Fields<'a> {
+pub(crate) struct KeyFields<'a> {
     pub callers: Vec<Caller>,
     pub calls: Vec<Text>,
     pub faults: Vec<&'a [u8]>,
@@ -25,11 +25,11 @@ pub(crate) struct Fields<'a> {
     pub threshold: u32,
 }
 
-impl<'a> Model for Fields<'a> {
+impl<'a> Model for KeyFields<'a> {
     ghost use Rattle.std.specs.Prelude.{map, option_map};
-    ghost use Rattle.mb_jobs.specs.Keys.{Fields};
+    ghost use Rattle.mb_jobs.specs.Keys.{KeyFields};
 
-    ghost Value = { Fields };
+    ghost Value = { KeyFields };
 
     ghost view = { λ a. record { callers = a.callers.items; calls = a.calls.items; faults = map (λ text. text.now) a.faults.items; limit = a.limit; order = option_map (λ text. text.now) a.order; start = a.start; threshold = a.threshold } };
 }
@@ -149,7 +149,7 @@ fn threshold_at(table: &Table) -> Option<u32>
 }
 
 /// A bad key.
-fn bad<'a>(alloc: Global, key: &[u8]) -> Result<Result<Fields<'a>, Text>, AllocError>
+fn bad<'a>(alloc: Global, key: &[u8]) -> Result<Result<KeyFields<'a>, Text>, AllocError>
     ensures { IfOk result (λ found. found ≡ Err key.now) }
 {
     Ok(Err(Text::from_vec(key.to_vec(alloc)?)))
@@ -161,7 +161,7 @@ fn known_fields(
     alloc: Global,
     calls: Option<Value>,
     table: &Table,
-) -> Result<Result<Fields<'_>, Text>, AllocError>
+) -> Result<Result<KeyFields<'_>, Text>, AllocError>
     ensures exact { IfOk result (λ found. found ≡ known_beside (option_map view calls) (table_view table.now)) }
     ensures few { IfOk result (λ found. IfOk found HasFew) }
 {
@@ -186,7 +186,7 @@ fn known_fields(
     let Some(threshold) = threshold_at(table) else {
         return bad(alloc, b"threshold");
     };
-    Ok(Ok(Fields {
+    Ok(Ok(KeyFields {
         callers,
         calls,
         faults,
@@ -211,8 +211,8 @@ fn lesser(alloc: Global, key: &[u8], other: Text) -> Result<Text, AllocError>
 fn or_unknown<'a>(
     alloc: Global,
     unknown: Option<&[u8]>,
-    found: Result<Fields<'a>, Text>,
-) -> Result<Result<Fields<'a>, Text>, AllocError>
+    found: Result<KeyFields<'a>, Text>,
+) -> Result<Result<KeyFields<'a>, Text>, AllocError>
     requires { IfOk found HasFew }
     ensures exact { IfOk result (λ answer. answer ≡ or_unknown (option_map (λ key. key.now) unknown.entry) found.entry) }
     ensures few { IfOk result (λ answer. IfOk answer HasFew) }
@@ -239,7 +239,7 @@ pub(crate) fn fields_of(
     alloc: Global,
     calls: Option<Value>,
     table: &Table,
-) -> Result<Fields<'_>, JobFault>
+) -> Result<KeyFields<'_>, JobFault>
     ensures exact { GivesFields result (fields_beside (option_map view calls) (table_view table.now)) }
     ensures few { IfOk result HasFew }
 {

@@ -1,12 +1,12 @@
 ghost use Rattle.std.specs.Prelude.{◌≡◌, ◌≤◌, length, Ok, IfOk, option_map};
 ghost use Rattle.toml.specs.View.{table_view};
-ghost use Rattle.mb_jobs.specs.Job.{Gives, GivesTable, job_called, job_in, job_of_document, job_planned, table_in};
+ghost use Rattle.mb_jobs.specs.Job.{GivesJob, GivesTable, job_called, job_in, job_of_document, job_planned, table_in};
 ghost use Rattle.mb_jobs.specs.Keys.{HasFew};
 ghost use Rattle.mb_jobs.specs.Lists.{calls_in};
 
 use crate::exits::with_exits;
 use crate::jobs::{Job, JobCall, JobFault};
-use crate::keys::{Fields, fields_of, take_calls};
+use crate::keys::{KeyFields, fields_of, take_calls};
 use crate::lists::calls_of;
 use crate::orders::bad_in;
 use crate::rules::rules_of;
@@ -52,11 +52,11 @@ fn order_of(alloc: Global, order: Option<&[u8]>) -> Result<Option<Text>, AllocEr
 /// The job of a table's fields, of its calls and of its rules, where its order is one.
 fn ordered(
     alloc: Global,
-    fields: Fields<'_>,
+    fields: KeyFields<'_>,
     calls: Vec<JobCall>,
     rules: Vec<Rule>,
 ) -> Result<Job, JobFault>
-    ensures { Gives result (job_planned fields.entry calls.items (Ok rules.items)) }
+    ensures { GivesJob result (job_planned fields.entry calls.items (Ok rules.items)) }
 {
     if let Some(place) = bad_in(&fields.callers, fields.order) {
         return Err(JobFault::BadOrder { place });
@@ -73,10 +73,10 @@ fn ordered(
 }
 
 /// The job of a table's fields and of its calls.
-fn planned(alloc: Global, fields: Fields<'_>, calls: Vec<JobCall>) -> Result<Job, JobFault>
+fn planned(alloc: Global, fields: KeyFields<'_>, calls: Vec<JobCall>) -> Result<Job, JobFault>
     requires few { HasFew fields }
     requires short { length calls.items ≤ 100000 }
-    ensures { Gives result (job_called fields.entry (Ok calls.items)) }
+    ensures { GivesJob result (job_called fields.entry (Ok calls.items)) }
 {
     let calls = with_exits(alloc, &fields.callers, calls)?;
     match rules_of(alloc, &calls, &fields.faults)? {
@@ -86,9 +86,9 @@ fn planned(alloc: Global, fields: Fields<'_>, calls: Vec<JobCall>) -> Result<Job
 }
 
 /// The job of a table's fields.
-fn job_of_fields(alloc: Global, mut fields: Fields<'_>) -> Result<Job, JobFault>
+fn job_of_fields(alloc: Global, mut fields: KeyFields<'_>) -> Result<Job, JobFault>
     requires few { HasFew fields }
-    ensures { Gives result (job_called fields.entry (calls_in fields.entry.callers fields.entry.calls)) }
+    ensures { GivesJob result (job_called fields.entry (calls_in fields.entry.callers fields.entry.calls)) }
 {
     let texts = mem::replace(&mut fields.calls, Vec::new(alloc));
     match calls_of(alloc, &fields.callers, texts)? {
@@ -104,7 +104,7 @@ fn job_of_fields(alloc: Global, mut fields: Fields<'_>) -> Result<Job, JobFault>
 /// `TooLong`; one that is no UTF-8 or no TOML document is `NotToml`; then come a key, a call, a fault and a
 /// character of the order that is none of those that a job may have there. `NoMemory` may come in place of each.
 pub fn job_of(alloc: Global, bytes: &[u8]) -> Result<Job, JobFault>
-    ensures { Gives result (job_in bytes.now) }
+    ensures { GivesJob result (job_in bytes.now) }
 {
     if bytes.len() > MOST_TEXT {
         return Err(JobFault::TooLong);

@@ -1,5 +1,5 @@
 use crate::volumes::{is_refused, leads_to, used_on, volume};
-use mb_gathering::Gathered;
+use mb_gathering::GatheredBlocks;
 use mb_kinds::Errno;
 use std::process::Abort;
 use std::test::Fail;
@@ -44,7 +44,7 @@ fn super_user_searches(rt: HostRuntime) -> Result<(), Fail> {
 
 fn used_slots_are_counted_over<R: Abort + AllocGlobal>(
     rt: &R,
-    disk: &Gathered,
+    disk: &GatheredBlocks,
 ) -> Result<(), Fail> {
     assert_eq!(rt; used_on(rt.alloc(), disk, 3)?, 5);
     assert_eq!(rt; used_on(rt.alloc(), disk, 5)?, 1000);

@@ -1,5 +1,5 @@
-use crate::volumes::{Ended, find_on, place_on, volume};
-use mb_gathering::{Gathered, nothing, without};
+use crate::volumes::{QueryEnd, find_on, place_on, volume};
+use mb_gathering::{GatheredBlocks, nothing, without};
 use mb_iface::Answer;
 use mb_kinds::Errno;
 use std::process::Abort;
@@ -7,11 +7,11 @@ use std::test::Fail;
 
 fn last_component_may_be_missing_over<R: Abort + AllocGlobal>(
     rt: &R,
-    disk: &Gathered,
+    disk: &GatheredBlocks,
 ) -> Result<(), Fail> {
     let mut view = nothing(rt.alloc());
     match place_on(rt.alloc(), disk, &mut view, 5, b"../big/new/")? {
-        Ended::Found(Answer::Place { dir, name, ino }) => {
+        QueryEnd::Found(Answer::Place { dir, name, ino }) => {
             assert_eq!(rt; dir, 5);
             assert_eq!(rt; name, *b"new\0\0\0\0\0\0\0\0\0\0\0");
             assert_eq!(rt; ino, None);
@@ -19,7 +19,7 @@ fn last_component_may_be_missing_over<R: Abort + AllocGlobal>(
         _ => return Err("no place".into()),
     }
     match place_on(rt.alloc(), disk, &mut view, 5, b"f")? {
-        Ended::Found(Answer::Place { dir, ino, .. }) => {
+        QueryEnd::Found(Answer::Place { dir, ino, .. }) => {
             assert_eq!(rt; dir, 3);
             assert_eq!(rt; ino, Some(4));
         }
@@ -36,15 +36,15 @@ fn last_component_may_be_missing(rt: HostRuntime) -> Result<(), Fail> {
 
 fn path_without_components_over<R: Abort + AllocGlobal>(
     rt: &R,
-    disk: &Gathered,
+    disk: &GatheredBlocks,
 ) -> Result<(), Fail> {
     let mut view = nothing(rt.alloc());
     match place_on(rt.alloc(), disk, &mut view, 5, b"/")? {
-        Ended::Found(Answer::Itself(ino)) => assert_eq!(rt; ino, 2),
+        QueryEnd::Found(Answer::Itself(ino)) => assert_eq!(rt; ino, 2),
         _ => return Err("no start".into()),
     }
     match place_on(rt.alloc(), disk, &mut view, 5, b"")? {
-        Ended::Found(Answer::Itself(ino)) => assert_eq!(rt; ino, 3),
+        QueryEnd::Found(Answer::Itself(ino)) => assert_eq!(rt; ino, 3),
         _ => return Err("no start".into()),
     }
     Ok(())
@@ -56,19 +56,22 @@ fn path_without_components(rt: HostRuntime) -> Result<(), Fail> {
     path_without_components_over(&rt, &disk)
 }
 
-fn errors_of_a_place_over<R: Abort + AllocGlobal>(rt: &R, disk: &Gathered) -> Result<(), Fail> {
+fn errors_of_a_place_over<R: Abort + AllocGlobal>(
+    rt: &R,
+    disk: &GatheredBlocks,
+) -> Result<(), Fail> {
     let mut view = nothing(rt.alloc());
     match place_on(rt.alloc(), disk, &mut view, 5, b"g/x")? {
-        Ended::Refused(error) => assert_eq!(rt; error, Errno::ENOENT),
-        Ended::Found(_) => return Err("a place".into()),
+        QueryEnd::Refused(error) => assert_eq!(rt; error, Errno::ENOENT),
+        QueryEnd::Found(_) => return Err("a place".into()),
     }
     match place_on(rt.alloc(), disk, &mut view, 6, b"x")? {
-        Ended::Refused(error) => assert_eq!(rt; error, Errno::EACCES),
-        Ended::Found(_) => return Err("a place".into()),
+        QueryEnd::Refused(error) => assert_eq!(rt; error, Errno::EACCES),
+        QueryEnd::Found(_) => return Err("a place".into()),
     }
     match place_on(rt.alloc(), disk, &mut view, 5, b"f/x")? {
-        Ended::Refused(error) => assert_eq!(rt; error, Errno::ENOTDIR),
-        Ended::Found(_) => return Err("a place".into()),
+        QueryEnd::Refused(error) => assert_eq!(rt; error, Errno::ENOTDIR),
+        QueryEnd::Found(_) => return Err("a place".into()),
     }
     Ok(())
 }
@@ -81,12 +84,12 @@ fn errors_of_a_place(rt: HostRuntime) -> Result<(), Fail> {
 
 fn each_block_is_asked_for_over<R: Abort + AllocGlobal>(
     rt: &R,
-    disk: &Gathered,
+    disk: &GatheredBlocks,
 ) -> Result<(), Fail> {
     for missing in 0..120 {
         let mut view = without(rt.alloc(), disk, missing)?;
         match find_on(rt.alloc(), disk, &mut view, 5, b"/big/n999")? {
-            Ended::Found(Answer::Node(stat)) => assert_eq!(rt; stat.ino, 4),
+            QueryEnd::Found(Answer::Node(stat)) => assert_eq!(rt; stat.ino, 4),
             _ => return Err("no inode".into()),
         }
     }

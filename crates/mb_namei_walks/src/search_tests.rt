@@ -1,5 +1,5 @@
 use crate::volumes::{numbered, volume, volume_apart};
-use mb_gathering::{Gathered, gather, nothing};
+use mb_gathering::{GatheredBlocks, gather, nothing};
 use mb_iface::Changes;
 use mb_namei::{Sought, search};
 use std::alloc::Global;
@@ -9,7 +9,7 @@ use std::test::Fail;
 /// Searches a directory from a view of nothing, and counts how often blocks were asked for.
 fn search_on(
     heap: Global,
-    disk: &Gathered,
+    disk: &GatheredBlocks,
     dir: u16,
     size: u32,
     name: &[u8],
@@ -33,7 +33,7 @@ fn search_on(
 
 fn slots_of_a_small_directory_over<R: Abort + AllocGlobal>(
     rt: &R,
-    disk: &Gathered,
+    disk: &GatheredBlocks,
 ) -> Result<(), Fail> {
     let (found, _) = search_on(rt.alloc(), disk, 3, 96, b"f")?;
     assert_eq!(rt; found, Sought::Found { at: 3, ino: 4 });
@@ -52,7 +52,7 @@ fn slots_of_a_small_directory(rt: HostRuntime) -> Result<(), Fail> {
     slots_of_a_small_directory_over(&rt, &disk)
 }
 
-fn windows_double_over<R: Abort + AllocGlobal>(rt: &R, disk: &Gathered) -> Result<(), Fail> {
+fn windows_double_over<R: Abort + AllocGlobal>(rt: &R, disk: &GatheredBlocks) -> Result<(), Fail> {
     let (last, asked) = search_on(rt.alloc(), disk, 5, 16_000, &numbered(999))?;
     assert_eq!(rt; last, Sought::Found { at: 999, ino: 4 });
     assert_eq!(rt; asked, 4);
@@ -71,7 +71,7 @@ fn windows_double(rt: HostRuntime) -> Result<(), Fail> {
 
 fn windows_of_blocks_apart_double_over<R: Abort + AllocGlobal>(
     rt: &R,
-    disk: &Gathered,
+    disk: &GatheredBlocks,
 ) -> Result<(), Fail> {
     let (full, asked) = search_on(rt.alloc(), disk, 5, 10_240, b"none")?;
     assert_eq!(rt; full, Sought::Full);

@@ -1,4 +1,4 @@
-use mb_gathering::{Gathered, gather, nothing};
+use mb_gathering::{GatheredBlocks, gather, nothing};
 use mb_iface::{Answer, Asked};
 use mb_kinds::{Cred, Errno, Path, Stat};
 use mb_layout::{Dinode, inode_block, inode_place};
@@ -9,7 +9,7 @@ use std::test::Fail;
 /// Writes an inode whose first ten parts are the blocks from `first` on, as far as its size goes, and
 /// whose single index block is `index`.
 fn put_inode(
-    disk: &mut Gathered,
+    disk: &mut GatheredBlocks,
     ino: u16,
     mode: u16,
     uid: u16,
@@ -46,7 +46,7 @@ fn put_inode(
 }
 
 /// Writes a slot of a directory's block.
-fn put_slot(disk: &mut Gathered, block: u32, at: usize, ino: u8, name: &[u8]) {
+fn put_slot(disk: &mut GatheredBlocks, block: u32, at: usize, ino: u8, name: &[u8]) {
     let mut slot = [0; 16];
     slot[0] = ino;
     for (k, byte) in name.iter().take(14).enumerate() {
@@ -66,7 +66,7 @@ pub fn numbered(at: u32) -> [u8; 4] {
 /// A volume of 120 blocks with 32 inodes. The root is inode 2; `/a` is a directory of inode 3, which
 /// only its owner 5 may search, with a file `f` of inode 4, an emptied slot `gone` and a file of a name
 /// of 14 bytes; `/big` is a directory of inode 5 with 1,000 slots in 32 blocks.
-pub fn volume(heap: Global) -> Result<Gathered, Fail> {
+pub fn volume(heap: Global) -> Result<GatheredBlocks, Fail> {
     let mut disk = nothing(heap);
     for block in 0..120 {
         disk.blocks.put(block, &[0; 512])?;
@@ -109,7 +109,7 @@ pub fn volume(heap: Global) -> Result<Gathered, Fail> {
 
 /// The same volume, where the first 20 blocks of the large directory stand apart: at each second block from
 /// 62 on.
-pub fn volume_apart(heap: Global) -> Result<Gathered, Fail> {
+pub fn volume_apart(heap: Global) -> Result<GatheredBlocks, Fail> {
     let mut disk = volume(heap)?;
     let addresses = 64 * inode_place(5) as usize + 12;
     for part in 0..20_u8 {
@@ -132,7 +132,7 @@ pub fn volume_apart(heap: Global) -> Result<Gathered, Fail> {
 
 /// What a query came to, once every block that it asked for was gathered.
 #[derive(Drop)]
-pub enum Ended {
+pub enum QueryEnd {
     Found(Answer),
     Refused(Errno),
 }
@@ -148,16 +148,16 @@ pub fn path_of(heap: Global, text: &[u8]) -> Result<Path, Fail> {
 /// Finds a path from a view of nothing, and counts the blocks that were asked for.
 pub fn find_on(
     heap: Global,
-    disk: &Gathered,
-    view: &mut Gathered,
+    disk: &GatheredBlocks,
+    view: &mut GatheredBlocks,
     uid: u16,
     text: &[u8],
-) -> Result<Ended, Fail> {
+) -> Result<QueryEnd, Fail> {
     let path = path_of(heap, text)?;
     for _ in 0..40 {
         match find(heap, view, 2, Cred { uid, gid: 9 }, &path) {
-            Asked::Found(answer) => return Ok(Ended::Found(answer)),
-            Asked::Refused(error) => return Ok(Ended::Refused(error)),
+            Asked::Found(answer) => return Ok(QueryEnd::Found(answer)),
+            Asked::Refused(error) => return Ok(QueryEnd::Refused(error)),
             Asked::Need(need) => gather(disk, view, need)?,
             Asked::NoMemory => return Err("no memory".into()),
         }
@@ -168,16 +168,16 @@ pub fn find_on(
 /// Finds the place of a path from a view of nothing.
 pub fn place_on(
     heap: Global,
-    disk: &Gathered,
-    view: &mut Gathered,
+    disk: &GatheredBlocks,
+    view: &mut GatheredBlocks,
     uid: u16,
     text: &[u8],
-) -> Result<Ended, Fail> {
+) -> Result<QueryEnd, Fail> {
     let path = path_of(heap, text)?;
     for _ in 0..40 {
         match place(heap, view, 3, Cred { uid, gid: 9 }, &path) {
-            Asked::Found(answer) => return Ok(Ended::Found(answer)),
-            Asked::Refused(error) => return Ok(Ended::Refused(error)),
+            Asked::Found(answer) => return Ok(QueryEnd::Found(answer)),
+            Asked::Refused(error) => return Ok(QueryEnd::Refused(error)),
             Asked::Need(need) => gather(disk, view, need)?,
             Asked::NoMemory => return Err("no memory".into()),
         }
@@ -186,7 +186,7 @@ pub fn place_on(
 }
 
 /// Counts the used slots of a directory from a view of nothing.
-pub fn used_on(heap: Global, disk: &Gathered, ino: u16) -> Result<u32, Fail> {
+pub fn used_on(heap: Global, disk: &GatheredBlocks, ino: u16) -> Result<u32, Fail> {
     let mut view = nothing(heap);
     for _ in 0..40 {
         match used(heap, &view, ino) {
@@ -202,7 +202,7 @@ pub fn used_on(heap: Global, disk: &Gathered, ino: u16) -> Result<u32, Fail> {
 pub fn leads_to(rt: &HostRuntime, text: &[u8], ino: u16) -> Result<(), Fail> {
     let disk = volume(rt.alloc())?;
     match find_on(rt.alloc(), &disk, &mut nothing(rt.alloc()), 5, text)? {
-        Ended::Found(Answer::Node(Stat { ino: found, .. })) => {
+        QueryEnd::Found(Answer::Node(Stat { ino: found, .. })) => {
             if found == ino {
                 Ok(())
             } else {
@@ -217,13 +217,13 @@ pub fn leads_to(rt: &HostRuntime, text: &[u8], ino: u16) -> Result<(), Fail> {
 pub fn is_refused(rt: &HostRuntime, uid: u16, text: &[u8], error: Errno) -> Result<(), Fail> {
     let disk = volume(rt.alloc())?;
     match find_on(rt.alloc(), &disk, &mut nothing(rt.alloc()), uid, text)? {
-        Ended::Refused(found) => {
+        QueryEnd::Refused(found) => {
             if found == error {
                 Ok(())
             } else {
                 Err("another error".into())
             }
         }
-        Ended::Found(_) => Err("no error".into()),
+        QueryEnd::Found(_) => Err("no error".into()),
     }
 }

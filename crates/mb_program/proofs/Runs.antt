@@ -7,8 +7,8 @@ use Rattle.mb_core_spec.specs.declared.stages.Stage.{Stage}
 use Rattle.mb_core_spec.specs.declared.stages.Stage.TheVariants as stage
 use Rattle.mb_edge.specs.Causes.{Rose}
 use Rattle.mb_fsops.specs.declared.v7.V7.{V7}
-use Rattle.mb_headline.specs.Headline.{EntersAsOrdered, FewerDevices, IsDone, IsGivenUp, IsRun, KeepsOrder, LeavesImage, SealsAsOrdered, SealsBesideEnd}
-use Rattle.mb_headline.specs.Laws.{DrivesKeepOrder, DrivesApart, IsBegunFor, IsFitJob, IsPath, PathsAreRuns, PathsEnd, PathsFail}
+use Rattle.mb_headline.specs.Headline.{EntersAsOrdered, FewerDevices, IsDone, HasGivenUp, IsRunOf, KeepsOrder, LeavesImage, SealsAsOrdered, SealsBesideEnd}
+use Rattle.mb_headline.specs.Laws.{DrivesKeepOrder, DrivesApart, IsBegunFor, IsFitJob, IsPathOfRun, PathsAreRuns, PathsEnd, PathsFail}
 use Rattle.mb_jobs.specs.declared.jobs.Job.{Job}
 use Rattle.mb_kinds.specs.Image.{Image}
 use Rattle.mb_kinds.specs.declared.entries.Entry.{Entry}
@@ -29,7 +29,7 @@ use Rattle.mb_run.specs.Settling.{IsCutShort, IsSettled, KeepsHistory, SealsAtEn
 use Rattle.mb_run.specs.Sights.{IsOrderlyInSight}
 use Rattle.mb_volume_core.proofs.Origins.{origin_of}
 use Rattle.mb_volume_core.specs.declared.volume_core.Origin.{Origin}
-use Rattle.mb_program.specs.Held.{HoldsCore, IsOver, KeepsImage, held_disk}
+use Rattle.mb_program.specs.Held.{HoldsCore, IsCoreOver, KeepsImage, held_disk}
 use Rattle.mb_program.specs.declared.finish.Held.{Held}
 use Rattle.mb_program.specs.declared.finish.Held.TheVariants as held
 use Rattle.mb_program.specs.declared.manners.Manner.{Manner}
@@ -39,7 +39,7 @@ use Rattle.mb_program.specs.declared.outcomes.Outcome.{Outcome}
 use Rattle.mb_program.specs.declared.outcomes.Outcome.TheVariants.{WordsRefused, InputFault, JobRefused, DiskFault, OutOfMemory, Made, Checked, Unsound, Unsettled, GivenUp, Ran}
 
 comes_done : {D : Type 0} (told : D → Option Image) (faults : D → ℕ) (manner : Manner) (job : Job) (disk : D) (core : CoreState V7 D) (outcome : Outcome)
-    → IsRun told faults (asked_for manner job) job disk core → KeepsOrderIfAlone manner job core → ClosesIfAlone manner job core → IsDone job core → LeavesImage told job disk core → SaysText Ran (told_text manner end_text job core) outcome
+    → IsRunOf told faults (asked_for manner job) job disk core → KeepsOrderIfAlone manner job core → ClosesIfAlone manner job core → IsDone job core → LeavesImage told job disk core → SaysText Ran (told_text manner end_text job core) outcome
     → ComesOfCore told faults manner job disk core outcome
 comes_done told faults manner job disk core outcome run order closes all left said =
     elim said [
@@ -48,7 +48,7 @@ comes_done told faults manner job disk core outcome run order closes all left sa
     ]
 
 comes_given_up : {D : Type 0} (told : D → Option Image) (faults : D → ℕ) (manner : Manner) (job : Job) (disk : D) (core : CoreState V7 D) (outcome : Outcome)
-    → IsRun told faults (asked_for manner job) job disk core → KeepsOrderIfAlone manner job core → IsGivenUp job core → LeavesImage told job disk core → SaysText GivenUp (told_text manner failed_text job core) outcome → ComesOfCore told faults manner job disk core outcome
+    → IsRunOf told faults (asked_for manner job) job disk core → KeepsOrderIfAlone manner job core → HasGivenUp job core → LeavesImage told job disk core → SaysText GivenUp (told_text manner failed_text job core) outcome → ComesOfCore told faults manner job disk core outcome
 comes_given_up told faults manner job disk core outcome run order failed left said =
     elim said [
       | inl is ↦ subst (ComesOfCore told faults manner job disk core) (sym is) (record { run = run; order = order; given_up = failed; left = left; printed = refl })
@@ -61,7 +61,7 @@ is_failed _ = ⊥
 
 -- a run that was settled, by whether the volume failed
 pub settled : {D : Type 0} (told : D → Option Image) (faults : D → ℕ) (manner : Manner) (job : Job) (disk : D) (core : CoreState V7 D) (outcome : Outcome)
-    → IsRun told faults (asked_for manner job) job disk core → KeepsOrderIfAlone manner job core → (core.stage ≡ stage.Running → ClosesIfAlone manner job core) → (IsDone job core ⊎ IsGivenUp job core) × LeavesImage told job disk core
+    → IsRunOf told faults (asked_for manner job) job disk core → KeepsOrderIfAlone manner job core → (core.stage ≡ stage.Running → ClosesIfAlone manner job core) → (IsDone job core ⊎ HasGivenUp job core) × LeavesImage told job disk core
     → (core.stage ≡ stage.Failed → SaysText GivenUp (told_text manner failed_text job core) outcome)
     → (core.stage ≢ stage.Failed → SaysText Ran (told_text manner end_text job core) outcome)
     → ComesOfCore told faults manner job disk core outcome
@@ -73,7 +73,7 @@ settled told faults manner job disk core outcome run order closes ends failed ru
 
 -- a run in whose end the disk failed
 pub unsettled : {D : Type 0} (told : D → Option Image) (faults : D → ℕ) (manner : Manner) (job : Job) (disk : D) (core : CoreState V7 D) (outcome : Outcome)
-    → IsRun told faults (asked_for manner job) job disk core → KeepsOrderIfAlone manner job core → FewerDevices (faults disk) (faults core.cache.disk) core.journal.history → Rose (faults disk) (faults core.cache.disk) → IsCutShort (sight_of core)
+    → IsRunOf told faults (asked_for manner job) job disk core → KeepsOrderIfAlone manner job core → FewerDevices (faults disk) (faults core.cache.disk) core.journal.history → Rose (faults disk) (faults core.cache.disk) → IsCutShort (sight_of core)
     → SaysText Unsettled (unsettled_text manner job core) outcome → ComesOfCore told faults manner job disk core outcome
 unsettled told faults manner job disk core outcome run order fewer rose cut said =
     elim said [
@@ -153,7 +153,7 @@ closes_beside manners.Soak job driven ended keeps is order runs = beside_end job
 module _ {D : Type 0} (told : D → Option Image) (faults : D → ℕ) (manner : Manner) (job : Job) (disk : D) (fs : V7) (driven ended : CoreState V7 D)
     (drives : IsDrivenFor told faults manner fs job disk driven) (ended_on : origin_of ended ≡ origin_of driven)
     (keeps : KeepsHistory (sight_of driven) (sight_of ended)) (at_end : SealsAtEnd (sight_of driven) (sight_of ended)) (right : Right told faults ended) (orderly : IsOrderlyInSight (sight_of ended)) where
-  path : IsPath fs told faults (asked_for manner job) job disk drives.begun driven ended
+  path : IsPathOfRun fs told faults (asked_for manner job) job disk drives.begun driven ended
   path = record {
     over = drives.over;
     drives = drives.drives;
@@ -206,7 +206,7 @@ nobody (held.Disk disk) is = is
 nobody (held.Core core) is = is
 
 -- a core that keeps the image
-pub core_keeps : {D : Type 0} (told : D → Option Image) (faults : D → ℕ) (disk : D) (given : Held D) → HoldsCore given (IsOver told faults disk) → KeepsImage told faults disk given
+pub core_keeps : {D : Type 0} (told : D → Option Image) (faults : D → ℕ) (disk : D) (given : Held D) → HoldsCore given (IsCoreOver told faults disk) → KeepsImage told faults disk given
 core_keeps told faults disk (held.Disk back) is = absurd is
 core_keeps told faults disk (held.Core core) is = is
 

@@ -23,13 +23,13 @@ IsUntouched disk (held.Disk back) = back ≡ disk
 IsUntouched disk (held.Core core) = ⊥
 
 -- a core in order that was begun over the disk, whose image it keeps as far as the last checkpoint
-abbrev pub IsOver : {D : Type 0} → (D → Option Image) → (D → ℕ) → D → CoreState V7 D → Type 0
-IsOver told faults disk core = (told core.first ≡ told disk) × Right told faults core
+abbrev pub IsCoreOver : {D : Type 0} → (D → Option Image) → (D → ℕ) → D → CoreState V7 D → Type 0
+IsCoreOver told faults disk core = (told core.first ≡ told disk) × Right told faults core
 
 -- the disk itself is held, with the image that it told, or a core that was begun over it
 abbrev pub KeepsImage : {D : Type 0} → (D → Option Image) → (D → ℕ) → D → Held D → Type 0
 KeepsImage told faults disk (held.Disk back) = told back ≡ told disk
-KeepsImage told faults disk (held.Core core) = IsOver told faults disk core
+KeepsImage told faults disk (held.Core core) = IsCoreOver told faults disk core
 
 -- the core that the run drove is held
 abbrev pub HoldsCore : {D : Type 0} → Held D → (CoreState V7 D → Type 0) → Type 0

@@ -16,7 +16,7 @@ use Rattle.mb_core_events.specs.Beginning.{TellsVolume}
 use Rattle.mb_core_spec.specs.State.{CoreState}
 use Rattle.mb_fsops.specs.declared.v7.V7.{V7}
 use Rattle.mb_gen.specs.Generator.{generated}
-use Rattle.mb_headline.specs.Headline.{FewerDevices, IsDone, IsGivenUp, IsRun, KeepsOrder, LeavesImage, SealsBesideEnd}
+use Rattle.mb_headline.specs.Headline.{FewerDevices, IsDone, HasGivenUp, IsRunOf, KeepsOrder, LeavesImage, SealsBesideEnd}
 use Rattle.mb_headline.specs.Laws.{IsBegunFor}
 use Rattle.mb_jobs.specs.Job.{job_in}
 use Rattle.mb_jobs.specs.declared.jobs.Job.{Job}
@@ -31,7 +31,7 @@ use Rattle.mb_run.specs.CoreSight.{sight_of}
 use Rattle.mb_run.specs.Drives.{IsDrivenApart}
 use Rattle.mb_run.specs.Orders.{asked_by}
 use Rattle.mb_run.specs.Settling.{IsCutShort}
-use Rattle.mb_program.specs.Held.{HoldsCore, HoldsDisk, IsGivenBack, IsOver, IsUntouched, KeepsImage, held_disk}
+use Rattle.mb_program.specs.Held.{HoldsCore, HoldsDisk, IsGivenBack, IsCoreOver, IsUntouched, KeepsImage, held_disk}
 use Rattle.mb_program.specs.declared.finish.Held.{Held}
 use Rattle.mb_program.specs.declared.manners.Manner.{Manner}
 use Rattle.mb_program.specs.declared.manners.Manner.TheVariants as manners
@@ -105,7 +105,7 @@ asked_for manners.Soak job = asked_by job.order
 
 -- a job that was run over a disk to its end, in whatever manner: the volume runs, all is checkpointed, and the image left is that of the history's tree
 pub record IsRunToEnd {D : Type 0} (told : D → Option Image) (faults : D → ℕ) (manner : Manner) (job : Job) (disk : D) (text : List ℕ) (core : CoreState V7 D) : Type 0 where
-  pub run : IsRun told faults (asked_for manner job) job disk core
+  pub run : IsRunOf told faults (asked_for manner job) job disk core
   pub order : KeepsOrderIfAlone manner job core
   pub closes : ClosesIfAlone manner job core
   pub done : IsDone job core
@@ -114,16 +114,16 @@ pub record IsRunToEnd {D : Type 0} (told : D → Option Image) (faults : D → �
 
 -- a job with more faults than the volume survives: the image left is that of the tree at the last checkpoint
 pub record IsRunToFailure {D : Type 0} (told : D → Option Image) (faults : D → ℕ) (manner : Manner) (job : Job) (disk : D) (text : List ℕ) (core : CoreState V7 D) : Type 0 where
-  pub run : IsRun told faults (asked_for manner job) job disk core
+  pub run : IsRunOf told faults (asked_for manner job) job disk core
   pub order : KeepsOrderIfAlone manner job core
-  pub given_up : IsGivenUp job core
+  pub given_up : HasGivenUp job core
   pub left : LeavesImage told job disk core
   pub printed : text ≡ told_text manner failed_text job core
 
 -- a job that was run, where the disk failed in the end of the run: fewer calls than its faults were ended by the disk, and a recovery
 -- is in progress or pages wait to be written back
 pub record IsRunShort {D : Type 0} (told : D → Option Image) (faults : D → ℕ) (manner : Manner) (job : Job) (disk : D) (text : List ℕ) (core : CoreState V7 D) : Type 0 where
-  pub run : IsRun told faults (asked_for manner job) job disk core
+  pub run : IsRunOf told faults (asked_for manner job) job disk core
   pub order : KeepsOrderIfAlone manner job core
   pub fewer : FewerDevices (faults disk) (faults core.cache.disk) core.journal.history
   pub rose : Rose (faults disk) (faults core.cache.disk)
@@ -135,7 +135,7 @@ abbrev pub ComesOfCore : {D : Type 0} → (D → Option Image) → (D → ℕ) �
 ComesOfCore told faults manner job disk core (Ran text) = IsRunToEnd told faults manner job disk text core
 ComesOfCore told faults manner job disk core (GivenUp text) = IsRunToFailure told faults manner job disk text core
 ComesOfCore told faults manner job disk core (Unsettled text) = IsRunShort told faults manner job disk text core
-ComesOfCore told faults manner job disk core OutOfMemory = IsOver told faults disk core
+ComesOfCore told faults manner job disk core OutOfMemory = IsCoreOver told faults disk core
 ComesOfCore told faults manner job disk core _ = ⊥
 
 -- a core that a driver left of one that was begun over a disk for a job, at its end but for want of memory: each caller's calls

@@ -2,7 +2,7 @@ ghost use Rattle.std.specs.Prelude.{◌≡◌, ◌≤◌, ◌≢◌, true, false
 ghost use Rattle.mb_commands.specs.Words.{command_of, is_threaded};
 ghost use Rattle.mb_edge.specs.Causes.{Rose};
 ghost use Rattle.mb_gen.specs.Generator.{generated};
-ghost use Rattle.mb_jobs.specs.Job.{Gives, job_in};
+ghost use Rattle.mb_jobs.specs.Job.{GivesJob, job_in};
 ghost use Rattle.mb_jobs.specs.declared.jobs.Job.{Job};
 ghost use Rattle.mb_jobs.specs.declared.jobs.JobFault.{JobFault};
 ghost use Rattle.mb_program.specs.Held.{held_disk};
@@ -197,7 +197,7 @@ fn read_job<S: Source>(alloc: Global, source: &mut S) -> Result<Job, Outcome>
 
 // The line of a job that is refused.
 fn refusal(alloc: Global, fault: &JobFault) -> Outcome
-    ensures { (found : Result Job JobFault) → Gives (Err fault.now) found → IsRefusal found result }
+    ensures { (found : Result Job JobFault) → GivesJob (Err fault.now) found → IsRefusal found result }
 {
     if let JobFault::NoMemory = fault {
         return Outcome::OutOfMemory;

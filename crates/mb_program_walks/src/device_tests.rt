@@ -3,7 +3,7 @@ use crate::example_tests::{HI_JOB, HI_TEXT};
 use crate::recovery_tests::FAILED_JOB;
 use crate::slow_sinks::SlowSink;
 use crate::trials::{
-    End, Failing, NOTHING_FAILS, disk, first_read, fresh, keeps, left, printed,
+    End, FailingCalls, NOTHING_FAILS, disk, first_read, fresh, keeps, left, printed,
     prints_without_its_first_read, run, sure_source, tells, words_alone,
 };
 use crate::volumes::{hello_volume, is_changed_volume};
@@ -36,7 +36,7 @@ end 3 faults 0 seal 3
 
 #[test]
 fn failing_disk_at_every_write(rt: HostRuntime) -> Result<(), Fail> {
-    let failing = Failing {
+    let failing = FailingCalls {
         writes: &[1, 2, 3, 4, 5, 6, 7, 8],
         ..NOTHING_FAILS
     };
@@ -52,7 +52,7 @@ fn run_with_failing_write(
     write: u64,
 ) -> Result<End, Fail> {
     let writes = [write];
-    let failing = Failing {
+    let failing = FailingCalls {
         writes: &writes,
         ..NOTHING_FAILS
     };
@@ -196,7 +196,7 @@ fn the_disk_fails_at_one_write_of_200_calls(rt: HostRuntime) -> Result<(), Fail>
 }
 
 fn size_is_not_told<R: Abort + AllocGlobal>(rt: &R, list: &[&str]) -> Result<(), Fail> {
-    let failing = Failing {
+    let failing = FailingCalls {
         sizes: &[1],
         ..NOTHING_FAILS
     };
@@ -219,7 +219,7 @@ fn run_with_failing_read(
     read: u64,
 ) -> Result<End, Fail> {
     let reads = [read];
-    let failing = Failing {
+    let failing = FailingCalls {
         reads: &reads,
         ..NOTHING_FAILS
     };
@@ -347,7 +347,7 @@ fn the_disk_fails_one_read_after_another(rt: HostRuntime) -> Result<(), Fail> {
 
 fn input_fails_at<R: Abort + AllocGlobal>(rt: &R, read: u64) -> Result<(), Fail> {
     let inputs = [read];
-    let failing = Failing {
+    let failing = FailingCalls {
         inputs: &inputs,
         ..NOTHING_FAILS
     };
@@ -379,7 +379,7 @@ fn silent_run_leaves<R: Abort + AllocGlobal>(
     job: &str,
     image: &[u8],
 ) -> Result<(), Fail> {
-    let failing = Failing {
+    let failing = FailingCalls {
         outputs: &[1],
         ..NOTHING_FAILS
     };
@@ -471,13 +471,13 @@ fn the_output_fails_at_one_write_after_another(rt: HostRuntime) -> Result<(), Fa
 // The causes in their order: the words, the input, the job, and the image or the disk.
 #[test]
 fn the_first_cause_ends_the_run(rt: HostRuntime) -> Result<(), Fail> {
-    let nothing_works = Failing {
+    let nothing_works = FailingCalls {
         inputs: &[1],
         reads: &[1],
         writes: &[1],
         ..NOTHING_FAILS
     };
-    let the_disk_fails = Failing {
+    let the_disk_fails = FailingCalls {
         reads: &[1],
         writes: &[1],
         ..NOTHING_FAILS

@@ -1,4 +1,4 @@
-use crate::trials::{End, Failing, NOTHING_FAILS, checked, fresh, printed, run, tells};
+use crate::trials::{End, FailingCalls, NOTHING_FAILS, checked, fresh, printed, run, tells};
 use crate::volumes::{hello_volume, put};
 use std::alloc::{AllocError, Global};
 use std::process::Abort;
@@ -126,7 +126,7 @@ fn a_soak_over_what_is_no_volume(rt: HostRuntime) -> Result<(), Fail> {
 #[test]
 fn a_soak_over_a_disk_that_fails(rt: HostRuntime) -> Result<(), Fail> {
     let words = ["soak", "v", "1", "1", "0"];
-    let failing = Failing {
+    let failing = FailingCalls {
         reads: &[1],
         ..NOTHING_FAILS
     };

@@ -29,7 +29,7 @@ pub struct End {
 /// Which calls of the outside fail, each kind of call numbered from 1: reads of the input; how many blocks the disk has, its
 /// reads and its writes; writes of the output.
 #[derive(Clone, Copy, Drop)]
-pub struct Failing<'a> {
+pub struct FailingCalls<'a> {
     pub inputs: &'a [u64],
     pub sizes: &'a [u64],
     pub reads: &'a [u64],
@@ -38,7 +38,7 @@ pub struct Failing<'a> {
 }
 
 /// Nothing of the outside fails.
-pub const NOTHING_FAILS: Failing<'static> = Failing {
+pub const NOTHING_FAILS: FailingCalls<'static> = FailingCalls {
     inputs: &[],
     sizes: &[],
     reads: &[],
@@ -71,7 +71,7 @@ pub fn words_alone(alloc: Global, list: &[&str]) -> Result<Words, Fail>
 }
 
 /// A disk with that image, some calls of which fail.
-pub fn disk(alloc: Global, image: Vec<u8>, failing: Failing) -> Result<MemDisk, Fail> {
+pub fn disk(alloc: Global, image: Vec<u8>, failing: FailingCalls) -> Result<MemDisk, Fail> {
     if image.len() / 512 > ROOM as usize {
         return Err("the image has more blocks than the disk".into());
     }
@@ -181,7 +181,7 @@ fn run_between(
     list: &[&str],
     source: &mut MemSource,
     image: Vec<u8>,
-    failing: Failing,
+    failing: FailingCalls,
     sink: &mut MemSink,
 ) -> Result<End, Fail> {
     let disk = disk(alloc, image, failing)?;
@@ -194,7 +194,7 @@ fn run_from(
     list: &[&str],
     source: &mut MemSource,
     image: Vec<u8>,
-    failing: Failing,
+    failing: FailingCalls,
 ) -> Result<End, Fail> {
     let mut sink = sink(alloc, failing.outputs)?;
     run_between(alloc, list, source, image, failing, &mut sink)
@@ -206,7 +206,7 @@ pub fn run(
     list: &[&str],
     image: Vec<u8>,
     job: &str,
-    failing: Failing,
+    failing: FailingCalls,
 ) -> Result<End, Fail> {
     let mut source = source(alloc, job, failing.inputs)?;
     run_from(alloc, list, &mut source, image, failing)
@@ -252,7 +252,7 @@ pub fn tells<R: Abort + AllocGlobal>(
     list: &[&str],
     image: Vec<u8>,
     job: &str,
-    failing: Failing,
+    failing: FailingCalls,
     status: u8,
     lines: &str,
 ) -> Result<(), Fail> {
@@ -266,7 +266,7 @@ pub fn keeps<R: Abort + AllocGlobal>(
     list: &[&str],
     image: &[u8],
     job: &str,
-    failing: Failing,
+    failing: FailingCalls,
     status: u8,
     lines: &str,
 ) -> Result<(), Fail> {
@@ -363,7 +363,7 @@ pub fn is_fresh(alloc: Global, image: &[u8]) -> Result<bool, Fail> {
 // The status of a run without a call over a copy of that image, one read of which fails.
 fn status_without_read(alloc: Global, image: &[u8], read: u64) -> Result<u8, Fail> {
     let reads = [read];
-    let failing = Failing {
+    let failing = FailingCalls {
         reads: &reads,
         ..NOTHING_FAILS
     };
@@ -395,7 +395,7 @@ pub fn prints_without_its_first_read<R: Abort + AllocGlobal>(
 ) -> Result<(), Fail> {
     let image = fresh(rt.alloc())?;
     let reads = [first_read(rt.alloc(), &image)?];
-    let failing = Failing {
+    let failing = FailingCalls {
         reads: &reads,
         ..NOTHING_FAILS
     };

@@ -23,8 +23,8 @@ use Rattle.mb_run.specs.Events.{Answers, EntersInSight, FaultsWith, FinishesInSi
 use Rattle.mb_run.specs.Recovering.{Waits}
 use Rattle.mb_run.specs.Seals.{is_due}
 use Rattle.mb_run.specs.Sights.{IsOrderlyInSight, SeatHasTicket, Sight, amiss_in, flight_of, late_in, omitted_in, since_in, undue_in}
-use Rattle.mb_run.specs.declared.answers.Enter.{Enter}
-use Rattle.mb_run.specs.declared.answers.Enter.TheVariants as enter
+use Rattle.mb_run.specs.declared.answers.EnterAnswer.{EnterAnswer}
+use Rattle.mb_run.specs.declared.answers.EnterAnswer.TheVariants as enter
 use Rattle.mb_run.proofs.Late.{MayTell, entry_late, runs_not_failed, still_late, told_entering}
 use Rattle.mb_run.proofs.Timely.{logs_prompt, more_omitted, stale_prompt, still_omitted}
 use Rattle.mb_run.proofs.Undue.{entry_undue, in_time_undue, stale_undue_in, still_undue}
@@ -50,7 +50,7 @@ module _ (old new : Sight) (config : new.config ≡ old.config) (log : KeepsLog 
 answers_amiss : (caller : ℕ) (flight : Flight) (answer : Reply) (old new : Sight) → IsOrderlyInSight old → MayTell old.stage answer → Answers caller flight answer old new → amiss_in new ≤ amiss_in old
 answers_amiss caller flight answer old new right tells answers = entry_amiss old new answers.stays.config answers.log (entry_of caller flight None answer) right tells answers.history
 
-pub enters_amiss : (old new : Sight) (caller : ℕ) (call : Call) (answer : Enter) → IsOrderlyInSight old → EntersInSight old new caller call answer → amiss_in new ≤ amiss_in old
+pub enters_amiss : (old new : Sight) (caller : ℕ) (call : Call) (answer : EnterAnswer) → IsOrderlyInSight old → EntersInSight old new caller call answer → amiss_in new ≤ amiss_in old
 enters_amiss old new caller call (enter.Done answer) right (inl left) = still_amiss old new left.1.stays.config left.1.log left.1.counts.history
 enters_amiss old new caller call (enter.Done answer) right (inr ended) = answers_amiss caller (flight_of old caller call (old.seats caller).flight) answer old new right (told_entering old.stage answer ended.1 ended.3) ended.2
 enters_amiss old new caller call enter.Shut right shut = still_amiss old new shut.2.stays.config shut.2.log shut.2.history

@@ -17,7 +17,7 @@ use Rattle.mb_run.specs.Runs.{FirstsRise, HasTakenFaults}
 use Rattle.mb_run.specs.Served.{AreSixCounts, AreStruckOnce, IsAfter, IsRunInOrder, IsServedSoFar, AllUnderWay, calls_of, moments_in}
 use Rattle.mb_run.specs.Orders.{TakesAsked, asked_by, asked_in}
 use Rattle.mb_run.specs.Timely.{IsTimely}
-use Rattle.mb_run.specs.Sights.{IsOrderlyInSight, Limits, Seat, Sight}
+use Rattle.mb_run.specs.Sights.{IsOrderlyInSight, Limits, SightSeat, Sight}
 use Rattle.mb_run.specs.declared.runner.At.TheVariants as at
 use Rattle.mb_run.specs.declared.runner.Runner.{Runner}
 use Rattle.mb_run.proofs.Completing.{calls_few, each_moment}
@@ -56,7 +56,7 @@ begins_underway job test sight runners runnable begun new = record {
 pub begins_after : (job : Job) (test : Option (Crossing → Bool)) (sight : Sight) (runners : List Runner) → IsRunnable job → IsBegun job sight → AreNew runners (length job.callers) → IsAfter job.calls test sight runners 0
 begins_after job test sight runners runnable begun new = record {
   underway = begins_underway job test sight runners runnable begun new;
-  free = λ caller few. ap (λ (s : Seat). s.flight) (begun.seats caller);
+  free = λ caller few. ap (λ (s : SightSeat). s.flight) (begun.seats caller);
   listed = rw begun.history (record { callers = refl; made = refl });
   lined = rw (begun.history, begun.begun) (refl, refl);
   done = λ caller runner here. ap (λ (r : Runner). r.done) (new.each caller runner here);
@@ -74,7 +74,7 @@ never_flight flight same = cc
 nobody : (job : Job) (sight : Sight) (caller moment : ℕ) → IsBegun job sight → HasFirst sight caller moment → ⊥
 nobody job sight caller moment begun has = elim has [
   | inl found ↦ never_entry found.entry (sym (slice_get_past [] found.place (omega arith)) ∙ ap (λ h. slice_get h found.place) (sym begun.history) ∙ found.here)
-  | inr found ↦ never_flight found.flight (ap (λ (s : Seat). s.flight) (sym (begun.seats caller)) ∙ found.here)
+  | inr found ↦ never_flight found.flight (ap (λ (s : SightSeat). s.flight) (sym (begun.seats caller)) ∙ found.here)
 ]
 
 -- nobody called yet
@@ -84,7 +84,7 @@ begins_firsts letters job sight begun = record {
   below = λ caller moment has. absurd (nobody job sight caller moment begun has);
   empty = λ caller moment has zero. nobody job sight caller moment begun has;
   seen_is = λ caller letter has there. absurd (omega (arith, there));
-  later = λ caller letter has past. ap (λ (s : Seat). s.begun) (begun.seats caller);
+  later = λ caller letter has past. ap (λ (s : SightSeat). s.begun) (begun.seats caller);
   rises = λ one other first second before after called here there lower higher less. absurd (nobody job sight one first begun here);
 }
 

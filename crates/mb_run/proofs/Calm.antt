@@ -29,7 +29,7 @@ use Rattle.mb_run.specs.Pages.{has}
 use Rattle.mb_run.specs.Runs.{BeginsWith, EntersFirst, begun_from, caller_of, calm_from, calm_prefix, has_call, has_capital, is_begun, is_calm_next, is_letter_of, is_seal, letter_of, used, with_caller, without_seals}
 use Rattle.mb_run.specs.Seals.{TrailGoesOn}
 use Rattle.mb_run.specs.Served.{AllUnderWay, calls_of}
-use Rattle.mb_run.specs.Sights.{Seat, Sight, recovers}
+use Rattle.mb_run.specs.Sights.{SightSeat, Sight, recovers}
 use Rattle.mb_run.specs.declared.runner.Runner.{Runner}
 use Rattle.mb_run.proofs.Counting.{same_or_not}
 use Rattle.mb_run.proofs.Everybody.{got, put_get, put_here}
@@ -178,7 +178,7 @@ turn_stays : (letters : List ℕ) (calls : List JobCall) (seen : List ℕ) (char
     → IsInTurn letters calls seen old caller letter runner → IsInTurn letters calls (seen ++ character ∷ []) new caller letter runner
 turn_stays letters calls seen character old new caller letter runner begun incarnation seat turn = record {
   outside = λ none called. (let is = turn.outside (sym begun ∙ none) called in
-      record { stands = is.stands; free = ap (λ (s : Seat). s.flight) seat ∙ is.free; begun = ap (λ (s : Seat). s.begun) seat ∙ is.begun; done = is.done });
+      record { stands = is.stands; free = ap (λ (s : SightSeat). s.flight) seat ∙ is.free; begun = ap (λ (s : SightSeat). s.begun) seat ∙ is.begun; done = is.done });
   inside = λ there. (let is = turn.inside (sym begun ∙ there) in record { ticket = is.ticket; stands = is.stands; present = is.present ∙ sym incarnation });
   stood = λ there. (let is = turn.stood (sym begun ∙ there) in let grows = used_grows seen character letter in omega (arith, is, grows));
   bare = λ there few none. (let grows = used_grows seen character letter in
@@ -540,8 +540,8 @@ first_calm letters calls sight runners runs trail seats new = record {
   each = λ caller letter runner has here. record {
     outside = λ none called. record {
       stands = ap (λ (r : Runner). r.at) (new caller runner here);
-      free = ap (λ (s : Seat). s.flight) (seats caller);
-      begun = ap (λ (s : Seat). s.begun) (seats caller);
+      free = ap (λ (s : SightSeat). s.flight) (seats caller);
+      begun = ap (λ (s : SightSeat). s.begun) (seats caller);
       done = ap (λ (r : Runner). r.done) (new caller runner here);
     };
     inside = λ wrong. absurd (no_both (sym wrong));

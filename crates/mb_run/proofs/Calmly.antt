@@ -20,7 +20,7 @@ use Rattle.mb_run.specs.Recovering.{next_of}
 use Rattle.mb_run.specs.Seals.{is_plain}
 use Rattle.mb_run.specs.Served.{ActsAlone, Asks, MayStep}
 use Rattle.mb_run.specs.Sights.{IsOld, Sight, flight_of}
-use Rattle.mb_run.specs.declared.answers.Enter.TheVariants as enter
+use Rattle.mb_run.specs.declared.answers.EnterAnswer.TheVariants as enter
 use Rattle.mb_run.specs.declared.runner.At.{At}
 use Rattle.mb_run.specs.declared.runner.At.TheVariants as at
 use Rattle.mb_run.specs.declared.runner.Runner.{Runner}

@@ -10,7 +10,7 @@ use Rattle.mb_run.specs.Orders.{IsSealedNow, seals_in}
 use Rattle.mb_run.specs.Recovering.{GoOn, Steps, StrikesBy}
 use Rattle.mb_run.specs.Settling.{IsCutShort, IsFlushed, IsSettled, KeepsHistory}
 use Rattle.mb_run.specs.Sights.{IsOrderlyInSight, Sight, recovers}
-use Rattle.mb_run.specs.declared.answers.Stepped.{Stepped}
+use Rattle.mb_run.specs.declared.answers.StepAnswer.{StepAnswer}
 use Rattle.mb_run.specs.declared.settles.SettleEnd.{SettleEnd}
 use Rattle.mb_run.specs.declared.settles.SettleEnd.TheVariants as end
 use Rattle.mb_run.proofs.Quiet.{quiet_alone}
@@ -19,7 +19,7 @@ use Rattle.mb_run.proofs.Taking.{seals_more, takes_one}
 use Rattle.mb_run.proofs.Timely.{alone_told, timely_alone, timely_seal}
 use Rattle.mb_run.proofs.Trails.{trail_put, trail_same, trail_then}
 
-pub alone_keeps : (test : Option (Crossing → Bool)) (old new : Sight) (by : Option Crossings) (answer : Stepped) → GoOn None by → Steps test None by old new answer → KeepsHistory old new
+pub alone_keeps : (test : Option (Crossing → Bool)) (old new : Sight) (by : Option Crossings) (answer : StepAnswer) → GoOn None by → Steps test None by old new answer → KeepsHistory old new
 alone_keeps test old new by answer on steps =
     let quiet = quiet_alone test old new by answer on steps in
     record {

@@ -19,10 +19,10 @@ use Rattle.mb_run.specs.Entering.{EntersIn, HasEnteredPast}
 use Rattle.mb_run.specs.Firsts.{KeepsFirsts}
 use Rattle.mb_run.specs.Runs.{is_plain}
 use Rattle.mb_run.specs.Served.{ActsAlone, AreSixCounts, Did, AsksAtEntry, IsAtBy, IsCounted, InLine, IsBalanced, IsPastOnce, IsStanding, LineBy, MayStep, Nears, advanced, busy, calls_in, calls_of, missing, rank, work}
-use Rattle.mb_run.specs.Sights.{IsOld, IsOrderlyInSight, Limits, Seat, Sight, flight_of, one_if, recovers}
+use Rattle.mb_run.specs.Sights.{IsOld, IsOrderlyInSight, Limits, SightSeat, Sight, flight_of, one_if, recovers}
 use Rattle.mb_run.specs.declared.runner.At.{At}
 use Rattle.mb_run.specs.declared.runner.At.TheVariants as at
-use Rattle.mb_run.specs.declared.answers.Enter.TheVariants as enter
+use Rattle.mb_run.specs.declared.answers.EnterAnswer.TheVariants as enter
 use Rattle.mb_jobs.specs.declared.jobs.JobCall.{JobCall}
 use Rattle.mb_run.specs.declared.progress.Went.{Went}
 use Rattle.mb_run.specs.declared.progress.Went.TheVariants as went
@@ -107,7 +107,7 @@ module _ (calls : List JobCall) (test : Option (Crossing → Bool)) (old : Sight
       did_end new (acts_stays runner.crossings.caller old new leaves.stays leaves.counts.history (elim leaves.floor [ inl none ↦ inl none | inr same ↦ inr (inr same) ]) (firsts_leaves old new runner.crossings.caller flight may.within (counted_from flight.ordinal runner.done was.1) (was.0 ∙ sym was.1) leaves) (trail_marks old.trail new.trail leaves.log.trail)) (line_leaves runner.crossings.caller flight old new leaves) (balanced_same old new leaves.counts) (timely_leaves runner.crossings.caller flight old new leaves) leaves.stays.records (rw leaves.counts.history ended)
       (λ was. rw leaves.counts.history (entries_next test old.records old.history runner.crossings runner.answered runner.at was (advanced runner).crossings refl refl))
       (rw (leaves.mine, leaves.counts.history) (at_leaves (calls_of calls runner.crossings.caller) (calls_in old.history runner.crossings.caller) runner.done (old.seats runner.crossings.caller).begun flight leaves.answered was))
-      (ap (λ (s : Seat). s.flight) leaves.mine)
+      (ap (λ (s : SightSeat). s.flight) leaves.mine)
 
   -- an entry that changes nothing: the call begins, if it had not, and ends
   pub did_answer : (new : Sight) (flight : Flight) (answer : Reply) → Answers runner.crossings.caller flight answer old new → is_plain answer ≡ false → MayTell old.stage answer → flight.answered ≡ false
@@ -123,7 +123,7 @@ module _ (calls : List JobCall) (test : Option (Crossing → Bool)) (old : Sight
       (λ mine. (omega (arith, here.1, may.served.ordinal), own_taken test old.records old.history runner.crossings runner.answered runner.at was entry refl (here.1 ∙ sym may.served.ordinal) (let none = ap one_if unplain in omega (arith, none))), tt)))
       (rw (answers.mine, answers.history, calls_push old.history entry runner.crossings.caller refl)
       (at_ends (calls_of calls runner.crossings.caller) (calls_in old.history runner.crossings.caller) runner.done flight.ordinal flight lacks here))
-      (ap (λ (s : Seat). s.flight) answers.mine)
+      (ap (λ (s : SightSeat). s.flight) answers.mine)
 
   flight : Flight
   flight = flight_of old runner.crossings.caller call (old.seats runner.crossings.caller).flight
@@ -189,7 +189,7 @@ module _ (calls : List JobCall) (test : Option (Crossing → Bool)) (old : Sight
             (omega (arith, limit, same, calm, floor, rank_outside new.incarnation (new.stales runner.crossings.caller) runner.pages runner.at outside, rank_outside old.incarnation (old.stales runner.crossings.caller) runner.pages runner.at outside)),
             ap recovers begins.stays.stage ∙ enters.0,
             outside,
-            (flight_of old runner.crossings.caller call (old.seats runner.crossings.caller).flight, ap (λ (s : Seat). s.flight) begins.mine, enters.1),
+            (flight_of old runner.crossings.caller call (old.seats runner.crossings.caller).flight, ap (λ (s : SightSeat). s.flight) begins.mine, enters.1),
           );
         }
 

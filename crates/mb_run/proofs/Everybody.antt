@@ -13,7 +13,7 @@ use Rattle.mb_run.specs.Sights.{IsOrderlyInSight, Limits, Sight, one_if, recover
 use Rattle.mb_jobs.specs.declared.jobs.JobCall.{JobCall}
 use Rattle.mb_core_spec.specs.declared.stages.Stage.TheVariants as stage
 use Rattle.mb_run.specs.declared.runner.Runner.{Runner}
-use Rattle.mb_run.specs.declared.progress.Turn.TheVariants as turn
+use Rattle.mb_run.specs.declared.progress.StepEnd.TheVariants as turn
 use Rattle.mb_run.proofs.Counting.{same_or_not}
 use Rattle.mb_run.proofs.Lists.{neq}
 use Rattle.mb_run.proofs.Rolling.{other_entered, other_served}

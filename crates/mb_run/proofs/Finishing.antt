@@ -3,7 +3,7 @@ use Rattle.std.proofs.Common.{◌≡◌, List, ◌<◌, Bool, true, false, if◌
 use Rattle.std.proofs.lemmas.Option.{same_Some}
 use Rattle.mb_edge.specs.declared.crossings.Crossing.{Crossing}
 use Rattle.mb_calls.specs.declared.performing.Performed.TheVariants as performed
-use Rattle.mb_calls.specs.declared.performing.Ready.{Ready}
+use Rattle.mb_calls.specs.declared.performing.ReadyCall.{ReadyCall}
 use Rattle.mb_cache.specs.Kept.{KeptBlock, kept_at, shown}
 use Rattle.mb_core_spec.specs.Copies.{PagesState}
 use Rattle.mb_iface.specs.Needs.{IsNeed}
@@ -56,7 +56,7 @@ module _ (calls : List JobCall) (test : Option (Crossing → Bool)) (old : Sight
       ap (λ (f : Flight). f.call) is ∙ sym (same_Some call stood.0.flight.call (sym may.next ∙ at_it.2))
 
   -- what was performed is of the call in flight
-  pub ready_at : (ready : Ready) → PerformsOver runner.pages ticket.caller call ticket.moment (performed.Ready ready) → IsReadyAt old ticket runner.pages ready
+  pub ready_at : (ready : ReadyCall) → PerformsOver runner.pages ticket.caller call ticket.moment (performed.Ready ready) → IsReadyAt old ticket runner.pages ready
   ready_at ready performs flight here =
       let is : flight ≡ stood.0.flight = same_Some flight stood.0.flight (sym here ∙ ap (λ n. (old.seats n).flight) stood.1.mine ∙ stood.0.here) in
       let moment_is : ticket.moment ≡ flight.moment = stood.0.moment ∙ ap (λ (f : Flight). f.moment) (sym is) in
@@ -64,7 +64,7 @@ module _ (calls : List JobCall) (test : Option (Crossing → Bool)) (old : Sight
       (subst (λ made. PerformsOver runner.pages ticket.caller made ticket.moment (performed.Ready ready)) (sym (call_at flight here)) performs)
 
 -- the fault injector let the call go on: its pages are as before
-pub asked_ready : (test : Option (Crossing → Bool)) (old mid : Sight) (before m : Runner) (ticket : Ticket) (kind : Kind) (call : Call) (ready : Ready) → Asks test old mid before m ticket kind false
+pub asked_ready : (test : Option (Crossing → Bool)) (old mid : Sight) (before m : Runner) (ticket : Ticket) (kind : Kind) (call : Call) (ready : ReadyCall) → Asks test old mid before m ticket kind false
     → PerformsOver before.pages ticket.caller call ticket.moment (performed.Ready ready) → PerformsOver m.pages ticket.caller call ticket.moment (performed.Ready ready)
 asked_ready test old mid before m ticket kind call ready asks performs =
     subst (λ (r : Runner). PerformsOver r.pages ticket.caller call ticket.moment (performed.Ready ready)) (sym asks.1) performs

@@ -7,7 +7,7 @@ use Rattle.mb_kinds.specs.declared.entries.Flight.{Flight}
 use Rattle.mb_kinds.specs.declared.replies.Reply.{Reply}
 use Rattle.mb_run.specs.Events.{Answers, BeginsFlight, EndsFlight, entry_of}
 use Rattle.mb_run.specs.Firsts.{BeginsFirst, HasFirst, IsFirstEntry, IsFirstFlight, KeepsFirsts}
-use Rattle.mb_run.specs.Sights.{Limits, Seat, Sight, flight_of, is_new, one_if}
+use Rattle.mb_run.specs.Sights.{Limits, SightSeat, Sight, flight_of, is_new, one_if}
 use Rattle.mb_run.proofs.Balance.{LogsCall}
 use Rattle.mb_run.proofs.Counting.{same_or_not}
 
@@ -60,10 +60,10 @@ firsts_then a b d config one two =
 pub firsts_still : (old new : Sight) → new.history ≡ old.history → new.begun ≡ old.begun → ((caller : ℕ) → new.seats caller ≡ old.seats caller) → KeepsFirsts old new
 firsts_still old new history begun seats = record {
   begun = omega (arith, begun);
-  none = λ caller nil. ap (λ (s : Seat). s.begun) (sym (seats caller)) ∙ nil;
+  none = λ caller nil. ap (λ (s : SightSeat). s.begun) (sym (seats caller)) ∙ nil;
   firsts = λ caller moment has. inl (elim has [
     | inl entry ↦ inl (subst (λ h. IsFirstEntry h caller moment) history entry)
-    | inr flight ↦ inr (subst (λ (s : Seat). IsFirstFlight s.flight moment) (seats caller) flight)
+    | inr flight ↦ inr (subst (λ (s : SightSeat). IsFirstFlight s.flight moment) (seats caller) flight)
   ]);
 }
 
@@ -115,7 +115,7 @@ module _ (old new : Sight) (caller : ℕ) (flight : Flight) (within : caller < o
     begun = begun;
     none = λ other nil. elim (same_or_not other caller) [
       | inl same ↦ absurd (counted (sym now ∙ ap (λ n. (new.seats n).begun) (sym same) ∙ nil))
-      | inr apart ↦ ap (λ (s : Seat). s.begun) (sym (others other apart)) ∙ nil
+      | inr apart ↦ ap (λ (s : SightSeat). s.begun) (sym (others other apart)) ∙ nil
     ];
     firsts = λ other moment has. elim has [
       | inl found ↦ elim (entries found.place found.entry found.here) [
@@ -127,7 +127,7 @@ module _ (old new : Sight) (caller : ℕ) (flight : Flight) (within : caller < o
         | inl same ↦ (let held = flights found.flight (ap (λ n. (new.seats n).flight) (sym same) ∙ found.here) in
             subst (λ n. HasFirst old n moment ⊎ BeginsFirst old new.begun (new.seats n) n moment) (sym same)
             (first_from moment (sym held.0 ∙ found.ordinal) (sym held.1 ∙ found.given)))
-        | inr apart ↦ inl (inr (record { flight = found.flight; here = ap (λ (s : Seat). s.flight) (sym (others other apart)) ∙ found.here; ordinal = found.ordinal; given = found.given }))
+        | inr apart ↦ inl (inr (record { flight = found.flight; here = ap (λ (s : SightSeat). s.flight) (sym (others other apart)) ∙ found.here; ordinal = found.ordinal; given = found.given }))
       ]
     ];
   }
@@ -141,37 +141,37 @@ more_begun old new flight begun = omega (arith, begun)
 -- the call is in flight
 pub firsts_begins : (old new : Sight) (caller : ℕ) (flight : Flight) → caller < old.config.callers → flight.ordinal ≢ 0 → CameFrom old new caller flight → BeginsFlight caller flight old new → KeepsFirsts old new
 firsts_begins old new caller flight within counted came begins =
-    firsts_by old new caller flight within counted (ap (λ (s : Seat). s.begun) begins.mine) came (more_begun old new (old.seats caller).flight begins.begun) begins.stays.seats
+    firsts_by old new caller flight within counted (ap (λ (s : SightSeat). s.begun) begins.mine) came (more_begun old new (old.seats caller).flight begins.begun) begins.stays.seats
     (λ place entry here. inl (subst (λ h. slice_get h place ≡ Some entry) begins.history here))
-    (λ held here. (let is : flight ≡ held = same_Some flight held (ap (λ (s : Seat). s.flight) (sym begins.mine) ∙ here) in (ap (λ (f : Flight). f.ordinal) (sym is), ap (λ (f : Flight). f.moment) (sym is))))
+    (λ held here. (let is : flight ≡ held = same_Some flight held (ap (λ (s : SightSeat). s.flight) (sym begins.mine) ∙ here) in (ap (λ (f : Flight). f.ordinal) (sym is), ap (λ (f : Flight). f.moment) (sym is))))
 
 -- it gets its entry and ends
 pub firsts_answers : (old new : Sight) (caller : ℕ) (flight : Flight) (answer : Reply) → caller < old.config.callers → flight.ordinal ≢ 0 → CameFrom old new caller flight → Answers caller flight answer old new → KeepsFirsts old new
 firsts_answers old new caller flight answer within counted came answers =
-    firsts_by old new caller flight within counted (ap (λ (s : Seat). s.begun) answers.mine) came (more_begun old new (old.seats caller).flight answers.begun) answers.stays.seats
+    firsts_by old new caller flight within counted (ap (λ (s : SightSeat). s.begun) answers.mine) came (more_begun old new (old.seats caller).flight answers.begun) answers.stays.seats
     (λ place entry here. elim (pushed_at old.history (entry_of caller flight None answer) place entry (subst (λ h. slice_get h place ≡ Some entry) answers.history here)) [
       | inl before ↦ inl before
       | inr last ↦ inr (record { own = ap (λ (e : Entry). e.caller) (sym last); ordinal = ap (λ (e : Entry). e.ordinal) (sym last); moment = ap (λ (e : Entry). e.moment) (sym last) })
     ])
-    (λ held here. absurd (never_flight held (ap (λ (s : Seat). s.flight) (sym answers.mine) ∙ here)))
+    (λ held here. absurd (never_flight held (ap (λ (s : SightSeat). s.flight) (sym answers.mine) ∙ here)))
 
 -- it gets its entry and stays
 pub firsts_logs : (old new : Sight) (caller : ℕ) → caller < old.config.callers → (logs : LogsCall caller old new) → logs.flight.ordinal ≢ 0 → KeepsFirsts old new
 firsts_logs old new caller within logs counted =
-    firsts_by old new caller logs.flight within counted (ap (λ (s : Seat). s.begun) logs.mine) (inl (record { was = logs.flight; here = logs.was; ordinal = refl; moment = refl })) (omega (arith, logs.begun)) logs.stays.seats
+    firsts_by old new caller logs.flight within counted (ap (λ (s : SightSeat). s.begun) logs.mine) (inl (record { was = logs.flight; here = logs.was; ordinal = refl; moment = refl })) (omega (arith, logs.begun)) logs.stays.seats
     (λ place entry here. elim (pushed_at old.history (entry_of caller logs.flight logs.pick logs.answer) place entry (subst (λ h. slice_get h place ≡ Some entry) logs.history here)) [
       | inl before ↦ inl before
       | inr last ↦ inr (record { own = ap (λ (e : Entry). e.caller) (sym last); ordinal = ap (λ (e : Entry). e.ordinal) (sym last); moment = ap (λ (e : Entry). e.moment) (sym last) })
     ])
-    (λ held here. (let is : record logs.flight { answered = true } ≡ held = same_Some (record logs.flight { answered = true }) held (ap (λ (s : Seat). s.flight) (sym logs.mine) ∙ here) in
+    (λ held here. (let is : record logs.flight { answered = true } ≡ held = same_Some (record logs.flight { answered = true }) held (ap (λ (s : SightSeat). s.flight) (sym logs.mine) ∙ here) in
     (ap (λ (f : Flight). f.ordinal) (sym is), ap (λ (f : Flight). f.moment) (sym is))))
 
 -- it has its entry and ends
 pub firsts_leaves : (old new : Sight) (caller : ℕ) (flight : Flight) → caller < old.config.callers → flight.ordinal ≢ 0 → (old.seats caller).begun ≡ flight.ordinal → EndsFlight caller flight old new → KeepsFirsts old new
 firsts_leaves old new caller flight within counted last leaves =
-    firsts_by old new caller flight within counted (ap (λ (s : Seat). s.begun) leaves.mine ∙ last) (inl (record { was = flight; here = leaves.was; ordinal = refl; moment = refl })) (omega (arith, leaves.counts.begun)) leaves.stays.seats
+    firsts_by old new caller flight within counted (ap (λ (s : SightSeat). s.begun) leaves.mine ∙ last) (inl (record { was = flight; here = leaves.was; ordinal = refl; moment = refl })) (omega (arith, leaves.counts.begun)) leaves.stays.seats
     (λ place entry here. inl (subst (λ h. slice_get h place ≡ Some entry) leaves.counts.history here))
-    (λ held here. absurd (never_flight held (ap (λ (s : Seat). s.flight) (sym leaves.mine) ∙ here)))
+    (λ held here. absurd (never_flight held (ap (λ (s : SightSeat). s.flight) (sym leaves.mine) ∙ here)))
 
 -- the seat of the caller stays too
 pub firsts_stays : (old new : Sight) (caller : ℕ) → ((other : ℕ) → other ≢ caller → new.seats other ≡ old.seats other) → new.seats caller ≡ old.seats caller → new.history ≡ old.history → new.begun ≡ old.begun → KeepsFirsts old new

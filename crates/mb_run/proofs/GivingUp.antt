@@ -6,7 +6,7 @@ use Rattle.mb_jobs.specs.declared.jobs.JobCall.{JobCall}
 use Rattle.mb_kinds.specs.declared.calls.Call.{Call}
 use Rattle.mb_kinds.specs.declared.entries.Flight.{Flight}
 use Rattle.mb_run.specs.Served.{IsAtBy, IsMarked, IsServedSoFar, MayGiveUp, MayStep, Nears, Turns, AllUnderWay, calls_of}
-use Rattle.mb_run.specs.declared.progress.Turn.TheVariants as turn
+use Rattle.mb_run.specs.declared.progress.StepEnd.TheVariants as turn
 use Rattle.mb_run.proofs.Going.{IsTurning}
 use Rattle.mb_run.proofs.Everybody.{got, put_underway}
 use Rattle.mb_run.specs.Sights.{IsOrderlyInSight, IsWaiting, Sight}

@@ -13,7 +13,7 @@ use Rattle.std.specs.List.{AllByRecursion}
 use Rattle.mb_run.specs.Entering.{AreTakenEntering, HasEnteredPast}
 use Rattle.mb_run.specs.Runs.{IsStruckOnceIfPlain, TakesWhereItEntered}
 use Rattle.mb_run.specs.Served.{AllUnderWay, AreStruckOnce, EntriesAreCalls, IsServedSoFar, HasRun, InLine, IsAfter, IsFloorOf, IsPastOnce, IsRunInOrder, LineBy, MayStep, calls_of}
-use Rattle.mb_run.specs.Sights.{IsOrderlyInSight, Limits, Seat, Sight}
+use Rattle.mb_run.specs.Sights.{IsOrderlyInSight, Limits, SightSeat, Sight}
 use Rattle.mb_jobs.specs.declared.jobs.JobCall.{JobCall}
 use Rattle.mb_run.specs.declared.runner.Runner.{Runner}
 use Rattle.mb_run.proofs.Everybody.{find_here, got, may_of, own_calls, put_get, put_underway}
@@ -78,7 +78,7 @@ module _ (calls : List JobCall) (test : Option (Crossing → Bool)) (old : Sight
         free = λ caller few. elim (same_or_not caller made.caller) [
           | inl same ↦ ap (λ n. (new.seats n).flight) same ∙ freed
           | inr apart ↦ (let less : caller < old.config.callers = omega (arith, few, limit) in
-              ap (λ (s : Seat). s.flight) (ran.nears.acts.seats caller (λ same. apart (same ∙ own))) ∙ after.free caller less)
+              ap (λ (s : SightSeat). s.flight) (ran.nears.acts.seats caller (λ same. apart (same ∙ own))) ∙ after.free caller less)
         ];
         listed = listed_next calls index made old.history new.history ran.nears.acts.entries (calls_of calls made.caller) (get_or runners made.caller d).done now.done (old.seats made.caller).begun (new.seats made.caller).begun (old.seats made.caller).flight (new.seats made.caller).flight here within
             after.listed ran.nears.acts.grown (subst (λ n. AllByRecursion (λ (entry : Entry). entry.caller ≡ n) ran.nears.acts.entries) own ran.nears.acts.theirs) (subst (λ n. slice_get (calls_of calls n) (get_or runners made.caller d).done ≡ Some made.call) own order_may.next) ran.done

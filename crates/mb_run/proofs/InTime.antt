@@ -28,10 +28,10 @@ use Rattle.mb_run.specs.Events.{Answers, EntersInSight, FaultsWith, FinishesInSi
 use Rattle.mb_run.specs.Recovering.{StepEndsByDevice, RunsForFlight, Steps, StrikesBy, Waits}
 use Rattle.mb_run.specs.Seals.{AreInTime, is_due, is_plain, is_sync, is_synced}
 use Rattle.mb_run.specs.Sights.{SeatHasTicket, Limits, Sight, flight_of}
-use Rattle.mb_run.specs.declared.answers.Enter.{Enter}
-use Rattle.mb_run.specs.declared.answers.Enter.TheVariants as enter
-use Rattle.mb_run.specs.declared.answers.Stepped.{Stepped}
-use Rattle.mb_run.specs.declared.answers.Stepped.TheVariants as stepped
+use Rattle.mb_run.specs.declared.answers.EnterAnswer.{EnterAnswer}
+use Rattle.mb_run.specs.declared.answers.EnterAnswer.TheVariants as enter
+use Rattle.mb_run.specs.declared.answers.StepAnswer.{StepAnswer}
+use Rattle.mb_run.specs.declared.answers.StepAnswer.TheVariants as stepped
 use Rattle.mb_run.proofs.Once.{unplain_is}
 
 -- checkpoints are in time as a driver sees it
@@ -100,7 +100,7 @@ answered_time caller flight answer old new is answers was =
 
 -- ---- the events
 
-pub enters_time : (old new : Sight) (caller : ℕ) (call : Call) (answer : Enter) → EntersInSight old new caller call answer → InTime old → InTime new
+pub enters_time : (old new : Sight) (caller : ℕ) (call : Call) (answer : EnterAnswer) → EntersInSight old new caller call answer → InTime old → InTime new
 enters_time old new caller call (enter.Done answer) (inl left) was = kept_time old new left.1.stays.config was left.1.log.ops left.1.log.sealed_at left.1.counts.history
 enters_time old new caller call (enter.Done answer) (inr ended) was = answered_time caller (flight_of old caller call (old.seats caller).flight) answer old new ended.1 ended.2 was
 enters_time old new caller call enter.Shut shut was = kept_time old new shut.2.stays.config was shut.2.log.ops shut.2.log.sealed_at shut.2.history
@@ -183,7 +183,7 @@ device_time (Some before) old new runs ends was = let of = runs before refl in a
 pub if_some_at : {X : Type 0} (P : X → Type 0) (found : Option X) → IfSome found P → (x : X) → found ≡ Some x → P x
 if_some_at {X = X} P found holds x is = subst (λ (o : Option X). IfSome o P) is holds
 
-pub steps_time : (test : Option (Crossing → Bool)) (before now : Option Crossings) (old new : Sight) (answer : Stepped) → ((c : Crossings) → before ≡ Some c → RunsForFlight old c) → Steps test before now old new answer → InTime old → InTime new
+pub steps_time : (test : Option (Crossing → Bool)) (before now : Option Crossings) (old new : Sight) (answer : StepAnswer) → ((c : Crossings) → before ≡ Some c → RunsForFlight old c) → Steps test before now old new answer → InTime old → InTime new
 steps_time test before now old new stepped.Idle runs steps was = same_time old new steps.1 was
 steps_time test before now old new (stepped.Failed faults) runs steps was = elim steps.1 [ inl waited ↦ waits_time old new waited.1 was | inr strikes ↦ strikes_time test before now old new strikes was ]
 steps_time test before now old new stepped.Resumed runs steps was = waits_time old new steps.2.waits was

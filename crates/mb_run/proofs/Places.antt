@@ -4,7 +4,7 @@ use Rattle.mb_kinds.specs.declared.calls.Call.{Call}
 use Rattle.mb_kinds.specs.declared.entries.Flight.{Flight}
 use Rattle.mb_run.specs.Served.{IsAtBy}
 use Rattle.mb_run.specs.Sights.{Sight, flight_of, one_if}
-use Rattle.mb_run.specs.Sights.{SeatHasTicket, IsTicketOf, Seat}
+use Rattle.mb_run.specs.Sights.{SeatHasTicket, IsTicketOf, SightSeat}
 use Rattle.mb_kinds.specs.declared.faults.Ticket.{Ticket}
 use Rattle.std.proofs.Common.{Bool}
 use Rattle.mb_run.proofs.Lists.{take_next}
@@ -35,5 +35,5 @@ pub at_ends : (list made : List Call) (done begun : ℕ) (flight : Flight) → f
 at_ends list made done begun flight lacks at = at_leaves list (made ++ flight.call ∷ []) done flight.ordinal (record flight { answered = true }) refl (at_logs list made done begun flight lacks at)
 
 -- a ticket of a call in flight
-pub of_ticket : (done : Bool) (seat : Seat) (ticket : Ticket) → SeatHasTicket done seat ticket → IsTicketOf seat ticket
+pub of_ticket : (done : Bool) (seat : SightSeat) (ticket : Ticket) → SeatHasTicket done seat ticket → IsTicketOf seat ticket
 of_ticket done seat ticket has = (has.flight, has.here, has.mine)

@@ -16,8 +16,8 @@ use Rattle.mb_run.specs.Recovering.{GoOn, Steps, Waits}
 use Rattle.mb_run.specs.Served.{ActsAlone, AllUnderWay, calls_of}
 use Rattle.mb_run.specs.Sights.{IsOrderlyInSight, Limits, Sight, recovers}
 use Rattle.mb_run.specs.Timely.{IsTimely}
-use Rattle.mb_run.specs.declared.answers.Stepped.{Stepped}
-use Rattle.mb_run.specs.declared.answers.Stepped.TheVariants as stepped
+use Rattle.mb_run.specs.declared.answers.StepAnswer.{StepAnswer}
+use Rattle.mb_run.specs.declared.answers.StepAnswer.TheVariants as stepped
 use Rattle.mb_run.specs.declared.runner.Runner.{Runner}
 use Rattle.mb_run.proofs.Balance.{balanced_same}
 use Rattle.mb_run.proofs.Firsts.{firsts_still}
@@ -130,7 +130,7 @@ quiet_waits old new waits records recovered = record {
 }
 
 -- a step of a recovery that nobody runs
-quiet_step : (test : Option (Crossing → Bool)) (old new : Sight) (answer : Stepped) → Steps test None None old new answer → IsQuiet old new
+quiet_step : (test : Option (Crossing → Bool)) (old new : Sight) (answer : StepAnswer) → Steps test None None old new answer → IsQuiet old new
 quiet_step test old new stepped.Idle steps = quiet_same old new steps.1
 quiet_step test old new (stepped.Unwound ticket) steps = quiet_waits old new steps.1.waits steps.1.records steps.1.recovered
 quiet_step test old new (stepped.Failed faults) steps = elim steps.1 [
@@ -146,6 +146,6 @@ quiet_step test old new (stepped.Again faults) steps = absurd steps.1
 quiet_step test old new stepped.Device steps = quiet_same old new steps.1
 quiet_step test old new stepped.NoMemory steps = quiet_same old new steps
 
-pub quiet_alone : (test : Option (Crossing → Bool)) (old new : Sight) (by : Option Crossings) (answer : Stepped) → GoOn None by → Steps test None by old new answer → IsQuiet old new
+pub quiet_alone : (test : Option (Crossing → Bool)) (old new : Sight) (by : Option Crossings) (answer : StepAnswer) → GoOn None by → Steps test None by old new answer → IsQuiet old new
 quiet_alone test old new None answer on steps = quiet_step test old new answer steps
 quiet_alone test old new (Some crossings) answer on steps = absurd on

@@ -26,8 +26,8 @@ use Rattle.mb_jobs.specs.declared.jobs.JobCall.{JobCall}
 use Rattle.mb_core_spec.specs.declared.stages.Stage.{Stage}
 use Rattle.mb_core_spec.specs.declared.stages.Stage.TheVariants as stage
 use Rattle.mb_run.specs.Tallies.{count_of}
-use Rattle.mb_run.specs.declared.answers.Stepped.{Stepped}
-use Rattle.mb_run.specs.declared.answers.Stepped.TheVariants as stepped
+use Rattle.mb_run.specs.declared.answers.StepAnswer.{StepAnswer}
+use Rattle.mb_run.specs.declared.answers.StepAnswer.TheVariants as stepped
 use Rattle.mb_run.specs.declared.progress.Went.{Went}
 use Rattle.mb_run.specs.declared.progress.Went.TheVariants as went
 use Rattle.mb_run.specs.declared.runner.Runner.{Runner}
@@ -312,12 +312,12 @@ other_entered test caller other old new runner own apart acts was =
 rolled_ended : (calls : List JobCall) (test : Option (Crossing → Bool)) (old new : Sight) (before now : Runner) → Did calls test old new before now went.Ended → Rolled calls test old new before now went.Ended
 rolled_ended calls test old new before now did = record { nears = did.nears; goes = did.goes }
 
-abbrev pub rolled_went : Stepped → Went
+abbrev pub rolled_went : StepAnswer → Went
 rolled_went (stepped.Failed faults) = went.Back
 rolled_went stepped.Resumed = went.Back
 rolled_went _ = went.On
 
-abbrev pub Ends : Stepped → Type 0
+abbrev pub Ends : StepAnswer → Type 0
 Ends stepped.Idle = Unit {0}
 Ends stepped.Device = Unit {0}
 Ends stepped.NoMemory = Unit {0}
@@ -327,7 +327,7 @@ module _ (calls : List JobCall) (test : Option (Crossing → Bool)) (old : Sight
   none_still : (now : Crossings) → now ≡ runner.crossings → count_of now Enter ≡ count_of runner.crossings Enter
   none_still now same = ap (λ (c : Crossings). count_of c Enter) same
 
-  pub did_roll : (new : Sight) (now : Crossings) (answer : Stepped) → CrossingsGoOn runner.crossings now → IsOrderlyInSight new → Steps test (Some runner.crossings) (Some now) old new answer → (Ends answer → ⊥)
+  pub did_roll : (new : Sight) (now : Crossings) (answer : StepAnswer) → CrossingsGoOn runner.crossings now → IsOrderlyInSight new → Steps test (Some runner.crossings) (Some now) old new answer → (Ends answer → ⊥)
       → Rolled calls test old new runner (with_crossings runner now) (rolled_went answer)
   did_roll new now stepped.Idle on right steps goes = absurd (goes tt)
   did_roll new now (stepped.Unwound ticket) on right steps goes = rolled_on calls test old runner call may rests new now on (none_still now steps.3) waiting steps.1 steps.0
@@ -345,7 +345,7 @@ module _ (calls : List JobCall) (test : Option (Crossing → Bool)) (old : Sight
   did_roll new now stepped.NoMemory on right steps goes = absurd (goes tt)
 
 module _ (calls : List JobCall) (test : Option (Crossing → Bool)) (old : Sight) (runner : Runner) (call : Call) (may : MayStep calls test old runner call) (rests : IsResting old.incarnation runner.at) (waiting : IsWaiting (old.seats runner.crossings.caller)) where
-  pub kept_roll : (new : Sight) (by : Option Crossings) (now : Runner) (answer : Stepped) → GoOn (Some runner.crossings) by → IsOrderlyInSight new → Steps test (Some runner.crossings) by old new answer → (Ends answer → ⊥) → CrossingsAreKept runner by now
+  pub kept_roll : (new : Sight) (by : Option Crossings) (now : Runner) (answer : StepAnswer) → GoOn (Some runner.crossings) by → IsOrderlyInSight new → Steps test (Some runner.crossings) by old new answer → (Ends answer → ⊥) → CrossingsAreKept runner by now
       → Rolled calls test old new runner now (rolled_went answer)
   kept_roll new None now answer on right steps goes keeps = absurd keeps
   kept_roll new (Some crossings) now answer on right steps goes keeps =

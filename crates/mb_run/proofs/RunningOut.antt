@@ -6,7 +6,7 @@ use Rattle.mb_kinds.specs.declared.calls.Call.{Call}
 use Rattle.mb_run.specs.Orders.{AnswersGrow, AnswersOneMore, MovesCall, done_by}
 use Rattle.mb_run.specs.Served.{Did, HasRun, RunsRecovery, Turns, calls_of, work}
 use Rattle.mb_run.specs.Sights.{Sight}
-use Rattle.mb_run.specs.declared.progress.Turn.TheVariants as turn
+use Rattle.mb_run.specs.declared.progress.StepEnd.TheVariants as turn
 use Rattle.mb_run.specs.declared.progress.Went.TheVariants as went
 use Rattle.mb_run.specs.declared.runner.Runner.{Runner}
 use Rattle.mb_run.proofs.Everybody.{got, put_here}

@@ -16,7 +16,7 @@ use Rattle.mb_run.specs.Letters.{AreLetters, BeginsAlone, BeginsByLetter, HasBeg
 use Rattle.mb_run.specs.Orders.{HasLetter, HasCallOpen, IsQuiet, MovesCall}
 use Rattle.mb_run.specs.Runs.{is_letter_of, letter_of}
 use Rattle.mb_run.specs.Served.{ActsAlone, Did, IsAtBy, IsServedSoFar, IsStanding, MayStep, Rolled, AllUnderWay, calls_in, calls_of}
-use Rattle.mb_run.specs.Sights.{AreApart, Seat, Sight}
+use Rattle.mb_run.specs.Sights.{AreApart, SightSeat, Sight}
 use Rattle.mb_run.specs.declared.progress.Went.{Went}
 use Rattle.mb_run.specs.declared.progress.Went.TheVariants as went
 use Rattle.mb_run.specs.declared.runner.At.{At}
@@ -105,7 +105,7 @@ past_begun calls test sight runners caller x underway low none called nil =
 
 -- steps of one caller
 pub acts_alone : (caller : ℕ) (old new : Sight) → ActsAlone caller old new → BeginsAlone (Some caller) old new
-acts_alone caller old new acts other apart nil = ap (λ (s : Seat). s.begun) (acts.seats other (λ same. apart (ap Some (sym same)))) ∙ nil
+acts_alone caller old new acts other apart nil = ap (λ (s : SightSeat). s.begun) (acts.seats other (λ same. apart (ap Some (sym same)))) ∙ nil
 
 -- of the caller at a place of the list
 pub letter_begun : (calls : List JobCall) (test : Option (Crossing → Bool)) (old new : Sight) (runners : List Runner) (caller : ℕ) (d now : Runner) → AllUnderWay calls test old runners → caller < length runners
@@ -119,13 +119,13 @@ letter_acts calls test old new runners caller d now underway low moves =
     subst (λ n. BeginsAlone (Some n) old new) (underway.served caller (get_or runners caller d) (got runners caller d low)).caller_is (acts_alone (get_or runners caller d).crossings.caller old new moves.nears.acts)
 
 pub quiet_alone : (old new : Sight) → IsQuiet old new → BeginsAlone None old new
-quiet_alone old new quiet other apart nil = ap (λ (s : Seat). s.begun) (quiet.seats other) ∙ nil
+quiet_alone old new quiet other apart nil = ap (λ (s : SightSeat). s.begun) (quiet.seats other) ∙ nil
 
 -- steps of a caller that had begun
 pub open_alone : (sight new : Sight) (runners : List Runner) (caller : ℕ) → HasCallOpen sight runners caller → ActsAlone caller sight new → BeginsAlone None sight new
 open_alone sight new runners caller open_at acts other apart nil = elim (same_or_not other caller) [
   | inl same ↦ (let is : (sight.seats caller).begun ≡ 0 = ap (λ n. (sight.seats n).begun) (sym same) ∙ nil in absurd (omega (arith, is, open_at.more)))
-  | inr other_one ↦ ap (λ (s : Seat). s.begun) (acts.seats other other_one) ∙ nil
+  | inr other_one ↦ ap (λ (s : SightSeat). s.begun) (acts.seats other other_one) ∙ nil
 ]
 
 pub open_rolls : (calls : List JobCall) (test : Option (Crossing → Bool)) (old new : Sight) (runners : List Runner) (caller : ℕ) (d now : Runner) (came : Went) → AllUnderWay calls test old runners → HasCallOpen old runners caller

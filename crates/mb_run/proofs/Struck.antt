@@ -13,7 +13,7 @@ use Rattle.mb_run.specs.Pages.{has}
 use Rattle.mb_run.specs.Entering.{EntersIn, EntersSoFar}
 use Rattle.mb_run.specs.Events.{StrikesCall}
 use Rattle.mb_run.specs.Served.{Asks, AreSound, Did, IsCounted, MayStep, Nears, backed, busy, counted, missing, rank, work}
-use Rattle.mb_run.specs.Sights.{SeatHasTicket, IsOld, IsOrderlyInSight, Limits, Seat, Sight, one_if, recovers}
+use Rattle.mb_run.specs.Sights.{SeatHasTicket, IsOld, IsOrderlyInSight, Limits, SightSeat, Sight, one_if, recovers}
 use Rattle.mb_run.specs.Tallies.{is_in}
 use Rattle.mb_run.specs.declared.runner.At.{At}
 use Rattle.mb_run.specs.declared.runner.At.TheVariants as at
@@ -80,7 +80,7 @@ pub record Stands (sight : Sight) (caller : ℕ) (runner : Runner) (ticket : Tic
   pub has : SeatHasTicket done (sight.seats caller) ticket
   pub past : ticket.incarnation ≤ sight.incarnation
 
-old_flight : (incarnation : ℕ) (seat : Seat) (done : Bool) (ticket : Ticket) → SeatHasTicket done seat ticket → ticket.incarnation < incarnation → IsOld incarnation seat.flight
+old_flight : (incarnation : ℕ) (seat : SightSeat) (done : Bool) (ticket : Ticket) → SeatHasTicket done seat ticket → ticket.incarnation < incarnation → IsOld incarnation seat.flight
 old_flight incarnation seat done ticket here past = rw here.here (rw here.mine past)
 
 module _ (calls : List JobCall) (test : Option (Crossing → Bool)) (old : Sight) (runner : Runner) (call : Call) (may : MayStep calls test old runner call) where

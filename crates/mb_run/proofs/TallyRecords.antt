@@ -115,12 +115,6 @@ one_if_so true b so = (let is = ap one_if (so refl) in omega (arith, is))
 one_if_so false b so = omega arith
 
 -- a struck fault point stays struck
-struck_stays : (records : List FaultRecord) (fault : FaultRecord) (caller ordinal : ℕ) (kind : Kind) (nth : ℕ) → is_struck_at records caller ordinal kind nth ≡ true → is_struck_at (records ++ fault ∷ []) caller ordinal kind nth ≡ true
-struck_stays records fault caller ordinal kind nth is =
-    let test : FaultRecord → Bool = λ (f : FaultRecord). is_of caller ordinal kind f && nat_eq f.nth nth in
-    list_any-append test records (fault ∷ []) ∙ or_left (list_any test records) (list_any test (fault ∷ [])) is
-
--- and where more records come
 struck_on : (records more : List FaultRecord) (caller ordinal : ℕ) (kind : Kind) (nth : ℕ) → is_struck_at records caller ordinal kind nth ≡ true → is_struck_at (records ++ more) caller ordinal kind nth ≡ true
 struck_on records more caller ordinal kind nth is =
     let test : FaultRecord → Bool = λ (f : FaultRecord). is_of caller ordinal kind f && nat_eq f.nth nth in
@@ -136,8 +130,7 @@ up_to_none None records caller ordinal kind = tt
 up_to_none (Some fires) records caller ordinal kind = λ nth one high holds. absurd (omega (arith, one, high))
 
 pub up_to_stays : (test : Option (Crossing → Bool)) (records : List FaultRecord) (fault : FaultRecord) (caller ordinal : ℕ) (kind : Kind) (most : ℕ) → TakesUpTo test records caller ordinal kind most → TakesUpTo test (records ++ fault ∷ []) caller ordinal kind most
-up_to_stays None records fault caller ordinal kind most taken = tt
-up_to_stays (Some fires) records fault caller ordinal kind most taken = λ nth low high holds. struck_stays records fault caller ordinal kind nth (taken nth low high holds)
+up_to_stays test records fault caller ordinal kind most taken = up_to_on test records (fault ∷ []) caller ordinal kind most taken
 
 pub up_to_less : (test : Option (Crossing → Bool)) (records : List FaultRecord) (caller ordinal : ℕ) (kind : Kind) (most less : ℕ) → less ≤ most → TakesUpTo test records caller ordinal kind most → TakesUpTo test records caller ordinal kind less
 up_to_less None records caller ordinal kind most less low taken = tt
@@ -355,7 +348,7 @@ module _ (crossings : Crossings) (kind : Kind) (are : AreSixCounts crossings) wh
           → TakesUpTo told (records ++ fault_at crossings kind next ∷ []) crossings.caller crossings.ordinal kind (count_of (counted crossings kind) kind)
       struck None was = tt
       struck (Some fires) was = λ nth one high holds. elim (leb_tells nth (count_of crossings kind)) [
-        | inl low ↦ struck_stays records (fault_at crossings kind next) crossings.caller crossings.ordinal kind nth (was nth one low.1 holds)
+        | inl low ↦ struck_on records (fault_at crossings kind next ∷ []) crossings.caller crossings.ordinal kind nth (was nth one low.1 holds)
         | inr above ↦ struck_here records crossings kind next nth (sym (is_next nth high above.1))
       ]
 

@@ -20,8 +20,8 @@ use Rattle.mb_run.specs.Runs.{TakesUpTo, has_device, is_near, is_owed, recoverie
 use Rattle.mb_run.specs.Served.{AreSixCounts, IsAtBy, IsResting, CrossingsAreKept, MayStep, advanced, calls_in, calls_of, with_crossings}
 use Rattle.mb_run.specs.Sights.{IsWaiting, Sight, one_if, recovers}
 use Rattle.mb_run.specs.Tallies.{HasPassedAtLeast, HasPassedPoints, IsBetween, IsPast, IsUpToDate, IsRestarted, IsTallied, TalliedBy, count_of}
-use Rattle.mb_run.specs.declared.answers.Stepped.{Stepped}
-use Rattle.mb_run.specs.declared.answers.Stepped.TheVariants as stepped
+use Rattle.mb_run.specs.declared.answers.StepAnswer.{StepAnswer}
+use Rattle.mb_run.specs.declared.answers.StepAnswer.TheVariants as stepped
 use Rattle.mb_run.specs.declared.runner.At.{At}
 use Rattle.mb_run.specs.declared.runner.At.TheVariants as at
 use Rattle.mb_run.specs.declared.runner.Runner.{Runner}
@@ -238,7 +238,7 @@ module _ (test : Option (Crossing → Bool)) (old new : Sight) (runner : Runner)
             (let same = counted_there runner.crossings Replay are Remount (λ is. omega (arith, is)) in let all = none_owed replays.0 strikes.recovered in omega (arith, same, all)) on))
       ])
 
-  rolled : (crossings : Crossings) (answer : Stepped) → Steps test (Some runner.crossings) (Some crossings) old new answer → (Ends answer → ⊥) → IsTallied test new (with_crossings runner crossings) at.Outside
+  rolled : (crossings : Crossings) (answer : StepAnswer) → Steps test (Some runner.crossings) (Some crossings) old new answer → (Ends answer → ⊥) → IsTallied test new (with_crossings runner crossings) at.Outside
   rolled crossings stepped.Idle steps goes = absurd (goes tt)
   rolled crossings (stepped.Unwound ticket) steps goes = steps_none crossings steps.3 steps.1 steps.2
   rolled crossings (stepped.Failed faults) steps goes = elim steps.1 [
@@ -272,7 +272,7 @@ module _ (test : Option (Crossing → Bool)) (old new : Sight) (runner : Runner)
   rolled crossings stepped.Device steps goes = absurd (goes tt)
   rolled crossings stepped.NoMemory steps goes = absurd (goes tt)
 
-  rolled_by : (crossings : Crossings) (answer : Stepped) → runner.at ≡ at.Outside → Steps test (Some runner.crossings) (Some crossings) old new answer → (Ends answer → ⊥) → (now : Runner) → now ≡ with_crossings runner crossings → IsTallied test new now now.at
+  rolled_by : (crossings : Crossings) (answer : StepAnswer) → runner.at ≡ at.Outside → Steps test (Some runner.crossings) (Some crossings) old new answer → (Ends answer → ⊥) → (now : Runner) → now ≡ with_crossings runner crossings → IsTallied test new now now.at
   rolled_by crossings answer outside steps goes now is =
       subst (λ (r : Runner). IsTallied test new r r.at) (sym is) (subst (IsTallied test new (with_crossings runner crossings)) (sym outside) (rolled crossings answer steps goes))
 
@@ -289,12 +289,12 @@ module _ (calls : List JobCall) (test : Option (Crossing → Bool)) (old : Sight
   as_outside : IsTallied test old runner runner.at → IsTallied test old runner at.Outside
   as_outside tally = subst (IsTallied test old runner) (outside_is tally) tally
 
-  tallied_on : (new : Sight) (now : Runner) (by : Option Crossings) (answer : Stepped) → GoOn (Some runner.crossings) by → Steps test (Some runner.crossings) by old new answer → (Ends answer → ⊥) → CrossingsAreKept runner by now → IsTallied test old runner runner.at
+  tallied_on : (new : Sight) (now : Runner) (by : Option Crossings) (answer : StepAnswer) → GoOn (Some runner.crossings) by → Steps test (Some runner.crossings) by old new answer → (Ends answer → ⊥) → CrossingsAreKept runner by now → IsTallied test old runner runner.at
       → IsTallied test new now now.at
   tallied_on new now None answer on steps goes keeps tally = absurd keeps
   tallied_on new now (Some crossings) answer on steps goes keeps tally = rolled_by test old new runner may.counts few (as_outside tally) lacks_it crossings answer (outside_is tally) steps goes now keeps
 
-  pub tallied_roll : (new : Sight) (now : Runner) (by : Option Crossings) (answer : Stepped) → GoOn (Some runner.crossings) by → Steps test (Some runner.crossings) by old new answer → (Ends answer → ⊥) → CrossingsAreKept runner by now → IsTallied test old runner runner.at
+  pub tallied_roll : (new : Sight) (now : Runner) (by : Option Crossings) (answer : StepAnswer) → GoOn (Some runner.crossings) by → Steps test (Some runner.crossings) by old new answer → (Ends answer → ⊥) → CrossingsAreKept runner by now → IsTallied test old runner runner.at
       → TalliedBy test new now (rolled_went answer)
   tallied_roll new now by stepped.Idle on steps goes keeps tally = absurd (goes tt)
   tallied_roll new now by (stepped.Unwound ticket) on steps goes keeps tally = tallied_on new now by (stepped.Unwound ticket) on steps goes keeps tally

@@ -24,7 +24,7 @@ use Rattle.mb_run.specs.Runs.{strikes_inside}
 use Rattle.mb_run.specs.Served.{Asks, IsAtBy, IsHeld, IsMarked, IsStanding, MayStep, advanced, calls_in, calls_of}
 use Rattle.mb_run.specs.Sights.{SeatHasTicket, Sight, flight_of}
 use Rattle.mb_run.specs.Tallies.{IsBetween, IsEntering, IsFinishing, IsPast, IsTallied}
-use Rattle.mb_run.specs.declared.answers.Enter.TheVariants as enter
+use Rattle.mb_run.specs.declared.answers.EnterAnswer.TheVariants as enter
 use Rattle.mb_run.specs.declared.runner.At.TheVariants as at
 use Rattle.mb_run.specs.declared.runner.Runner.{Runner}
 use Rattle.mb_run.proofs.Balance.{marked_here, marked_lacks}

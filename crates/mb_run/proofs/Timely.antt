@@ -22,11 +22,11 @@ use Rattle.mb_kinds.specs.declared.replies.Reply.{Reply}
 use Rattle.mb_run.specs.Events.{Answers, BeginsFlight, EndsFlight, EntersInside, FlushesWith, Gains, IsCallOf, IsStale, KeepsLog, LeavesOthersAlone, Logs, LogsInTime, SealsIf, StrikesCall, entry_of, sealed}
 use Rattle.mb_run.specs.Recovering.{Steps, StrikesBy, Waits}
 use Rattle.mb_run.specs.Seals.{is_due, is_sync, omitted}
-use Rattle.mb_run.specs.Sights.{IsOld, IsOrderlyInSight, Seat, SeatHasTicket, Sight, flight_of, late_in, omitted_in, recovers, since_in, undue_in}
+use Rattle.mb_run.specs.Sights.{IsOld, IsOrderlyInSight, SightSeat, SeatHasTicket, Sight, flight_of, late_in, omitted_in, recovers, since_in, undue_in}
 use Rattle.mb_run.specs.Stales.{stales_beyond, stales_since}
 use Rattle.mb_run.specs.Timely.{CountsStales, IsTimely, IsToldNow, TellsFew}
-use Rattle.mb_run.specs.declared.answers.Stepped.{Stepped}
-use Rattle.mb_run.specs.declared.answers.Stepped.TheVariants as stepped
+use Rattle.mb_run.specs.declared.answers.StepAnswer.{StepAnswer}
+use Rattle.mb_run.specs.declared.answers.StepAnswer.TheVariants as stepped
 use Rattle.mb_run.proofs.Counting.{same_or_not}
 use Rattle.mb_run.proofs.Late.{MayTell, entry_late, still_late}
 use Rattle.mb_run.proofs.Omitted.{due_omitted, logged_omitted, marks_omitted, no_sync_last, sealed_omitted, stale_omitted}
@@ -87,7 +87,7 @@ stale_prompt caller old new pages stale =
 module _ (caller : ℕ) (old new : Sight) (stays : LeavesOthersAlone caller old new) (goes : (other : ℕ) → other ≢ caller → stales_since other new.trail ≤ stales_since other old.trail) where
   other_told : CountsStales old → (other : ℕ) (flight : Flight) (ticket : Ticket) → other ≢ caller → (new.seats other).flight ≡ Some flight → flight.ticket ≡ Some ticket → flight.answered ≡ false
       → (ticket.incarnation < new.incarnation) ⊎ IsToldNow new other ticket
-  other_told counts other flight ticket apart here mine lacks = elim (counts other flight ticket (ap (λ (s : Seat). s.flight) (sym (stays.seats other apart)) ∙ here) mine lacks) [
+  other_told counts other flight ticket apart here mine lacks = elim (counts other flight ticket (ap (λ (s : SightSeat). s.flight) (sym (stays.seats other apart)) ∙ here) mine lacks) [
     | inl past ↦ inl (omega (arith, past, stays.incarnation))
     | inr now ↦ inr (record {
       present = now.present ∙ sym stays.incarnation;
@@ -119,12 +119,12 @@ module _ (caller : ℕ) (old new : Sight) (stays : LeavesOthersAlone caller old 
 
 pub timely_answers : (caller : ℕ) (flight : Flight) (answer : Reply) (old new : Sight) → Answers caller flight answer old new → IsOrderlyInSight old → MayTell old.stage answer → IsTimely 0 old new
 timely_answers caller flight answer old new answers right tells =
-    timely_ends caller old new answers.stays answers.log (entry_of caller flight None answer ∷ []) answers.history (ap (λ (s : Seat). s.flight) answers.mine) (answers_undue caller flight answer old new answers)
+    timely_ends caller old new answers.stays answers.log (entry_of caller flight None answer ∷ []) answers.history (ap (λ (s : SightSeat). s.flight) answers.mine) (answers_undue caller flight answer old new answers)
     (entry_late old new (entry_of caller flight None answer) right tells answers.history)
 
 pub timely_leaves : (caller : ℕ) (flight : Flight) (old new : Sight) → EndsFlight caller flight old new → IsTimely 0 old new
 timely_leaves caller flight old new leaves =
-    timely_ends caller old new leaves.stays leaves.log [] (leaves.counts.history ∙ sym (append-nil old.history)) (ap (λ (s : Seat). s.flight) leaves.mine)
+    timely_ends caller old new leaves.stays leaves.log [] (leaves.counts.history ∙ sym (append-nil old.history)) (ap (λ (s : SightSeat). s.flight) leaves.mine)
     (still_undue old new leaves.stays.config leaves.log leaves.counts.history) (still_late old new leaves.counts.history)
 
 -- ---- a call waits, or goes inside
@@ -140,7 +140,7 @@ timely_waits_outside caller flight old new begins past = record {
   told = λ counts. record {
     counts = counts_by caller old new begins.stays (λ other apart. marks_since other old.trail new.trail begins.log.trail)
         (λ found ticket here mine lacks.
-        (let same : found ≡ flight = same_Some found flight (sym here ∙ ap (λ (s : Seat). s.flight) begins.mine) in
+        (let same : found ≡ flight = same_Some found flight (sym here ∙ ap (λ (s : SightSeat). s.flight) begins.mine) in
         let low = old_ticket old.incarnation flight ticket past (ap (λ (f : Flight). f.ticket) (sym same) ∙ mine) in
         inl (omega (arith, low, begins.stays.incarnation))))
         counts;
@@ -173,7 +173,7 @@ module _ (caller : ℕ) (call : Call) (old new : Sight) (ticket : Ticket) (enter
     told = λ counts. record {
       counts = counts_by caller old new begins.stays (λ other apart. marks_since other old.trail new.trail begins.log.trail)
           (λ found mine here held lacks.
-          (let same : found ≡ given = same_Some found given (sym here ∙ ap (λ (s : Seat). s.flight) begins.mine) in
+          (let same : found ≡ given = same_Some found given (sym here ∙ ap (λ (s : SightSeat). s.flight) begins.mine) in
           let own : ticket ≡ mine = same_Some ticket mine (ap (λ (f : Flight). f.ticket) (sym same) ∙ held) in
           subst (λ (t : Ticket). (t.incarnation < new.incarnation) ⊎ IsToldNow new caller t) own (inr now_inside)))
           counts;
@@ -190,7 +190,7 @@ timely_gains caller old new need before now gains = record {
   prompt = still_omitted old new gains.log gains.counts.history;
   told = λ counts. record {
     counts = counts_by caller old new gains.stays (λ other apart. (let same = ap (stales_since other) gains.trail in omega (arith, same)))
-        (λ flight ticket here mine lacks. elim (counts caller flight ticket (ap (λ (s : Seat). s.flight) (sym gains.mine) ∙ here) mine lacks) [
+        (λ flight ticket here mine lacks. elim (counts caller flight ticket (ap (λ (s : SightSeat). s.flight) (sym gains.mine) ∙ here) mine lacks) [
           | inl past ↦ inl (omega (arith, past, gains.stays.incarnation))
           | inr told ↦ inr (record {
             present = told.present ∙ sym gains.stays.incarnation;
@@ -233,7 +233,7 @@ module _ (caller : ℕ) (old new : Sight) (pages : PagesState) (ticket : Ticket)
     tells = record {
       counts = counts_by caller old new stale.stays (λ other apart. (let same = stale_goes other apart in omega (arith, same)))
           (λ flight mine here held lacks.
-          (let same : flight ≡ has.flight = same_Some flight has.flight (sym here ∙ ap (λ (s : Seat). s.flight) stale.mine ∙ has.here) in
+          (let same : flight ≡ has.flight = same_Some flight has.flight (sym here ∙ ap (λ (s : SightSeat). s.flight) stale.mine ∙ has.here) in
           let own : ticket ≡ mine = same_Some ticket mine (sym has.mine ∙ ap (λ (f : Flight). f.ticket) (sym same) ∙ held) in
           subst (λ (t : Ticket). (t.incarnation < new.incarnation) ⊎ IsToldNow new caller t) own (inr is_now)))
           counts;
@@ -306,13 +306,13 @@ module _ (old new : Sight) (ticket : Ticket) (call : Call) (has : SeatHasTicket 
       omega (arith, is, low)
 
   told_one : CountsStales old → TellsFew old logged
-  told_one = told_logged ticket.caller old logs.flight logged one_more logs.stays (ap (λ (s : Seat). s.flight) logs.mine) logs.trail
+  told_one = told_logged ticket.caller old logs.flight logged one_more logs.stays (ap (λ (s : SightSeat). s.flight) logs.mine) logs.trail
       (λ one. put_since one old.trail (step.Logged ticket) refl) (λ one. put_beyond one old.trail (step.Logged ticket) refl)
 
   told_two : CountsStales old → TellsFew old (sealed logged new)
   told_two = told_logged ticket.caller old logs.flight (sealed logged new) two_more
       (record { config = logs.stays.config; records = logs.stays.records; stage = logs.stays.stage; incarnation = logs.stays.incarnation; seats = logs.stays.seats; copies = logs.stays.copies; stales = logs.stays.stales })
-      (ap (λ (s : Seat). s.flight) logs.mine) (ap (λ (t : List Step). t ++ step.Sealed (length logged.history) ∷ []) logs.trail)
+      (ap (λ (s : SightSeat). s.flight) logs.mine) (ap (λ (t : List Step). t ++ step.Sealed (length logged.history) ∷ []) logs.trail)
       (λ one. put_since one one_more (step.Sealed (length logged.history)) refl ∙ put_since one old.trail (step.Logged ticket) refl)
       (λ one. put_beyond one one_more (step.Sealed (length logged.history)) refl ∙ put_beyond one old.trail (step.Logged ticket) refl)
 
@@ -341,7 +341,7 @@ module _ (old new : Sight) (seats : (caller : ℕ) → new.seats caller ≡ old.
     undue = (let low = still_undue old new config log history in omega (arith, low));
     prompt = still_omitted old new log history;
     told = λ counts. record {
-      counts = λ caller flight ticket here mine lacks. each caller ticket (counts caller flight ticket (ap (λ (s : Seat). s.flight) (sym (seats caller)) ∙ here) mine lacks);
+      counts = λ caller flight ticket here mine lacks. each caller ticket (counts caller flight ticket (ap (λ (s : SightSeat). s.flight) (sym (seats caller)) ∙ here) mine lacks);
       few = λ one. (let same = marks_beyond one old.trail new.trail log.trail in omega (arith, same));
     };
   }
@@ -369,7 +369,7 @@ strikes_timely test (Some before) None old new strikes = absurd strikes
 strikes_timely test None now old new strikes = absurd strikes
 
 -- one that nobody's call runs
-pub timely_alone : (test : Option (Crossing → Bool)) (old new : Sight) (by : Option Crossings) (answer : Stepped) → Steps test None by old new answer → IsTimely 0 old new
+pub timely_alone : (test : Option (Crossing → Bool)) (old new : Sight) (by : Option Crossings) (answer : StepAnswer) → Steps test None by old new answer → IsTimely 0 old new
 timely_alone test old new by stepped.Idle steps = timely_same old new steps.1
 timely_alone test old new by (stepped.Failed faults) steps = elim steps.1 [ inl waited ↦ timely_waits old new waited.1 waited.2 | inr strikes ↦ strikes_timely test None by old new strikes ]
 timely_alone test old new by stepped.Resumed steps = timely_waits old new steps.2.waits steps.2.recovered
@@ -382,7 +382,7 @@ timely_alone test old new by (stepped.Unwound ticket) steps = timely_waits old n
 timely_alone test old new by stepped.Dropped steps = timely_waits old new steps.1.waits steps.1.recovered
 timely_alone test old new by stepped.Reopened steps = timely_waits old new steps.1.waits steps.1.recovered
 
-pub alone_undue : (test : Option (Crossing → Bool)) (old new : Sight) (by : Option Crossings) (answer : Stepped) → Steps test None by old new answer → undue_in new ≤ undue_in old
+pub alone_undue : (test : Option (Crossing → Bool)) (old new : Sight) (by : Option Crossings) (answer : StepAnswer) → Steps test None by old new answer → undue_in new ≤ undue_in old
 alone_undue test old new by answer steps = let low = (timely_alone test old new by answer steps).undue in omega (arith, low)
 
 -- and nobody is told that a copy is stale
@@ -397,7 +397,7 @@ strikes_told test (Some before) (Some now) old new strikes = waits_told old new 
 strikes_told test (Some before) None old new strikes = absurd strikes
 strikes_told test None now old new strikes = absurd strikes
 
-pub alone_told : (test : Option (Crossing → Bool)) (old new : Sight) (by : Option Crossings) (answer : Stepped) → Steps test None by old new answer → (caller : ℕ) → stales_beyond caller new.trail ≤ stales_beyond caller old.trail
+pub alone_told : (test : Option (Crossing → Bool)) (old new : Sight) (by : Option Crossings) (answer : StepAnswer) → Steps test None by old new answer → (caller : ℕ) → stales_beyond caller new.trail ≤ stales_beyond caller old.trail
 alone_told test old new by stepped.Idle steps = same_told old new steps.1
 alone_told test old new by (stepped.Failed faults) steps = elim steps.1 [ inl waited ↦ waits_told old new waited.1 | inr strikes ↦ strikes_told test None by old new strikes ]
 alone_told test old new by stepped.Resumed steps = waits_told old new steps.2.waits

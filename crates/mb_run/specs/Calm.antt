@@ -14,7 +14,7 @@ use Rattle.mb_run.specs.Pages.{has}
 use Rattle.mb_run.specs.Runs.{begun_from, has_call, has_capital, is_begun, is_calm_next, letter_of, used, without_seals}
 use Rattle.mb_run.specs.Seals.{is_plain}
 use Rattle.mb_run.specs.Served.{calls_of}
-use Rattle.mb_run.specs.Sights.{Seat, Sight}
+use Rattle.mb_run.specs.Sights.{SightSeat, Sight}
 use Rattle.mb_run.specs.declared.runner.At.{At}
 use Rattle.mb_run.specs.declared.runner.At.TheVariants as at
 use Rattle.mb_run.specs.declared.runner.Runner.{Runner}
@@ -101,7 +101,7 @@ pub record IsStill (old new : Sight) : Type 0 where
 -- ---- after the characters that were seen
 
 -- a caller before its first call
-pub record IsUnbegun (seat : Seat) (runner : Runner) : Type 0 where
+pub record IsUnbegun (seat : SightSeat) (runner : Runner) : Type 0 where
   pub stands : runner.at ≡ at.Outside
   pub free : seat.flight ≡ None
   pub begun : seat.begun ≡ 0

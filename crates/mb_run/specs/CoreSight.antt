@@ -6,9 +6,9 @@ use Rattle.mb_cache.specs.Kept.{CopyList, KeptBlock, kept_at}
 use Rattle.mb_core_spec.specs.Copies.{LiveTables, PagesState, TableCopy, no_pages}
 use Rattle.mb_core_spec.specs.Numbers.{open_calls}
 use Rattle.mb_core_spec.specs.State.{CallerState, CoreState}
-use Rattle.mb_run.specs.Sights.{Seat, Sight, limits_of, steps_left}
+use Rattle.mb_run.specs.Sights.{SightSeat, Sight, limits_of, steps_left}
 
-abbrev pub seat_of : Option CallerState → Seat
+abbrev pub seat_of : Option CallerState → SightSeat
 seat_of None = record { begun = 0; flight = None }
 seat_of (Some mine) = record { begun = mine.begun; flight = mine.flight }
 

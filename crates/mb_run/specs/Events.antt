@@ -14,16 +14,16 @@ use Rattle.mb_core_spec.specs.Copies.{PagesState, no_pages}
 use Rattle.mb_core_spec.specs.Faults.{IsTwice}
 use Rattle.mb_run.specs.Pages.{PagesGrow, HasTablesFor, LacksAll, PerformsOver, has}
 use Rattle.mb_run.specs.Seals.{MarksTrail, is_due}
-use Rattle.mb_run.specs.Sights.{Seat, Sight, one_if, recovers, flight_of, is_new, IsOld}
-use Rattle.mb_calls.specs.declared.performing.Ready.{Ready}
+use Rattle.mb_run.specs.Sights.{SightSeat, Sight, one_if, recovers, flight_of, is_new, IsOld}
+use Rattle.mb_calls.specs.declared.performing.ReadyCall.{ReadyCall}
 use Rattle.mb_calls.specs.declared.performing.Performed.{Performed}
 use Rattle.mb_calls.specs.declared.performing.Performed.TheVariants as performed
 use Rattle.mb_cache.specs.declared.answers.Flushed.{Flushed}
 use Rattle.mb_cache.specs.declared.answers.Flushed.TheVariants as flushed
 use Rattle.mb_iface.specs.Needs.{IsNeed}
 use Rattle.mb_core_spec.specs.declared.steps.Step.TheVariants as step
-use Rattle.mb_run.specs.declared.answers.Enter.{Enter}
-use Rattle.mb_run.specs.declared.answers.Enter.TheVariants as enter
+use Rattle.mb_run.specs.declared.answers.EnterAnswer.{EnterAnswer}
+use Rattle.mb_run.specs.declared.answers.EnterAnswer.TheVariants as enter
 use Rattle.mb_core_state.specs.declared.answers.Gathered.{Gathered}
 use Rattle.mb_core_state.specs.declared.answers.Gathered.TheVariants as gathered
 use Rattle.mb_core_state.specs.declared.answers.Finished.{Finished}
@@ -128,7 +128,7 @@ pub record EntersInside (old new : Sight) (caller : ℕ) (call : Call) (ticket :
   pub fresh : IsOld old.incarnation (old.seats caller).flight → new.fresh caller ≡ true
   pub trail : IsOld old.incarnation (old.seats caller).flight → new.trail ≡ old.trail ++ step.Entered ticket ∷ []
 
-abbrev pub EntersInSight : Sight → Sight → ℕ → Call → Enter → Type 0
+abbrev pub EntersInSight : Sight → Sight → ℕ → Call → EnterAnswer → Type 0
 EntersInSight old new caller call (enter.Done answer) =
     ((flight : Flight) × EndsFlight caller flight old new × IsReplyOf old.history caller flight.ordinal answer)
     ⊎ (((flight_of old caller call (old.seats caller).flight).answered ≡ false) × IsUnplain answer
@@ -237,12 +237,12 @@ WritesBehind before now old new (left.Left answer) =
     (old.sealed ≡ new.sealed + 1) ⊎ (((old.sealed ≡ 0) × (new.sealed ≡ 0)) ⊎ ((new.sealed ≡ old.sealed) × Rose before now))
 
 -- what a call is performed over that finishes, and what it came to
-abbrev pub IsReadyAt : Sight → Ticket → PagesState → Ready → Type 0
+abbrev pub IsReadyAt : Sight → Ticket → PagesState → ReadyCall → Type 0
 IsReadyAt sight ticket pages ready = (flight : Flight) → (sight.seats ticket.caller).flight ≡ Some flight
     → PerformsOver pages ticket.caller flight.call flight.moment (performed.Ready ready)
 
 -- the call in flight is that one
-abbrev pub IsCallOf : Seat → Call → Type 0
+abbrev pub IsCallOf : SightSeat → Call → Type 0
 IsCallOf seat made = (flight : Flight) → seat.flight ≡ Some flight → flight.call ≡ made
 
 -- what is asked for is not there yet

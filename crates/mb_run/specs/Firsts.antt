@@ -2,7 +2,7 @@
 use Rattle.std.specs.Prelude.{ℕ, ◌+◌, ◌<◌, ◌≤◌, ◌≡◌, ◌≢◌, ◌⊎◌, List, Option, Some, slice_get}
 use Rattle.mb_kinds.specs.declared.entries.Entry.{Entry}
 use Rattle.mb_kinds.specs.declared.entries.Flight.{Flight}
-use Rattle.mb_run.specs.Sights.{Seat, Sight}
+use Rattle.mb_run.specs.Sights.{SightSeat, Sight}
 
 -- the first call of a caller has its entry, with that moment
 pub record IsFirstEntry (history : List Entry) (caller moment : ℕ) : Type 0 where
@@ -25,7 +25,7 @@ abbrev pub HasFirst : Sight → ℕ → ℕ → Type 0
 HasFirst sight caller moment = IsFirstEntry sight.history caller moment ⊎ IsFirstFlight (sight.seats caller).flight moment
 
 -- a declared caller, which had begun no call, did so after all calls that had been begun before
-pub record BeginsFirst (old : Sight) (begun : ℕ) (seat : Seat) (caller moment : ℕ) : Type 0 where
+pub record BeginsFirst (old : Sight) (begun : ℕ) (seat : SightSeat) (caller moment : ℕ) : Type 0 where
   pub within : caller < old.config.callers
   pub none : (old.seats caller).begun ≡ 0
   pub some : seat.begun ≢ 0

@@ -12,8 +12,8 @@ use Rattle.mb_run.specs.Events.{Answers, SameCalls, KeepsLog}
 use Rattle.mb_run.specs.Sights.{Sight, recovers}
 use Rattle.mb_core_spec.specs.declared.stages.Stage.{Stage}
 use Rattle.mb_core_spec.specs.declared.stages.Stage.TheVariants as stage
-use Rattle.mb_run.specs.declared.answers.Stepped.{Stepped}
-use Rattle.mb_run.specs.declared.answers.Stepped.TheVariants as stepped
+use Rattle.mb_run.specs.declared.answers.StepAnswer.{StepAnswer}
+use Rattle.mb_run.specs.declared.answers.StepAnswer.TheVariants as stepped
 
 -- the crossings are those of a caller's call in flight, which has no entry
 abbrev pub RunsForFlight : Sight → Crossings → Type 0
@@ -112,7 +112,7 @@ abbrev pub StrikesBy : Option (Crossing → Bool) → Option Crossings → Optio
 StrikesBy test (Some before) (Some now) old new = StrikesStep test before now old new
 StrikesBy test _ _ old new = ⊥
 
-abbrev pub Steps : Option (Crossing → Bool) → Option Crossings → Option Crossings → Sight → Sight → Stepped → Type 0
+abbrev pub Steps : Option (Crossing → Bool) → Option Crossings → Option Crossings → Sight → Sight → StepAnswer → Type 0
 Steps test before now old new stepped.Idle = (recovers old.stage ≡ false) × (new ≡ old)
 Steps test before now old new (stepped.Failed faults) =
     (new.stage ≡ stage.Failed) × (((new.records ≡ old.records) × Waits old new × (recovers old.stage ≡ true) × IsAtNone before now) ⊎ StrikesBy test before now old new)

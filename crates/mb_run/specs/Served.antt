@@ -15,7 +15,7 @@ use Rattle.mb_core_spec.specs.Copies.{PagesState, no_pages}
 use Rattle.mb_run.specs.Pages.{HasTablesFor, has}
 pub use Rattle.mb_run.specs.Recovering.{counted}
 use Rattle.mb_run.specs.Recovering.{crossing_of, next_of}
-use Rattle.mb_run.specs.Sights.{Sight, Seat, SeatHasTicket, IsOld, IsOrderlyInSight, IsWaiting, one_if, recovers}
+use Rattle.mb_run.specs.Sights.{Sight, SightSeat, SeatHasTicket, IsOld, IsOrderlyInSight, IsWaiting, one_if, recovers}
 use Rattle.mb_run.specs.Events.{StrikesCall}
 use Rattle.mb_run.specs.Firsts.{KeepsFirsts}
 use Rattle.mb_run.specs.Runs.{IsStruckOnceIfPlain, strikes_inside}
@@ -29,11 +29,11 @@ use Rattle.mb_core_spec.specs.declared.stages.Stage.TheVariants as stage
 use Rattle.mb_run.specs.declared.progress.Went.{Went}
 use Rattle.mb_run.specs.declared.progress.Went.TheVariants as went
 use Rattle.mb_run.specs.declared.runner.Runner.{Runner}
-use Rattle.mb_run.specs.declared.progress.Turn.{Turn}
-use Rattle.mb_run.specs.declared.progress.Turn.TheVariants as turn
+use Rattle.mb_run.specs.declared.progress.StepEnd.{StepEnd}
+use Rattle.mb_run.specs.declared.progress.StepEnd.TheVariants as turn
 
 -- a call may begin, or is the one in flight
-abbrev pub MayBeginOrGoOn : ℕ → Seat → Call → Option Flight → Type 0
+abbrev pub MayBeginOrGoOn : ℕ → SightSeat → Call → Option Flight → Type 0
 MayBeginOrGoOn most seat call None = seat.begun < most
 MayBeginOrGoOn most seat call (Some flight) = flight.call ≡ call
 
@@ -317,14 +317,14 @@ pub record RunsRecovery (calls : List JobCall) (test : Option (Crossing → Bool
   pub nears : Nears calls test old new before now
   pub goes : RecoveredBy before.crossings.caller old new before now came
 
-abbrev pub TurnedBy : ℕ → Sight → Sight → Runner → Runner → Turn → Type 0
+abbrev pub TurnedBy : ℕ → Sight → Sight → Runner → Runner → StepEnd → Type 0
 TurnedBy caller old new before now turn.Ended = (now.done ≡ before.done + 1) × ((new.seats caller).flight ≡ None)
 TurnedBy caller old new before now turn.Again = (now.done ≡ before.done) × (work new caller now < work old caller before)
 TurnedBy caller old new before now (turn.Busy holder) =
     (now.done ≡ before.done) × (work new caller now ≤ work old caller before) × (new ≡ old) × (new.floor ≡ Some holder) × (holder ≢ caller) × (new.stage ≡ stage.Running)
 TurnedBy caller old new before now turn.NoMemory = (now.done ≡ before.done) × (now.answered ≡ false)
 
-pub record Turns (calls : List JobCall) (test : Option (Crossing → Bool)) (old new : Sight) (before now : Runner) (came : Turn) : Type 0 where
+pub record Turns (calls : List JobCall) (test : Option (Crossing → Bool)) (old new : Sight) (before now : Runner) (came : StepEnd) : Type 0 where
   pub nears : Nears calls test old new before now
   pub goes : TurnedBy before.crossings.caller old new before now came
 

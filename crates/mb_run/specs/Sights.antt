@@ -14,7 +14,7 @@ use Rattle.mb_core_spec.specs.declared.steps.Step.{Step}
 use Rattle.mb_run.specs.Seals.{AreInTime, is_failed, late, logged_since, omitted, undue}
 
 -- of one caller: how many calls it began, and its call in flight
-pub record Seat : Type 0 where
+pub record SightSeat : Type 0 where
   pub begun : ℕ
   pub flight : Option Flight
 
@@ -35,7 +35,7 @@ pub record Sight : Type 0 where
   pub history : List Entry
   pub records : List FaultRecord
   pub trail : List Step
-  pub seats : ℕ → Seat
+  pub seats : ℕ → SightSeat
   pub copies : ℕ → PagesState
   pub stales : ℕ → ℕ
   pub fresh : ℕ → Bool
@@ -116,7 +116,7 @@ IsOld incarnation None = Unit {0}
 IsOld incarnation (Some flight) = IfSome flight.ticket (λ (t : Ticket). t.incarnation < incarnation)
 
 -- the call in flight has that ticket; it has its entry, or not
-pub record SeatHasTicket (done : Bool) (seat : Seat) (ticket : Ticket) : Type 0 where
+pub record SeatHasTicket (done : Bool) (seat : SightSeat) (ticket : Ticket) : Type 0 where
   pub flight : Flight
   pub here : seat.flight ≡ Some flight
   pub mine : flight.ticket ≡ Some ticket
@@ -125,11 +125,11 @@ pub record SeatHasTicket (done : Bool) (seat : Seat) (ticket : Ticket) : Type 0 
   pub answered : flight.answered ≡ done
 
 -- it is the last ticket of the call in flight
-abbrev pub IsTicketOf : Seat → Ticket → Type 0
+abbrev pub IsTicketOf : SightSeat → Ticket → Type 0
 IsTicketOf seat ticket = (flight : Flight) × (seat.flight ≡ Some flight) × (flight.ticket ≡ Some ticket)
 
 -- a call is in flight that has no entry
-abbrev pub IsWaiting : Seat → Type 0
+abbrev pub IsWaiting : SightSeat → Type 0
 IsWaiting seat = (flight : Flight) × (seat.flight ≡ Some flight) × (flight.answered ≡ false)
 
 -- no number stands twice

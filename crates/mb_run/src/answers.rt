@@ -2,7 +2,7 @@ use mb_kinds::{Reply, Ticket};
 
 /// The answer to a call that enters.
 #[derive(Debug, Drop)]
-pub enum Enter {
+pub enum EnterAnswer {
     /// The call's reply: it had its entry already, or it met two faults of its own, or the volume failed and it has an
     /// entry of that. Its flight ended.
     Done(Reply),
@@ -16,7 +16,7 @@ pub enum Enter {
 
 /// What a step of a recovery came to.
 #[derive(Clone, Copy, Debug, PartialEq, Eq, Drop)]
-pub enum Stepped {
+pub enum StepAnswer {
     /// No recovery is in progress; nothing changed.
     Idle,
     /// The call with this ticket was unwound: its pins, its copies, its reserved descriptor and the right to commit

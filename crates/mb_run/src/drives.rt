@@ -221,6 +221,7 @@ fn drive_core<C: EventCore, H: Hook>(
 /// struck where its call did not come (`AreNear`): a record of Enter has an `nth` of at most one more than its call's records of
 /// Enter, Gather and Finish before it, one of Finish of at most one more than those of Finish, one of Leave of 1, and one of Remount
 /// of at most as many as its call's records but those of Leave, and one more behind a record of Leave or an entry `Device`.
+/// However the job is run, once a call has the failed volume's answer every later entry has it.
 pub fn drive<C: EventCore, H: Hook>(alloc: Global, core: C, job: &Job, hook: &mut H) -> Driven<C>
     requires runnable { IsRunnable job.now }
     requires begun { IsBegun job.now (C.sight core) }

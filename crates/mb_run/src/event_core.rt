@@ -2,7 +2,7 @@ ghost use Rattle.std.specs.Prelude.{◌≡◌, ◌<◌, ◌≤◌, ℕ, None, So
 ghost use Rattle.mb_core_spec.specs.declared.stages.Stage.TheVariants as stage;
 ghost use Rattle.mb_cache.specs.declared.answers.Flushed.TheVariants as flushed;
 ghost use Rattle.mb_edge.specs.Causes.{Rose};
-ghost use Rattle.mb_run.specs.declared.answers.Stepped.TheVariants as stepped;
+ghost use Rattle.mb_run.specs.declared.answers.StepAnswer.TheVariants as stepped;
 ghost use Rattle.mb_run.specs.Events.{EntersInSight, FaultsWith, FinishesInSight, FlushesWith, GathersInSight, AsksForLacking, IsCallOf, IsReadyAt, LeavesWith, Quits, WritesBehind, sealed};
 ghost use Rattle.mb_run.specs.Lengths.{ComesNoFurther};
 ghost use Rattle.mb_run.specs.Pages.{HasTablesFor, IsUnderWay, PerformsOver, has};
@@ -11,10 +11,10 @@ ghost use Rattle.mb_run.specs.Rising.{RisesWith};
 ghost use Rattle.mb_run.specs.Served.{MayEnterInSight};
 ghost use Rattle.mb_run.specs.Sights.{SeatHasTicket, IsOrderlyInSight, IsTicketOf, IsWaiting, Sight, limits_of, recovers};
 
-use crate::answers::{Enter, Stepped};
+use crate::answers::{EnterAnswer, StepAnswer};
 use mb_cache::Flushed;
 use mb_callers::Pages;
-use mb_calls::{Performed, Performing, Ready};
+use mb_calls::{Performed, Performing, ReadyCall};
 use mb_core_spec::{Config, Stage};
 use mb_core_state::{Fault, Finished, Gathered, Left};
 use mb_edge::{Crossings, Hook, NoMemory};
@@ -73,7 +73,7 @@ pub trait EventCore {
         ensures asked { AsksForLacking pages.now result };
 
     /// A caller's call enters: the one in flight, or a new one where none is.
-    fn enter(&mut self, alloc: Global, caller: u8, call: &Call) -> Enter
+    fn enter(&mut self, alloc: Global, caller: u8, call: &Call) -> EnterAnswer
         requires may { MayEnterInSight (sight self.old) caller call.now }
         requires right { IsOrderlyInSight (sight self.old) }
         ensures enters { EntersInSight (sight self.old) (sight self.new) caller call.now result }
@@ -102,7 +102,7 @@ pub trait EventCore {
         ticket: &Ticket,
         pages: &Pages,
         call: &Call,
-        ready: Ready,
+        ready: ReadyCall,
     ) -> Finished
         requires ticket { SeatHasTicket false ((sight self.old).seats ticket.now.caller) ticket.now }
         requires there { has pages.now 0 ≡ true }
@@ -145,7 +145,7 @@ pub trait EventCore {
         alloc: Global,
         by: &mut Option<Crossings>,
         hook: &mut H,
-    ) -> Stepped
+    ) -> StepAnswer
         requires by { IfSome by.old (RunsForFlight (sight self.old)) }
         requires right { IsOrderlyInSight (sight self.old) }
         ensures on { GoOn by.old by.new }

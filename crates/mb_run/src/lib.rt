@@ -30,7 +30,7 @@ mod runs;
 mod settles;
 mod steps;
 
-pub use answers::{Enter, Stepped};
+pub use answers::{EnterAnswer, StepAnswer};
 pub use call_index::{CallIndex, find_call};
 pub use drives::{DriveEnd, Driven, drive};
 pub use event_core::EventCore;
@@ -40,7 +40,7 @@ pub use examples::{
 };
 pub use laws::{recovers_soon, stands_on};
 pub use orders::run_order;
-pub use progress::{Next, Turn, Went};
+pub use progress::{Next, StepEnd, Went};
 pub use runner::{At, Runner};
 pub use runs::{recover, run_call, run_holder, run_in_order, turn};
 pub use settles::{SettleEnd, Settled, settle};

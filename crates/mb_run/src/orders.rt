@@ -10,7 +10,7 @@ ghost use Rattle.mb_run.specs.Sights.{IsOrderlyInSight, recovers};
 ghost use Rattle.mb_run.specs.Timely.{IsTimely};
 ghost use Rattle.mb_run.specs.declared.progress.Went.TheVariants as went;
 
-use crate::answers::Stepped;
+use crate::answers::StepAnswer;
 use crate::call_index::{CallIndex, find_call};
 use crate::event_core::EventCore;
 use crate::progress::{Early, Next, Went};
@@ -238,7 +238,7 @@ fn recover_alone<C: EventCore, H: Hook>(alloc: Global, core: &mut C, hook: &mut 
 {
     let mut by = None;
     match core.recover_step(alloc, &mut by, hook) {
-        Stepped::NoMemory => return false,
+        StepAnswer::NoMemory => return false,
         _ => return true,
     }
 }

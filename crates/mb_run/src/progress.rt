@@ -40,7 +40,7 @@ pub enum Next {
 
 /// What a step of a caller came to, with the recovery for which it waited.
 #[derive(Clone, Copy, Debug, PartialEq, Eq, Drop)]
-pub enum Turn {
+pub enum StepEnd {
     /// The call was answered.
     Ended,
     /// The call goes on.

@@ -13,10 +13,10 @@ ghost use Rattle.mb_run.specs.Tallies.{AreRested, IsBetween, IsTallied, Tallies}
 ghost use Rattle.mb_run.specs.declared.runner.At.TheVariants as at;
 ghost use Rattle.mb_jobs.specs.declared.jobs.JobCall.{JobCall};
 
-use crate::answers::Stepped;
+use crate::answers::StepAnswer;
 use crate::call_index::{CallIndex, find_call};
 use crate::event_core::EventCore;
-use crate::progress::{Turn, Went};
+use crate::progress::{StepEnd, Went};
 use crate::runner::Runner;
 use crate::steps::step;
 use mb_edge::{Crossings, Hook};
@@ -57,41 +57,41 @@ pub(crate) fn roll<C: EventCore, H: Hook>(
 {
     let mut by = Some(runner.crossings);
     match core.recover_step(alloc, &mut by, hook) {
-        Stepped::Device => {
+        StepAnswer::Device => {
             runner.advance();
             return Went::Ended;
         }
-        Stepped::NoMemory => return Went::NoMemory,
-        Stepped::Idle => unreachable!(),
-        Stepped::Failed { .. } => {
+        StepAnswer::NoMemory => return Went::NoMemory,
+        StepAnswer::Idle => unreachable!(),
+        StepAnswer::Failed { .. } => {
             keep(runner, &by);
             return Went::Back;
         }
-        Stepped::Resumed => {
+        StepAnswer::Resumed => {
             keep(runner, &by);
             return Went::Back;
         }
-        Stepped::Unwound(_) => {
+        StepAnswer::Unwound(_) => {
             keep(runner, &by);
             return Went::On;
         }
-        Stepped::Dropped => {
+        StepAnswer::Dropped => {
             keep(runner, &by);
             return Went::On;
         }
-        Stepped::Remounted => {
+        StepAnswer::Remounted => {
             keep(runner, &by);
             return Went::On;
         }
-        Stepped::Reopened => {
+        StepAnswer::Reopened => {
             keep(runner, &by);
             return Went::On;
         }
-        Stepped::Replayed(_) => {
+        StepAnswer::Replayed(_) => {
             keep(runner, &by);
             return Went::On;
         }
-        Stepped::Again { .. } => {
+        StepAnswer::Again { .. } => {
             keep(runner, &by);
             return Went::On;
         }
@@ -195,7 +195,7 @@ pub fn turn<C: EventCore, H: Hook>(
     runner: &mut Runner,
     calls: &[JobCall],
     call: &Call,
-) -> Turn
+) -> StepEnd
     requires { MayStep calls.now (H.test hook.old) (C.sight core.old) runner.old call.now }
     ensures turns { Turns calls.now (H.test hook.old) (C.sight core.old) (C.sight core.new) runner.old runner.new result }
     ensures test { H.test hook.new ≡ H.test hook.old }
@@ -204,15 +204,15 @@ pub fn turn<C: EventCore, H: Hook>(
 {
     let mut way = None;
     match step(alloc, core, hook, runner, calls, call, &mut way) {
-        Went::Ended => return Turn::Ended,
-        Went::On => return Turn::Again,
-        Went::Back => return Turn::Again,
-        Went::NoMemory => return Turn::NoMemory,
-        Went::Busy(holder) => return Turn::Busy(holder.caller),
+        Went::Ended => return StepEnd::Ended,
+        Went::On => return StepEnd::Again,
+        Went::Back => return StepEnd::Again,
+        Went::NoMemory => return StepEnd::NoMemory,
+        Went::Busy(holder) => return StepEnd::Busy(holder.caller),
         Went::Shut => match recover(alloc, core, hook, runner, calls, call) {
-            Went::Ended => return Turn::Ended,
-            Went::NoMemory => return Turn::NoMemory,
-            Went::Back => return Turn::Again,
+            Went::Ended => return StepEnd::Ended,
+            Went::NoMemory => return StepEnd::NoMemory,
+            Went::Back => return StepEnd::Again,
             Went::On => unreachable!(),
             Went::Shut => unreachable!(),
             Went::Busy(_) => unreachable!(),
@@ -254,13 +254,13 @@ pub fn run_call<C: EventCore, H: Hook>(
             calls,
             call,
         ) {
-            Turn::Ended => return true,
-            Turn::Again => {}
-            Turn::NoMemory => {
+            StepEnd::Ended => return true,
+            StepEnd::Again => {}
+            StepEnd::NoMemory => {
                 give_up(core, &runners[caller as usize]);
                 return false;
             }
-            Turn::Busy(holder) => {
+            StepEnd::Busy(holder) => {
                 let holds = runners[holder as usize].done;
                 let Some(first) = find_call(calls, index, holder, holds) else {
                     unreachable!();

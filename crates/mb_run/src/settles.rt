@@ -7,7 +7,7 @@ ghost use Rattle.mb_run.specs.Sights.{IsOrderlyInSight, recovers, undue_in};
 ghost use Rattle.mb_run.specs.declared.settles.SettleEnd.TheVariants as end;
 ghost use Rattle.std.specs.Prelude.{Some};
 
-use crate::answers::Stepped;
+use crate::answers::StepAnswer;
 use crate::event_core::EventCore;
 use crate::orders::seal_now;
 use mb_cache::Flushed;
@@ -46,17 +46,17 @@ fn calm_step<C: EventCore>(alloc: Global, core: &mut C) -> Option<SettleEnd>
     let mut hook = Calm;
     let mut by = None;
     match core.recover_step(alloc, &mut by, &mut hook) {
-        Stepped::Idle => return Some(SettleEnd::Clean),
-        Stepped::Failed { .. } => return Some(SettleEnd::Clean),
-        Stepped::Resumed => return Some(SettleEnd::Clean),
-        Stepped::Device => return Some(SettleEnd::Device),
-        Stepped::NoMemory => return Some(SettleEnd::NoMemory),
-        Stepped::Unwound(_) => return None,
-        Stepped::Dropped => return None,
-        Stepped::Remounted => return None,
-        Stepped::Reopened => return None,
-        Stepped::Replayed(_) => return None,
-        Stepped::Again { .. } => unreachable!(),
+        StepAnswer::Idle => return Some(SettleEnd::Clean),
+        StepAnswer::Failed { .. } => return Some(SettleEnd::Clean),
+        StepAnswer::Resumed => return Some(SettleEnd::Clean),
+        StepAnswer::Device => return Some(SettleEnd::Device),
+        StepAnswer::NoMemory => return Some(SettleEnd::NoMemory),
+        StepAnswer::Unwound(_) => return None,
+        StepAnswer::Dropped => return None,
+        StepAnswer::Remounted => return None,
+        StepAnswer::Reopened => return None,
+        StepAnswer::Replayed(_) => return None,
+        StepAnswer::Again { .. } => unreachable!(),
     }
 }
 

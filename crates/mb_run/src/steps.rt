@@ -9,12 +9,12 @@ ghost use Rattle.mb_run.specs.Tallies.{IsEntering, IsFinishing, Tallies, Tallied
 ghost use Rattle.mb_run.specs.declared.progress.Went.TheVariants as went;
 ghost use Rattle.mb_run.specs.declared.runner.At.TheVariants as at;
 
-use crate::answers::Enter;
+use crate::answers::EnterAnswer;
 use crate::event_core::EventCore;
 use crate::progress::Went;
 use crate::runner::{At, Runner};
 use mb_callers::Pages;
-use mb_calls::{Performed, Performing, Ready};
+use mb_calls::{Performed, Performing, ReadyCall};
 use mb_core_state::{Finished, Gathered, Left};
 use mb_edge::{Hook, Word};
 use mb_iface::{Need, View};
@@ -96,13 +96,13 @@ pub(crate) fn enter<C: EventCore, H: Hook>(
     ensures right { IsOrderlyInSight (C.sight core.new) }
 {
     match core.enter(alloc, runner.crossings.caller, call) {
-        Enter::Done(_) => {
+        EnterAnswer::Done(_) => {
             runner.advance();
             return Went::Ended;
         }
-        Enter::Shut => return Went::Shut,
-        Enter::NoMemory => return Went::NoMemory,
-        Enter::Inside(ticket) => {
+        EnterAnswer::Shut => return Went::Shut,
+        EnterAnswer::NoMemory => return Went::NoMemory,
+        EnterAnswer::Inside(ticket) => {
             runner.at = At::Inside(ticket);
             runner.asked = false;
             runner.pages.clear();
@@ -163,7 +163,7 @@ fn finish_now<C: EventCore, H: Hook>(
     calls: &[JobCall],
     call: &Call,
     ticket: &Ticket,
-    ready: Ready,
+    ready: ReadyCall,
 ) -> Went
     requires may { MayStep calls.now (H.test hook.now) (C.sight core.old) runner.old call.now }
     requires inside { runner.old.at ≡ at.Inside ticket.now }
@@ -207,7 +207,7 @@ fn finish<C: EventCore, H: Hook>(
     calls: &[JobCall],
     call: &Call,
     ticket: &Ticket,
-    ready: Ready,
+    ready: ReadyCall,
 ) -> Went
     requires may { MayStep calls.now (H.test hook.old) (C.sight core.old) runner.old call.now }
     requires inside { runner.old.at ≡ at.Inside ticket.now }

@@ -5,7 +5,7 @@ use std::alloc::{AllocError, Global};
 
 /// Where the callers of a job work.
 #[derive(Clone, Copy, PartialEq, Eq, Drop)]
-pub enum Place {
+pub enum Workplace {
     /// All of them in the root.
     Root,
     /// Each in a directory of its own.
@@ -37,12 +37,12 @@ fn path(
     alloc: Global,
     draws: &mut Draws,
     caller: char,
-    place: Place,
+    place: Workplace,
 ) -> Result<String, AllocError> {
     let name = draws.below(6);
     match place {
-        Place::Root => format!(in alloc; "/f{name}"),
-        Place::Apart => format!(in alloc; "/{caller}/f{name}"),
+        Workplace::Root => format!(in alloc; "/f{name}"),
+        Workplace::Apart => format!(in alloc; "/{caller}/f{name}"),
     }
 }
 
@@ -51,7 +51,7 @@ fn name_call(
     alloc: Global,
     draws: &mut Draws,
     caller: char,
-    place: Place,
+    place: Workplace,
 ) -> Result<String, AllocError> {
     let path = path(alloc, draws, caller, place)?;
     match draws.below(10) {
@@ -82,7 +82,12 @@ fn file_call(alloc: Global, draws: &mut Draws) -> Result<String, AllocError> {
 }
 
 /// The text of a job of eight callers with so many calls each, one of each after another.
-pub fn calls_of(alloc: Global, seed: u64, count: u32, place: Place) -> Result<String, AllocError> {
+pub fn calls_of(
+    alloc: Global,
+    seed: u64,
+    count: u32,
+    place: Workplace,
+) -> Result<String, AllocError> {
     let mut draws = Draws { state: seed };
     let mut text = String::new(alloc);
     text.push_str(

@@ -1,4 +1,4 @@
-use crate::jobs::{Place, calls_of, faults_of};
+use crate::jobs::{Workplace, calls_of, faults_of};
 use crate::runs::run;
 use mb_headline::injectors_for;
 use mb_jobs::job_of;
@@ -18,7 +18,7 @@ const BETWEEN_FAULTS: u32 = 800;
 // Runs a job of eight callers in threads: its history is the reference model's, and the image that is left is a volume.
 fn agrees<R: Threads + Wait + Sync + Abort + AllocGlobal>(
     rt: &R,
-    place: Place,
+    place: Workplace,
     seed: u64,
     faulty: bool,
 ) -> Result<(), Fail> {
@@ -40,12 +40,12 @@ fn agrees<R: Threads + Wait + Sync + Abort + AllocGlobal>(
 
 #[test]
 fn eight_callers_in_one_directory(rt: HostRuntime) -> Result<(), Fail> {
-    agrees(&rt, Place::Root, 1, false)?;
-    agrees(&rt, Place::Root, 2, true)
+    agrees(&rt, Workplace::Root, 1, false)?;
+    agrees(&rt, Workplace::Root, 2, true)
 }
 
 #[test]
 fn eight_callers_in_eight_directories(rt: HostRuntime) -> Result<(), Fail> {
-    agrees(&rt, Place::Apart, 3, false)?;
-    agrees(&rt, Place::Apart, 4, true)
+    agrees(&rt, Workplace::Apart, 3, false)?;
+    agrees(&rt, Workplace::Apart, 4, true)
 }

@@ -27,7 +27,7 @@ const INODES: u16 = 128;
 /// What a run left: how it ended, how many entries its history has, its fault records, the first entry that is not the
 /// reference model's, how the end of the run went, and whether the image is a volume.
 #[derive(Drop)]
-pub struct Left {
+pub struct LeftByRun {
     pub end: DriveEnd,
     pub entries: usize,
     pub records: Vec<FaultRecord>,
@@ -89,7 +89,7 @@ pub fn run<H: Hook + Send + Drop, R: Threads + Wait + Sync + AllocGlobal>(
     rt: &R,
     job: &Job,
     hooks: Vec<H>,
-) -> Result<Left, Fail>
+) -> Result<LeftByRun, Fail>
     requires { (bytes : List ℕ) × (job_in bytes ≡ Ok job.now) }
 {
     let alloc: Global = rt.alloc();
@@ -110,7 +110,7 @@ pub fn run<H: Hook + Send + Drop, R: Threads + Wait + Sync + AllocGlobal>(
     let VolumeCore { core } = core;
     let mut disk = core.into_disk();
     let sound = sound(alloc, &mut disk).is_ok();
-    Ok(Left {
+    Ok(LeftByRun {
         end,
         entries,
         records: records?,

@@ -24,7 +24,7 @@ use Rattle.mb_run.specs.Drives.{HasEachMoment, IsBegun, IsDrivenApart}
 use Rattle.mb_run.specs.Recovering.{crossing_of}
 use Rattle.mb_run.specs.Served.{AreApart, AreSound, calls_of}
 use Rattle.mb_run.specs.Seals.{late, omitted, undue}
-use Rattle.mb_run.specs.Sights.{Limits, Seat, amiss_in, late_in, limits_of, omitted_in, undue_in}
+use Rattle.mb_run.specs.Sights.{Limits, SightSeat, amiss_in, late_in, limits_of, omitted_in, undue_in}
 use Rattle.mb_turn.specs.Passes.{known}
 use Rattle.mb_run.proofs.InTime.{InTime}
 use Rattle.mb_volume_core.proofs.Orderly.{orderly}
@@ -77,7 +77,7 @@ module _ {F D : Type 0} (told : D → Option Image) (faults : D → ℕ) (core o
       (let within = slice_get_within core.callers place mine here in
       let low : place < length job.callers = omega (arith, within, r.orderly.numbered.callers_are, size) in
       let has = made place low in
-      let seat : mine.begun ≡ length (calls_of job.calls place) = sym (ap (λ (o : Option CallerState). (seat_of o).begun) here) ∙ ap (λ (s : Seat). s.begun) has.seat in
+      let seat : mine.begun ≡ length (calls_of job.calls place) = sym (ap (λ (o : Option CallerState). (seat_of o).begun) here) ∙ ap (λ (s : SightSeat). s.begun) has.seat in
       let long : length (calls_of job.calls place) ≡ length (own core.journal.history place) = sym (ap length has.calls) ∙ map_long (λ (e : Entry). e.call) (own core.journal.history place) in
       seat ∙ long ∙ ap (λ n. length (own core.journal.history n)) (omega arith)))
       (all_map (IsEntry core.config.start (core.config.start + (sight_of core).begun) (length core.config.callers)) (λ (e : Entry). (0 ≤ e.caller) × (e.caller < 0 + length core.callers)) core.journal.history
@@ -102,7 +102,7 @@ module _ {F D : Type 0} (told : D → Option Image) (faults : D → ℕ) (core o
   pub driven_apart : amiss_in (sight_of core) ≤ amiss_in (sight_of old) → IsDrivenApart job 0 (test_of tests) (sight_of old) (sight_of core)
   driven_apart low = record {
     config = ap limits_of same;
-    free = λ caller low. ap (λ (s : Seat). s.flight) (made caller (omega (arith, low, size))).seat;
+    free = λ caller low. ap (λ (s : SightSeat). s.flight) (made caller (omega (arith, low, size))).seat;
     own_calls = λ caller low. (made caller low).calls;
     begun = all_begun;
     moments = subst (λ n. HasEachMoment n core.journal.history) (ap (λ (k : Config). k.start) same ∙ begun.start) (each_moment (sight_of core) (orderly told faults core r seals) all_begun);

@@ -15,7 +15,7 @@ use Rattle.mb_run.proofs.Lists.{all_both, all_map, neq, take_next}
 use Rattle.mb_run.specs.Recovering.{crossing_of}
 use Rattle.mb_run.specs.Seals.{is_plain}
 use Rattle.mb_run.specs.Served.{AreApart, AreSound, IsApart, calls_of}
-use Rattle.mb_run.specs.Sights.{Seat}
+use Rattle.mb_run.specs.Sights.{SightSeat}
 use Rattle.mb_volume.specs.Called.{AreOfFirst, IsAnsweredWith, MetOnce, own_faults}
 use Rattle.mb_volume.specs.Parts.{Part}
 use Rattle.mb_volume.proofs.Telling.{all_kept, no_earlier}
@@ -65,7 +65,7 @@ once_now ordinal begun before more is first all once =
 
 pub made_more : (made : List Call) (call : Call) (test : Option (Crossing → Bool)) (caller : ℕ) (old now : Part) (answer : Reply) → HasMadeCalls made test old → IsAnsweredWith call test caller old now answer → HasMadeCalls (made ++ call ∷ []) test now
 made_more made call test caller old now answer was is =
-    let begun : old.seat.begun ≡ length made = ap (λ (s : Seat). s.begun) was.seat in
+    let begun : old.seat.begun ≡ length made = ap (λ (s : SightSeat). s.begun) was.seat in
     let long : length (made ++ call ∷ []) ≡ length made + 1 = length-append made (call ∷ []) in
     let ordinals : AllByRecursion (λ (f : FaultRecord). f.ordinal ≡ length made + 1) is.suffers.more =
     all_map (λ (f : FaultRecord). (f.caller ≡ caller) × (f.ordinal ≡ old.seat.begun + 1)) (λ (f : FaultRecord). f.ordinal ≡ length made + 1) is.suffers.more (λ f its. its.1 ∙ ap (λ n. n + 1) begun) is.suffers.theirs in

@@ -23,7 +23,7 @@ use Rattle.mb_run.specs.CoreSight.{seat_of, sight_of}
 use Rattle.mb_run.specs.Drives.{HasEachMoment, IsBegun, IsDrivenApart}
 use Rattle.mb_run.specs.Recovering.{crossing_of}
 use Rattle.mb_run.specs.Served.{AreApart, AreSound, calls_in, calls_of}
-use Rattle.mb_run.specs.Sights.{IsOrderlyInSight, Limits, Seat, Sight, limits_of, amiss_in}
+use Rattle.mb_run.specs.Sights.{IsOrderlyInSight, Limits, SightSeat, Sight, limits_of, amiss_in}
 use Rattle.mb_turn.specs.Passes.{IsIdle, Known, dealt, known}
 use Rattle.mb_volume.proofs.Changing.{part_follows}
 use Rattle.mb_volume.specs.Parts.{Part, part_of, stand_in}

@@ -14,7 +14,7 @@ use mb_edge::{Disk, Hook};
 use mb_iface::FileSys;
 use mb_jobs::{Job, JobCall};
 use mb_run::{DriveEnd, Driven, EventCore};
-use mb_turn::{Passes, each};
+use mb_turn::{PassList, each};
 use mb_volume::{SharedCore, Volume};
 use mb_volume_core::VolumeCore;
 use std::alloc::Global;
@@ -23,8 +23,8 @@ use std::thread::Threads;
 
 /// Runs the calls of a job over a core that was begun for it, each caller in a thread of its own with a fault injector
 /// of its own; `hooks` has one for each caller, in their order. Where memory suffices every call of the job has its
-/// entry, each caller's in its order, and none is in flight. No checkpoint is taken but where one is due. It may wait for its
-/// threads.
+/// entry, each caller's in its order, and none is in flight. No checkpoint is taken but where one is due, none is left out behind
+/// a `sync`, and once a call has the failed volume's answer every later entry has it. It may wait for its threads.
 pub fn drive_threads<
     F: FileSys + Send,
     D: Disk + Send,
@@ -108,7 +108,7 @@ fn end_of<F: FileSys, D: Disk>(core: &VolumeCore<F, D>, stopped: bool) -> DriveE
 
 /// A worker for each pass, with the fault injector at the same place.
 fn employ<'a, F: FileSys, D: Disk, H: Hook + Drop>(
-    passes: Passes<SharedCore<F, D>>,
+    passes: PassList<SharedCore<F, D>>,
     hooks: Vec<H>,
     calls: &'a [JobCall],
     mut workers: Vec<Worker<'a, F, D, H>>,
@@ -137,8 +137,8 @@ fn employ<'a, F: FileSys, D: Disk, H: Hook + Drop>(
 /// The passes of all workers, and whether one of them met want of memory.
 fn dismiss<F: FileSys, D: Disk, H: Hook + Drop>(
     workers: Vec<Worker<'_, F, D, H>>,
-    mut passes: Passes<SharedCore<F, D>>,
-) -> (Passes<SharedCore<F, D>>, bool)
+    mut passes: PassList<SharedCore<F, D>>,
+) -> (PassList<SharedCore<F, D>>, bool)
     requires room { (passes.items ≡ []) × (vec_len passes ≡ 0) × (vec_capacity passes ≡ vec_len workers) }
     ensures passes { result.0.items ≡ map (λ worker. worker.pass) workers.entry.items }
     ensures stopped { result.1 ≡ false → AllByRecursion (λ worker. worker.stopped ≡ false) workers.entry.items }

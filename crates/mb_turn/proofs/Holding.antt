@@ -8,11 +8,11 @@ use Rattle.atomic_table.specs.Table.{State, Me, Act, keeps, takes, gives, Valid,
 use Rattle.atomic_table.proofs.Lists.{set_here, exchanged}
 use Rattle.mb_kinds.specs.declared.Entry.{Entry}
 use Rattle.mb_kinds.specs.declared.Stand.{Stand}
-use Rattle.mb_turn.specs.Passes.{Each, Follows, Adds}
+use Rattle.mb_turn.specs.Passes.{EachIn, Follows, Adds}
 use Rattle.mb_turn.specs.Rule.{free, held, Fits, Kept}
 use Rattle.mb_turn.specs.Steps.{took, published, given}
-use Rattle.mb_turn.specs.declared.sight.Sight.{Sight}
-use Rattle.mb_turn.specs.declared.sight.View.{View}
+use Rattle.mb_turn.specs.declared.sight.LastSeen.{LastSeen}
+use Rattle.mb_turn.specs.declared.sight.SeatView.{SeatView}
 use Rattle.mb_turn.specs.declared.sight.Key.{Key}
 use Rattle.mb_turn.proofs.Lists.{word_0, word_1}
 use Rattle.mb_turn.proofs.Knowing.{follows_itself, follows_trans, adds_follows}
@@ -20,11 +20,11 @@ use Rattle.mb_turn.proofs.Views.{renewed, holds_alone, none_holds}
 
 module _ {T Origin : Type 0} (list : T → List Entry) (stand : T → ℕ → Option Stand) (origin : T → Origin) (tally : T → ℕ) where
   -- what a step that makes word i become n owes, with the act and the view that it picks
-  Goes : (key : Key T) (s : State (Option T) (View T)) (i n id : ℕ) (me : Me (Option T) (View T)) (then : Me (Option T) (View T) → Type 0) → Type 0
+  Goes : (key : Key T) (s : State (Option T) (SeatView T)) (i n id : ℕ) (me : Me (Option T) (SeatView T)) (then : Me (Option T) (SeatView T) → Type 0) → Type 0
   Goes key s i n id me then =
-      (w : View T) × (a : Act (Option T)) × Valid s.homes me.1 a × Kept list stand origin tally key (stepped s i n id me.1 w a) × then (w, carried_after me.1 a)
+      (w : SeatView T) × (a : Act (Option T)) × Valid s.homes me.1 a × Kept list stand origin tally key (stepped s i n id me.1 w a) × then (w, carried_after me.1 a)
 
-  took_it : (key : Key T) (id caller : ℕ) (saw : T) (s : State (Option T) (View T)) (k : Kept list stand origin tally key s) → get_elem? s.views id ≡ some (free caller saw) → get_or s.words 0 0 ≡ 0
+  took_it : (key : Key T) (id caller : ℕ) (saw : T) (s : State (Option T) (SeatView T)) (k : Kept list stand origin tally key s) → get_elem? s.views id ≡ some (free caller saw) → get_or s.words 0 0 ≡ 0
       → Goes key s 0 1 id (free caller saw, []) (took list stand origin tally (free caller saw, []) (get_or s.words 0 0))
   unfolding Goes
   took_it key id caller saw s k at zero_is =
@@ -41,7 +41,7 @@ module _ {T Origin : Type 0} (list : T → List Entry) (stand : T → ℕ → Op
         (((λ _. (k.now, f.sights.0, refl)), tt), λ ne. absurd (ne zero_is)),
       )
 
-  let_be : (key : Key T) (id caller : ℕ) (saw : T) (s : State (Option T) (View T)) (k : Kept list stand origin tally key s) → get_elem? s.views id ≡ some (free caller saw) → get_or s.words 0 0 ≢ 0
+  let_be : (key : Key T) (id caller : ℕ) (saw : T) (s : State (Option T) (SeatView T)) (k : Kept list stand origin tally key s) → get_elem? s.views id ≡ some (free caller saw) → get_or s.words 0 0 ≢ 0
       → Goes key s 0 (get_or s.words 0 0) id (free caller saw, []) (took list stand origin tally (free caller saw, []) (get_or s.words 0 0))
   unfolding Goes
   let_be key id caller saw s k at not_zero =
@@ -57,11 +57,11 @@ module _ {T Origin : Type 0} (list : T → List Entry) (stand : T → ℕ → Op
         (((λ z. absurd (not_zero z)), tt), λ _. refl),
       )
 
-  pub takes_at : (key : Key T) (slots id caller : ℕ) (saw : T) (me : Me (Option T) (View T)) → me ≡ (free caller saw, [])
+  pub takes_at : (key : Key T) (slots id caller : ℕ) (saw : T) (me : Me (Option T) (SeatView T)) → me ≡ (free caller saw, [])
       → Allows (Kept list stand origin tally key) slots id me 0 (λ n. either (eqb n 0) 1 n) (took list stand origin tally me)
   unfolding Goes
   takes_at key slots id caller saw me is =
-      let P : Me (Option T) (View T) → Type 0 = λ m. Allows (Kept list stand origin tally key) slots id m 0 (λ n. either (eqb n 0) 1 n) (took list stand origin tally m) in
+      let P : Me (Option T) (SeatView T) → Type 0 = λ m. Allows (Kept list stand origin tally key) slots id m 0 (λ n. either (eqb n 0) 1 n) (took list stand origin tally m) in
       subst P (sym is) (λ s k long at small.
       exchanged (get_or s.words 0 0) 0 1 (λ n. Goes key s 0 n id (free caller saw, []) (took list stand origin tally (free caller saw, []) (get_or s.words 0 0)))
       (took_it key id caller saw s k at) (let_be key id caller saw s k at))
@@ -92,17 +92,17 @@ module _ {T Origin : Type 0} (list : T → List Entry) (stand : T → ℕ → Op
         ((refl, tt), tt),
       )
     where
-      goes_on : (caller : ℕ) (now value : T) → Adds list stand origin tally caller now value → (xs : List (Sight T)) → Each (λ (x : Sight T). x.caller ≢ caller) xs
-          → Each (λ (x : Sight T). Follows list stand origin tally x.caller x.value now) xs → Each (λ (x : Sight T). Follows list stand origin tally x.caller x.value value) xs
+      goes_on : (caller : ℕ) (now value : T) → Adds list stand origin tally caller now value → (xs : List (LastSeen T)) → EachIn (λ (x : LastSeen T). x.caller ≢ caller) xs
+          → EachIn (λ (x : LastSeen T). Follows list stand origin tally x.caller x.value now) xs → EachIn (λ (x : LastSeen T). Follows list stand origin tally x.caller x.value value) xs
       goes_on caller now value adds [] apart follow = tt
       goes_on caller now value adds (x ∷ xs) apart follow =
           (follows_trans list stand origin tally x.caller x.value now value follow.0 (adds_follows list stand origin tally caller x.caller now value apart.0 adds), goes_on caller now value adds xs apart.1 follow.1)
 
-  pub publishes_at : (key : Key T) (slots id caller : ℕ) (saw value : T) (n : ℕ) (me : Me (Option T) (View T)) → me ≡ (held caller saw, (0, Some value) ∷ [])
+  pub publishes_at : (key : Key T) (slots id caller : ℕ) (saw value : T) (n : ℕ) (me : Me (Option T) (SeatView T)) → me ≡ (held caller saw, (0, Some value) ∷ [])
       → n ≡ length (list value) → Adds list stand origin tally caller saw value
       → Allows (Kept list stand origin tally key) slots id me 1 (λ _. n) (λ _. published me)
   publishes_at key slots id caller saw value n me is count adds =
-      let P : Me (Option T) (View T) → Type 0 = λ m. Allows (Kept list stand origin tally key) slots id m 1 (λ _. n) (λ _. published m) in
+      let P : Me (Option T) (SeatView T) → Type 0 = λ m. Allows (Kept list stand origin tally key) slots id m 1 (λ _. n) (λ _. published m) in
       subst P (sym is) (publishes key slots id caller saw value n count adds)
 
   -- with the value at home and its count published, the turn is free
@@ -122,9 +122,9 @@ module _ {T Origin : Type 0} (list : T → List Entry) (stand : T → ℕ → Op
         (refl, tt),
       )
 
-  pub gives_at : (key : Key T) (slots id caller : ℕ) (value : T) (me : Me (Option T) (View T)) → me ≡ (held caller value, (0, Some value) ∷ []) → slots ≡ 1
+  pub gives_at : (key : Key T) (slots id caller : ℕ) (value : T) (me : Me (Option T) (SeatView T)) → me ≡ (held caller value, (0, Some value) ∷ []) → slots ≡ 1
       → Allows (Kept list stand origin tally key) slots id me 0 (λ _. 0) (λ _. given me)
   gives_at key slots id caller value me is one =
-      let P : Me (Option T) (View T) → Type 0 = λ m. Allows (Kept list stand origin tally key) slots id m 0 (λ _. 0) (λ _. given m) in
+      let P : Me (Option T) (SeatView T) → Type 0 = λ m. Allows (Kept list stand origin tally key) slots id m 0 (λ _. 0) (λ _. given m) in
       let Q : ℕ → Type 0 = λ n. Allows (Kept list stand origin tally key) n id (held caller value, (0, Some value) ∷ []) 0 (λ _. 0) (λ _. given (held caller value, (0, Some value) ∷ [])) in
       subst P (sym is) (subst Q (sym one) (gives_up key id caller value))

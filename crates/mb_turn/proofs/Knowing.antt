@@ -6,7 +6,7 @@ use Rattle.std.proofs.lemmas.List.{append-nil}
 use Rattle.mb_kinds.specs.Own.{own, OwnAppends}
 use Rattle.mb_kinds.specs.declared.Entry.{Entry}
 use Rattle.mb_kinds.specs.declared.Stand.{Stand}
-use Rattle.mb_turn.specs.Passes.{Each, Follows, Adds, Continues}
+use Rattle.mb_turn.specs.Passes.{EachIn, Follows, Adds, ContinuesBy}
 use Rattle.mb_turn.proofs.Lists.{prefix_trans, append_nil_left, append_cancel, own_all, own_none}
 
 pub own_append : OwnAppends
@@ -17,16 +17,16 @@ pub own_between : (saw rest : List Entry) (caller : ℕ) → own (saw ++ rest) c
 own_between saw rest caller e = append_nil_left (own saw caller) (own rest caller) (sym (own_append saw rest caller) ∙ e)
 
 -- a caller's new entries stand behind its older ones
-pub own_added : (took new : List Entry) (caller : ℕ) → Each (λ (e : Entry). e.caller ≡ caller) new → own (took ++ new) caller ≡ own took caller ++ new
+pub own_added : (took new : List Entry) (caller : ℕ) → EachIn (λ (e : Entry). e.caller ≡ caller) new → own (took ++ new) caller ≡ own took caller ++ new
 own_added took new caller all = own_append took new caller ∙ ap (λ l. own took caller ++ l) (own_all new caller all)
 
 -- and another caller has none of them
-pub own_others : (took now : List Entry) (caller other : ℕ) → caller ≢ other → Continues caller took now → own now other ≡ own took other
+pub own_others : (took now : List Entry) (caller other : ℕ) → caller ≢ other → ContinuesBy caller took now → own now other ≡ own took other
 own_others took now caller other apart c =
     ap (λ l. own l other) c.whole ∙ own_append took c.new other ∙ ap (λ l. own took other ++ l) (own_none c.new caller other apart c.all_own) ∙ append-nil (own took other)
 
 -- whichever new entries are named, they are the ones that stand behind the older
-pub own_grows : (took now new : List Entry) (caller : ℕ) → Continues caller took now → now ≡ took ++ new → own now caller ≡ own took caller ++ new
+pub own_grows : (took now new : List Entry) (caller : ℕ) → ContinuesBy caller took now → now ≡ took ++ new → own now caller ≡ own took caller ++ new
 own_grows took now new caller c e =
     ap (λ l. own l caller) c.whole ∙ own_added took c.new caller c.all_own ∙ ap (λ l. own took caller ++ l) (append_cancel took c.new new (sym c.whole ∙ e))
 

@@ -4,15 +4,15 @@ use Rattle.std.specs.List.{AllZip}
 use mathlib.Core.List.{IsPrefix}
 use Rattle.mb_kinds.specs.Own.{own}
 use Rattle.mb_kinds.specs.declared.Entry.{Entry}
-use Rattle.mb_turn.specs.Passes.{Each}
+use Rattle.mb_turn.specs.Passes.{EachIn}
 
 module _ {A : Type 0} (P : A → Type 0) where
-  pub each_append : (xs ys : List A) → Each P xs → Each P ys → Each P (xs ++ ys)
+  pub each_append : (xs ys : List A) → EachIn P xs → EachIn P ys → EachIn P (xs ++ ys)
   each_append [] ys p q = q
   each_append (x ∷ xs) ys p q = (p.0, each_append xs ys p.1 q)
 
 module _ {A : Type 0} where
-  pub each_map : (P Q : A → Type 0) → ((x : A) → P x → Q x) → (xs : List A) → Each P xs → Each Q xs
+  pub each_map : (P Q : A → Type 0) → ((x : A) → P x → Q x) → (xs : List A) → EachIn P xs → EachIn Q xs
   each_map P Q f [] p = tt
   each_map P Q f (x ∷ xs) p = (f x p.0, each_map P Q f xs p.1)
 
@@ -45,10 +45,10 @@ word_1 [] n e = absurd (omega arith)
 word_1 (x ∷ []) n e = absurd (omega arith)
 word_1 (x ∷ y ∷ words) n e = (e, refl, refl)
 
-pub own_all : (entries : List Entry) (caller : ℕ) → Each (λ (e : Entry). e.caller ≡ caller) entries → own entries caller ≡ entries
+pub own_all : (entries : List Entry) (caller : ℕ) → EachIn (λ (e : Entry). e.caller ≡ caller) entries → own entries caller ≡ entries
 own_all [] caller all = refl
 own_all (e ∷ entries) caller all = rw (eq-eqb e.caller caller all.0) (ap (λ l. e ∷ l) (own_all entries caller all.1))
 
-pub own_none : (entries : List Entry) (caller other : ℕ) → caller ≢ other → Each (λ (e : Entry). e.caller ≡ caller) entries → own entries other ≡ []
+pub own_none : (entries : List Entry) (caller other : ℕ) → caller ≢ other → EachIn (λ (e : Entry). e.caller ≡ caller) entries → own entries other ≡ []
 own_none [] caller other apart all = refl
 own_none (e ∷ entries) caller other apart all = rw (ne_eqb e.caller other (λ h. apart (sym all.0 ∙ h))) (own_none entries caller other apart all.1)

@@ -8,11 +8,11 @@ use Rattle.atomic_table.specs.Table.{State, Splits, Joins, opening, Final, Seen}
 use Rattle.atomic_table.proofs.Lists.{at_set, at_snoc}
 use Rattle.mb_kinds.specs.declared.Entry.{Entry}
 use Rattle.mb_kinds.specs.declared.Stand.{Stand}
-use Rattle.mb_turn.specs.Passes.{Each, Follows}
+use Rattle.mb_turn.specs.Passes.{EachIn, Follows}
 use Rattle.mb_turn.specs.Rule.{total, one_if, width, holding, shares, sights_from, first_view, Fits, Kept}
 use Rattle.mb_turn.specs.Steps.{head_sights, tail_sights, head_of, tail_of, both_of, blank}
-use Rattle.mb_turn.specs.declared.sight.Sight.{Sight}
-use Rattle.mb_turn.specs.declared.sight.View.{View}
+use Rattle.mb_turn.specs.declared.sight.LastSeen.{LastSeen}
+use Rattle.mb_turn.specs.declared.sight.SeatView.{SeatView}
 use Rattle.mb_turn.specs.declared.sight.Key.{Key}
 use Rattle.mb_turn.proofs.Sums.{total_set, total_append, total_two, total_some}
 use Rattle.mb_turn.proofs.Lists.{each_append}
@@ -37,7 +37,7 @@ none_equal : (a c : ℕ) → a ≢ c → one_if (eqb a c) ≡ 0
 none_equal a c apart = ap one_if (ne_eqb a c apart)
 
 module _ {T : Type 0} where
-  from_below : (callers a n : ℕ) (value : T) → a + n ≡ callers → Each (λ (x : Sight T). x.caller < callers) (sights_from a n value)
+  from_below : (callers a n : ℕ) (value : T) → a + n ≡ callers → EachIn (λ (x : LastSeen T). x.caller < callers) (sights_from a n value)
   from_below callers a zero value e = tt
   from_below callers a (suc n) value e = (omega arith, from_below callers (a + 1) n value (omega arith))
 
@@ -45,11 +45,11 @@ module _ {T : Type 0} where
   from_length a zero value = refl
   from_length a (suc n) value = ap suc (from_length (a + 1) n value)
 
-  from_before : (c a n : ℕ) (value : T) → c < a → total (λ (x : Sight T). one_if (eqb x.caller c)) (sights_from a n value) ≡ 0
+  from_before : (c a n : ℕ) (value : T) → c < a → total (λ (x : LastSeen T). one_if (eqb x.caller c)) (sights_from a n value) ≡ 0
   from_before c a zero value h = refl
   from_before c a (suc n) value h = let e = from_before c (a + 1) n value (omega arith) in let z = none_equal a c (λ e. omega arith) in omega arith
 
-  from_once : (c a n : ℕ) (value : T) → total (λ (x : Sight T). one_if (eqb x.caller c)) (sights_from a n value) ≤ 1
+  from_once : (c a n : ℕ) (value : T) → total (λ (x : LastSeen T). one_if (eqb x.caller c)) (sights_from a n value) ≤ 1
   from_once c a zero value = omega arith
   from_once c a (suc n) value =
       let rest = from_once c (a + 1) n value in
@@ -58,24 +58,24 @@ module _ {T : Type 0} where
       (λ p. let z = ap one_if p.0 in omega arith)
       (eqb_tells a c)
 
-  tail_width : (xs : List (Sight T)) → length (tail_sights xs) + length (head_sights xs) ≡ length xs
+  tail_width : (xs : List (LastSeen T)) → length (tail_sights xs) + length (head_sights xs) ≡ length xs
   tail_width [] = refl
   tail_width (x ∷ xs) = omega arith
 
-  tail_total : (f : Sight T → ℕ) (xs : List (Sight T)) → total f (tail_sights xs) + total f (head_sights xs) ≡ total f xs
+  tail_total : (f : LastSeen T → ℕ) (xs : List (LastSeen T)) → total f (tail_sights xs) + total f (head_sights xs) ≡ total f xs
   tail_total f [] = refl
   tail_total f (x ∷ xs) = omega arith
 
-  tail_each : (P : Sight T → Type 0) (xs : List (Sight T)) → Each P xs → Each P (tail_sights xs)
+  tail_each : (P : LastSeen T → Type 0) (xs : List (LastSeen T)) → EachIn P xs → EachIn P (tail_sights xs)
   tail_each P [] p = tt
   tail_each P (x ∷ xs) p = p.1
 
-  head_each : (P : Sight T → Type 0) (xs : List (Sight T)) → Each P xs → Each P (head_sights xs)
+  head_each : (P : LastSeen T → Type 0) (xs : List (LastSeen T)) → EachIn P xs → EachIn P (head_sights xs)
   head_each P [] p = tt
   head_each P (x ∷ xs) p = (p.0, tt)
 
 module _ {T Origin : Type 0} (list : T → List Entry) (stand : T → ℕ → Option Stand) (origin : T → Origin) (tally : T → ℕ) where
-  from_follow : (a n : ℕ) (value : T) → Each (λ (x : Sight T). Follows list stand origin tally x.caller x.value value) (sights_from a n value)
+  from_follow : (a n : ℕ) (value : T) → EachIn (λ (x : LastSeen T). Follows list stand origin tally x.caller x.value value) (sights_from a n value)
   from_follow a zero value = tt
   from_follow a (suc n) value = (follows_itself list stand origin tally a value, from_follow (a + 1) n value)
 
@@ -97,13 +97,13 @@ module _ {T Origin : Type 0} (list : T → List Entry) (stand : T → ℕ → Op
     home = λ z. refl;
     fits = (λ id v at.
         subst (Fits list stand origin tally key.callers value) (only (first_view key) v id at) (record {
-          sights = (let P : T → Type 0 = λ t. Each (λ (x : Sight T). Follows list stand origin tally x.caller x.value t) (sights_from 0 key.callers key.first.value) in subst P first (from_follow 0 key.callers key.first.value));
+          sights = (let P : T → Type 0 = λ t. EachIn (λ (x : LastSeen T). Follows list stand origin tally x.caller x.value t) (sights_from 0 key.callers key.first.value) in subst P first (from_follow 0 key.callers key.first.value));
           numbers = from_below key.callers 0 key.callers key.first.value (omega arith);
           held_is = λ h. cc;
         }));
   }
 
-  pub splits : (key : Key T) (id : ℕ) (v : View T) → v.holds ≡ false → Splits (Kept list stand origin tally key) id v (tail_of v) (head_of v)
+  pub splits : (key : Key T) (id : ℕ) (v : SeatView T) → v.holds ≡ false → Splits (Kept list stand origin tally key) id v (tail_of v) (head_of v)
   splits key id v idle s k at =
       let z : holding v ≡ 0 = ap one_if idle in
       let f = k.fits id v at in
@@ -126,7 +126,7 @@ module _ {T Origin : Type 0} (list : T → List Entry) (stand : T → ℕ → Op
             (at_snoc (set s.views id (tail_of v)) (head_of v) u j at'));
       }
 
-  pub joins : (key : Key T) (id : ℕ) (v : View T) (other : ℕ) (w : View T) → v.holds ≡ false → w.holds ≡ false → Joins (Kept list stand origin tally key) id v other w (both_of v w) blank
+  pub joins : (key : Key T) (id : ℕ) (v : SeatView T) (other : ℕ) (w : SeatView T) → v.holds ≡ false → w.holds ≡ false → Joins (Kept list stand origin tally key) id v other w (both_of v w) blank
   joins key id v other w idle idle' s k at apart at' =
       let z : holding v ≡ 0 = ap one_if idle in
       let z' : holding w ≡ 0 = ap one_if idle' in
@@ -139,7 +139,7 @@ module _ {T Origin : Type 0} (list : T → List Entry) (stand : T → ℕ → Op
         turn = k.turn;
         holders = join_total holding s.views id other v w (both_of v w) blank at at' (omega arith) ∙ k.holders;
         widths = join_total width s.views id other v w (both_of v w) blank at at' (omega (arith, length-append v.sights w.sights)) ∙ k.widths;
-        apart = (λ c. let t = total_append (λ (x : Sight T). one_if (eqb x.caller c)) v.sights w.sights in
+        apart = (λ c. let t = total_append (λ (x : LastSeen T). one_if (eqb x.caller c)) v.sights w.sights in
             let e = join_total (shares c) s.views id other v w (both_of v w) blank at at' (omega arith) in let a = k.apart c in omega arith);
         home = k.home;
         fits = (λ j u at''.
@@ -153,20 +153,20 @@ module _ {T Origin : Type 0} (list : T → List Entry) (stand : T → ℕ → Op
       }
 
   -- a seat with a sight of every caller leaves none that could have the turn
-  all_idle : (key : Key T) (s : State (Option T) (View T)) (k : Kept list stand origin tally key s) (id : ℕ) (v : View T) → get_elem? s.views id ≡ some v → v.holds ≡ false → width v ≡ key.callers
+  all_idle : (key : Key T) (s : State (Option T) (SeatView T)) (k : Kept list stand origin tally key s) (id : ℕ) (v : SeatView T) → get_elem? s.views id ≡ some v → v.holds ≡ false → width v ≡ key.callers
       → 0 < total holding s.views → ⊥
   all_idle key s k id v at idle all some_holds =
       let t = total_some holding s.views some_holds in
       let h : t.1.holds ≡ true = one_holds t.1.holds t.3 in
       let one = ((k.fits t.0 t.1 t.2).held_is h).0 in
-      let apart : id ≢ t.0 = λ e. let same : v ≡ t.1 = some-injective v t.1 (sym at ∙ ap (get_elem? s.views) e ∙ t.2) in let b = sym idle ∙ ap (λ (u : View T). u.holds) same ∙ h in cc in
+      let apart : id ≢ t.0 = λ e. let same : v ≡ t.1 = some-injective v t.1 (sym at ∙ ap (get_elem? s.views) e ∙ t.2) in let b = sym idle ∙ ap (λ (u : SeatView T). u.holds) same ∙ h in cc in
       let two = total_two width s.views id t.0 v t.1 apart at t.2 in
       let w = k.widths in
       omega arith
 
-  pub closes : (key : Key T) (id : ℕ) (v : View T) (words : List ℕ) (slots : List (Option T)) → v.holds ≡ false → width v ≡ key.callers
+  pub closes : (key : Key T) (id : ℕ) (v : SeatView T) (words : List ℕ) (slots : List (Option T)) → v.holds ≡ false → width v ≡ key.callers
       → Final (Seen (Kept list stand origin tally key) id v) words slots
-      → (value : T) × (get_elem? slots 0 ≡ some (Some value)) × Each (λ (x : Sight T). Follows list stand origin tally x.caller x.value value) v.sights
+      → (value : T) × (get_elem? slots 0 ≡ some (Some value)) × EachIn (λ (x : LastSeen T). Follows list stand origin tally x.caller x.value value) v.sights
   closes key id v words slots idle all end =
       let s = end.0 in
       let k = end.1.0 in

@@ -7,10 +7,10 @@ use Rattle.atomic_table.specs.Table.{State}
 use Rattle.atomic_table.proofs.Lists.{at_set}
 use Rattle.mb_kinds.specs.declared.Entry.{Entry}
 use Rattle.mb_kinds.specs.declared.Stand.{Stand}
-use Rattle.mb_turn.specs.Passes.{Each}
+use Rattle.mb_turn.specs.Passes.{EachIn}
 use Rattle.mb_turn.specs.Rule.{total, one_if, held, width, holding, shares, Fits, Kept}
-use Rattle.mb_turn.specs.declared.sight.Sight.{Sight}
-use Rattle.mb_turn.specs.declared.sight.View.{View}
+use Rattle.mb_turn.specs.declared.sight.LastSeen.{LastSeen}
+use Rattle.mb_turn.specs.declared.sight.SeatView.{SeatView}
 use Rattle.mb_turn.specs.declared.sight.Key.{Key}
 use Rattle.mb_turn.proofs.Sums.{total_set, total_at, total_two}
 
@@ -31,20 +31,20 @@ none_holds b z e = let h = holds_one b e in absurd (omega arith)
 
 module _ {T : Type 0} where
   -- a list of sights with none of a caller's
-  pub apart_from : (caller : ℕ) (xs : List (Sight T)) → total (λ (x : Sight T). one_if (eqb x.caller caller)) xs ≡ 0 → Each (λ (x : Sight T). x.caller ≢ caller) xs
+  pub apart_from : (caller : ℕ) (xs : List (LastSeen T)) → total (λ (x : LastSeen T). one_if (eqb x.caller caller)) xs ≡ 0 → EachIn (λ (x : LastSeen T). x.caller ≢ caller) xs
   apart_from caller [] z = tt
   apart_from caller (x ∷ xs) z = ((λ e. let h : one_if (eqb x.caller caller) ≡ 1 = holds_one _ (eq-eqb x.caller caller e) in absurd (omega arith)), apart_from caller xs (omega arith))
 
 module _ {T Origin : Type 0} (list : T → List Entry) (stand : T → ℕ → Option Stand) (origin : T → Origin) (tally : T → ℕ) where
   -- The rule after a change of one view, with new words, homes and value: the premises are the facts that differ
-  pub renewed : (key : Key T) (s : State (Option T) (View T)) (k : Kept list stand origin tally key s) (id : ℕ) (v w : View T) → get_elem? s.views id ≡ some v
+  pub renewed : (key : Key T) (s : State (Option T) (SeatView T)) (k : Kept list stand origin tally key s) (id : ℕ) (v w : SeatView T) → get_elem? s.views id ≡ some v
       → (words : List ℕ) (homes : List _) (now : T)
       → length words ≡ 2 → get_or words 1 0 ≡ length (list now) → get_or words 0 0 ≤ 1
       → holding w + get_or s.words 0 0 ≡ holding v + get_or words 0 0
       → width w ≡ width v → ((c : ℕ) → shares c w ≡ shares c v)
       → (get_or words 0 0 ≡ 0 → get_elem? homes 0 ≡ some (some (Some now)))
       → Fits list stand origin tally key.callers now w
-      → ((j : ℕ) (u : View T) → j ≢ id → get_elem? s.views j ≡ some u → Fits list stand origin tally key.callers now u)
+      → ((j : ℕ) (u : SeatView T) → j ≢ id → get_elem? s.views j ≡ some u → Fits list stand origin tally key.callers now u)
       → Kept list stand origin tally key (record { words = words; homes = homes; views = set s.views id w })
   renewed key s k id v w at words homes now two count turn hold wide share home here there = record {
     now = now;
@@ -59,12 +59,12 @@ module _ {T Origin : Type 0} (list : T → List Entry) (stand : T → ℕ → Op
   }
 
   -- who has the turn finds word 0 at 1 and saw the value that the rule speaks of; no other view has the turn, or a sight of this caller
-  pub record Alone (key : Key T) (s : State (Option T) (View T)) (k : Kept list stand origin tally key s) (id caller : ℕ) (value : T) : Type 0 where
+  pub record Alone (key : Key T) (s : State (Option T) (SeatView T)) (k : Kept list stand origin tally key s) (id caller : ℕ) (value : T) : Type 0 where
     pub turn : get_or s.words 0 0 ≡ 1
     pub same : value ≡ k.now
-    pub others : (j : ℕ) (u : View T) → j ≢ id → get_elem? s.views j ≡ some u → (holding u ≡ 0) × Each (λ (x : Sight T). x.caller ≢ caller) u.sights
+    pub others : (j : ℕ) (u : SeatView T) → j ≢ id → get_elem? s.views j ≡ some u → (holding u ≡ 0) × EachIn (λ (x : LastSeen T). x.caller ≢ caller) u.sights
 
-  pub holds_alone : (key : Key T) (s : State (Option T) (View T)) (k : Kept list stand origin tally key s) (id caller : ℕ) (value : T)
+  pub holds_alone : (key : Key T) (s : State (Option T) (SeatView T)) (k : Kept list stand origin tally key s) (id caller : ℕ) (value : T)
       → get_elem? s.views id ≡ some (held caller value) → Alone key s k id caller value
   holds_alone key s k id caller value at = record {
     turn = (let h = total_at holding s.views id (held caller value) at in let e = k.holders in let t = k.turn in omega arith);

@@ -4,7 +4,7 @@ use mathlib.Core.List.{IsPrefix}
 use Rattle.mb_kinds.specs.Own.{own}
 use Rattle.mb_kinds.specs.declared.Entry.{Entry}
 use Rattle.mb_kinds.specs.declared.Stand.{Stand}
-use Rattle.mb_turn.specs.Passes.{Continues, Follows}
+use Rattle.mb_turn.specs.Passes.{ContinuesBy, Follows}
 
 -- the list is what was seen, followed by entries of other callers
 pub record OthersCame (caller : ℕ) (saw now : List Entry) : Type 0 where
@@ -21,11 +21,11 @@ OthersCameComposes = (caller : ℕ) (first second third : List Entry) → Others
 
 -- a caller's new entries stand behind its older ones
 abbrev pub OwnGrows : Type 0
-OwnGrows = (caller : ℕ) (took now : List Entry) (more : Continues caller took now) → own now caller ≡ own took caller ++ more.new
+OwnGrows = (caller : ℕ) (took now : List Entry) (more : ContinuesBy caller took now) → own now caller ≡ own took caller ++ more.new
 
 -- and no other caller's entries change by them
 abbrev pub OthersStay : Type 0
-OthersStay = (caller other : ℕ) (took now : List Entry) → caller ≢ other → Continues caller took now → own now other ≡ own took other
+OthersStay = (caller other : ℕ) (took now : List Entry) → caller ≢ other → ContinuesBy caller took now → own now other ≡ own took other
 
 -- what follows what follows a value follows that value
 abbrev pub FollowsComposes : {T Origin : Type 0} → (T → List Entry) → (T → ℕ → Option Stand) → (T → Origin) → (T → ℕ) → Type 0

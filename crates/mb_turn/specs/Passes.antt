@@ -10,8 +10,8 @@ use Rattle.mb_kinds.specs.declared.Entry.{Entry}
 use Rattle.mb_kinds.specs.declared.Stand.{Stand}
 
 -- P holds of each element
-abbrev pub Each : {X : Type 0} → (X → Type 0) → List X → Type 0
-Each P xs = AllByRecursion P xs
+abbrev pub EachIn : {X : Type 0} → (X → Type 0) → List X → Type 0
+EachIn P xs = AllByRecursion P xs
 
 -- a caller's pass: the table of its turn, the value as the caller saw it last, and whether it has the turn
 pub record Known (T : Type 0) : Type 0 where
@@ -68,10 +68,10 @@ module _ {T : Type 0} where
   OthersStand stand caller took value = (other : ℕ) → other ≢ caller → stand value other ≡ stand took other
 
 -- the list is what it was, followed by entries of that caller alone
-pub record Continues (caller : ℕ) (took now : List Entry) : Type 0 where
+pub record ContinuesBy (caller : ℕ) (took now : List Entry) : Type 0 where
   pub new : List Entry
   pub whole : now ≡ took ++ new
-  pub all_own : Each (λ (entry : Entry). entry.caller ≡ caller) new
+  pub all_own : EachIn (λ (entry : Entry). entry.caller ≡ caller) new
 
 module _ {T Origin : Type 0} (list : T → List Entry) (stand : T → ℕ → Option Stand) (origin : T → Origin) (tally : T → ℕ) where
   -- the value `now` is one that may come after what that caller saw
@@ -85,6 +85,6 @@ module _ {T Origin : Type 0} (list : T → List Entry) (stand : T → ℕ → Op
   -- the value `now` is one that the caller may give back for the one that it took
   pub record Adds (caller : ℕ) (took now : T) : Type 0 where
     pub same : origin now ≡ origin took
-    pub entries : Continues caller (list took) (list now)
+    pub entries : ContinuesBy caller (list took) (list now)
     pub others : OthersStand stand caller took now
     pub fewer : tally now ≤ tally took

@@ -6,9 +6,9 @@ use lib.ListN.{get_elem?}
 use Rattle.atomic_table.specs.Table.{State, Me}
 use Rattle.mb_kinds.specs.declared.Entry.{Entry}
 use Rattle.mb_kinds.specs.declared.Stand.{Stand}
-use Rattle.mb_turn.specs.Passes.{Each, Known, Follows}
-use Rattle.mb_turn.specs.declared.sight.Sight.{Sight}
-use Rattle.mb_turn.specs.declared.sight.View.{View}
+use Rattle.mb_turn.specs.Passes.{EachIn, Known, Follows}
+use Rattle.mb_turn.specs.declared.sight.LastSeen.{LastSeen}
+use Rattle.mb_turn.specs.declared.sight.SeatView.{SeatView}
 use Rattle.mb_turn.specs.declared.sight.Key.{Key}
 
 -- f of each element, added up
@@ -21,59 +21,59 @@ one_if true = 1
 one_if false = 0
 
 module _ {T : Type 0} where
-  abbrev pub sight : ℕ → T → Sight T
+  abbrev pub sight : ℕ → T → LastSeen T
   sight caller value = record { caller = caller; value = value }
 
   -- what a pass knows: one sight, without the turn or with it
-  abbrev pub free : ℕ → T → View T
+  abbrev pub free : ℕ → T → SeatView T
   free caller value = record { sights = sight caller value ∷ []; holds = false }
 
-  abbrev pub held : ℕ → T → View T
+  abbrev pub held : ℕ → T → SeatView T
   held caller value = record { sights = sight caller value ∷ []; holds = true }
 
   -- the seat of a pass between two calls: while it has the turn, the slot is out with it, and empty
-  abbrev pub resting : ℕ → T → Bool → Me (Option T) (View T)
+  abbrev pub resting : ℕ → T → Bool → Me (Option T) (SeatView T)
   resting caller value true = (held caller value, (0, None) ∷ [])
   resting caller value false = (free caller value, [])
 
   -- the sight of a card, and of a pass
-  abbrev pub sight_of_card : ℕ × T → Sight T
+  abbrev pub sight_of_card : ℕ × T → LastSeen T
   sight_of_card card = sight card.0 card.1
 
-  abbrev pub sight_of_pass : Known T → Sight T
+  abbrev pub sight_of_pass : Known T → LastSeen T
   sight_of_pass pass = sight pass.caller pass.value
 
   -- how many sights a view has, whether it has the turn, and how many sights of a caller it has
-  abbrev pub width : View T → ℕ
+  abbrev pub width : SeatView T → ℕ
   width v = length v.sights
 
-  abbrev pub holding : View T → ℕ
+  abbrev pub holding : SeatView T → ℕ
   holding v = one_if v.holds
 
-  abbrev pub shares : ℕ → View T → ℕ
-  shares caller v = total (λ (x : Sight T). one_if (x.caller == caller)) v.sights
+  abbrev pub shares : ℕ → SeatView T → ℕ
+  shares caller v = total (λ (x : LastSeen T). one_if (x.caller == caller)) v.sights
 
   -- the sights of the first value, for n callers from that one on
-  abbrev pub sights_from : ℕ → ℕ → T → List (Sight T)
+  abbrev pub sights_from : ℕ → ℕ → T → List (LastSeen T)
   sights_from caller zero value = []
   sights_from caller (suc n) value = sight caller value ∷ sights_from (caller + 1) n value
 
   -- a view of several callers, without the turn
-  abbrev pub idle : List (Sight T) → View T
+  abbrev pub idle : List (LastSeen T) → SeatView T
   idle sights = record { sights = sights; holds = false }
 
   -- the first seat has a sight of each caller
-  abbrev pub first_view : Key T → View T
+  abbrev pub first_view : Key T → SeatView T
   first_view key = idle (sights_from 0 key.callers key.first.value)
 
 module _ {T Origin : Type 0} (list : T → List Entry) (stand : T → ℕ → Option Stand) (origin : T → Origin) (tally : T → ℕ) where
   -- a view of the value `now`: it follows what each sight saw, and the one that has the turn saw it whole
-  pub record Fits (callers : ℕ) (now : T) (v : View T) : Type 0 where
-    pub sights : Each (λ (x : Sight T). Follows list stand origin tally x.caller x.value now) v.sights
-    pub numbers : Each (λ (x : Sight T). x.caller < callers) v.sights
-    pub held_is : v.holds ≡ true → (width v ≡ 1) × Each (λ (x : Sight T). x.value ≡ now) v.sights
+  pub record Fits (callers : ℕ) (now : T) (v : SeatView T) : Type 0 where
+    pub sights : EachIn (λ (x : LastSeen T). Follows list stand origin tally x.caller x.value now) v.sights
+    pub numbers : EachIn (λ (x : LastSeen T). x.caller < callers) v.sights
+    pub held_is : v.holds ≡ true → (width v ≡ 1) × EachIn (λ (x : LastSeen T). x.value ≡ now) v.sights
 
-  pub record Kept (key : Key T) (s : State (Option T) (View T)) : Type 0 where
+  pub record Kept (key : Key T) (s : State (Option T) (SeatView T)) : Type 0 where
     pub now : T
     pub words : length s.words ≡ 2
     pub count : slice_index s.words 1 ≡ length (list now)
@@ -84,4 +84,4 @@ module _ {T Origin : Type 0} (list : T → List Entry) (stand : T → ℕ → Op
     -- no two sights are of one caller
     pub apart : (caller : ℕ) → total (shares caller) s.views ≤ 1
     pub home : slice_index s.words 0 ≡ 0 → get_elem? s.homes 0 ≡ some (some (Some now))
-    pub fits : (id : ℕ) (v : View T) → get_elem? s.views id ≡ some v → Fits key.callers now v
+    pub fits : (id : ℕ) (v : SeatView T) → get_elem? s.views id ≡ some v → Fits key.callers now v

@@ -1,7 +1,7 @@
 ghost use Rattle.std.specs.Prelude.{◌≡◌, vec_len, vec_capacity};
 ghost use Rattle.std.specs.List.{AllZip};
 ghost use denote.Param.Send.{IsSend, IsSync};
-ghost use Rattle.mb_turn.specs.Passes.{Each};
+ghost use Rattle.mb_turn.specs.Passes.{EachIn};
 
 use std::sync::Wait;
 use std::thread::{Threads, join};
@@ -26,7 +26,7 @@ pub fn each<S: Sync, A: Drop + Send, E: Errand<S, A> + Sync, R: Threads + Wait +
     shared: &S,
     mut owns: Vec<A>,
 ) -> Vec<A>
-    requires { Each (E.asks shared.now) owns.items }
+    requires { EachIn (E.asks shared.now) owns.items }
     ensures len { (vec_len result ≡ vec_len owns) × (vec_capacity result ≡ vec_capacity owns) }
     ensures gives { AllZip (E.gives shared.now) owns.items result.items }
 {
@@ -40,7 +40,7 @@ pub fn each<S: Sync, A: Drop + Send, E: Errand<S, A> + Sync, R: Threads + Wait +
             ensures { E.gives shared.entry.now one result }
         { errand.run(rt, shared, one) },
         move || -> Vec<A>
-            requires { IsSync R.row × IsSync S.row × IsSync E.row × IsSend A.row × Each (E.asks shared.now) owns.items }
+            requires { IsSync R.row × IsSync S.row × IsSync E.row × IsSend A.row × EachIn (E.asks shared.now) owns.items }
             ensures len { (vec_len result ≡ vec_len owns) × (vec_capacity result ≡ vec_capacity owns) }
             ensures gives { AllZip (E.gives shared.entry.now) owns.items result.items }
         { each(rt, errand, shared, owns) },

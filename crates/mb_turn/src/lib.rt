@@ -28,4 +28,4 @@ pub use booked::Booked;
 pub use errand::{Errand, each};
 pub use laws::{follows_composes, others_came, own_entries};
 pub use pass::Pass;
-pub use turn::{Passes, Turn};
+pub use turn::{PassList, Turn};

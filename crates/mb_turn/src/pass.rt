@@ -3,7 +3,7 @@ ghost use Rattle.mb_turn.specs.Passes.{Known, known, Begins, stand_of};
 ghost use Rattle.mb_turn.specs.Rule.{free};
 
 use crate::booked::Booked;
-use crate::sight::View;
+use crate::sight::SeatView;
 use atomic_table::Seat;
 use std::marker::Model;
 use std::snapshot::Snapshot;
@@ -77,7 +77,7 @@ impl<T: Booked> Card<T> {
 #[derive(Drop)]
 pub struct Pass<T: Booked> {
     pub(crate) card: Card<T>,
-    pub(crate) seat: Seat<Option<T>, View<T>>,
+    pub(crate) seat: Seat<Option<T>, SeatView<T>>,
 }
 
 impl<T: Booked> Model for Pass<T> {
@@ -94,14 +94,14 @@ impl<T: Booked> Model for Pass<T> {
 
 impl<T: Booked> Pass<T> {
     // A pass of the card's caller, which has not the turn.
-    pub(crate) fn new(card: Card<T>, seat: Seat<Option<T>, View<T>>) -> Pass<T>
+    pub(crate) fn new(card: Card<T>, seat: Seat<Option<T>, SeatView<T>>) -> Pass<T>
         requires { seat.me ≡ (free card.0 card.1, []) }
         ensures { result ≡ known seat.table_id card.0 card.1 false }
     {
         Pass { card, seat }
     }
 
-    pub(crate) fn into_seat(self) -> Seat<Option<T>, View<T>>
+    pub(crate) fn into_seat(self) -> Seat<Option<T>, SeatView<T>>
         requires { self.holds ≡ false }
         ensures { (result.table_id ≡ self.table) × (result.me ≡ (free self.caller self.value, [])) }
     {

@@ -2,14 +2,14 @@ use std::collections::LinkedList;
 use std::snapshot::Snapshot;
 
 // A caller, and the value as it saw it last.
-pub struct Sight<T> {
+pub struct LastSeen<T> {
     pub caller: u8,
     pub value: T,
 }
 
 // What a seat knows. It exists in the proofs alone: no value of it is ever made.
-pub struct View<T> {
-    pub sights: LinkedList<Sight<T>>,
+pub struct SeatView<T> {
+    pub sights: LinkedList<LastSeen<T>>,
     pub holds: bool,
 }
 

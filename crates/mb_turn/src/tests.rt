@@ -1,8 +1,8 @@
 ghost use Rattle.std.specs.Prelude.{◌≡◌, ◌+◌, if◌then◌else◌, false, [], length, None, Some};
 ghost use Rattle.std.specs.List.{AllZip};
-ghost use Rattle.mb_turn.specs.Passes.{Each, IsIdle, mine};
+ghost use Rattle.mb_turn.specs.Passes.{EachIn, IsIdle, mine};
 
-use crate::{Booked, Errand, Pass, Passes, Turn, each};
+use crate::{Booked, Errand, Pass, PassList, Turn, each};
 use mb_kinds::{Call, Entry, Reply, Seq};
 use std::alloc::Global;
 use std::sync::Wait;
@@ -102,9 +102,9 @@ fn run_each<T: Booked + Send, E: Errand<Turn<T>, Pass<T>> + Sync, R: Threads + W
     rt: &R,
     errand: &E,
     turn: &Turn<T>,
-    passes: Passes<T>,
-) -> Passes<T>
-    requires { Each (E.asks turn.now) passes.items }
+    passes: PassList<T>,
+) -> PassList<T>
+    requires { EachIn (E.asks turn.now) passes.items }
     ensures { AllZip (E.gives turn.now) passes.items result.items }
 {
     each(rt, errand, turn, passes)

@@ -3,14 +3,14 @@ ghost use Rattle.std.specs.List.{range_with_len};
 ghost use mathlib.Core.List.{IsPrefix};
 ghost use Rattle.mb_kinds.specs.Own.{own};
 ghost use Rattle.mb_kinds.specs.declared.Entry.{Entry};
-ghost use Rattle.mb_turn.specs.Passes.{Each, known, Continues, Follows, Adds, seen, mine, origin_of, tally_of, stand_of, found, dealt};
+ghost use Rattle.mb_turn.specs.Passes.{EachIn, known, ContinuesBy, Follows, Adds, seen, mine, origin_of, tally_of, stand_of, found, dealt};
 ghost use Rattle.mb_turn.specs.Rule.{free, held, sight, idle, sights_from, sight_of_card, sight_of_pass};
 ghost use Rattle.mb_turn.specs.Steps.{tail_of, tail_sights, both_of};
 
 use crate::booked::Booked;
 use crate::pass::{Card, Pass};
 use crate::rule::{Both, Cut, Give, Law, Publish, Take};
-use crate::sight::{Key, View};
+use crate::sight::{Key, SeatView};
 use atomic_table::{Refused, Seat, Shared, Table};
 use std::alloc::{AllocError, Global};
 use std::hint::spin_loop;
@@ -27,12 +27,12 @@ const LOOKS: u32 = 20;
 const NAP: u64 = 20;
 
 /// The passes of a turn.
-pub type Passes<T> = Vec<Pass<T>>;
+pub type PassList<T> = Vec<Pass<T>>;
 
 /// A value that several callers change, one at a time. A caller takes it and gives it back by its
 /// pass; while it is out, the other callers wait.
 pub struct Turn<T: Booked> {
-    table: Table<Option<T>, View<T>, Key<T>, Law<T>, Global>,
+    table: Table<Option<T>, SeatView<T>, Key<T>, Law<T>, Global>,
 }
 
 impl<T: Booked> Model for Turn<T> {
@@ -49,7 +49,7 @@ impl<T: Booked> Model for Turn<T> {
 impl<T: Booked> Turn<T> {
     /// A turn over the value, with a pass for each caller from 0 to `callers - 1`, in this order.
     /// Without memory the value comes back.
-    pub fn start(alloc: Global, value: T, callers: u8) -> Result<(Turn<T>, Passes<T>), T>
+    pub fn start(alloc: Global, value: T, callers: u8) -> Result<(Turn<T>, PassList<T>), T>
         requires some { 0 < callers }
         requires stands { (caller : ℕ) → caller < callers → IsSome (T.stand value caller) }
         ensures turn { IfOk result (λ started. started.0.callers ≡ callers) }
@@ -93,7 +93,7 @@ impl<T: Booked> Turn<T> {
         requires held { pass.old.holds ≡ true }
         requires origin { T.origin value ≡ origin_of T.origin pass.old }
         requires tally { T.tally value ≤ tally_of T.tally pass.old }
-        requires list { Continues pass.old.caller (seen T.list pass.old) (T.list value) }
+        requires list { ContinuesBy pass.old.caller (seen T.list pass.old) (T.list value) }
         requires others { (other : ℕ) → other ≢ pass.old.caller → T.stand value other ≡ found T.stand pass.old other }
         requires stand { IsSome (T.stand value pass.old.caller) }
         ensures pass { pass.new ≡ known pass.old.table pass.old.caller value false }
@@ -116,15 +116,15 @@ impl<T: Booked> Turn<T> {
     }
 
     /// Takes the turn apart, with all its passes, and gives the value back.
-    pub fn close(self, passes: Passes<T>) -> T
+    pub fn close(self, passes: PassList<T>) -> T
         requires all { length passes.items ≡ self.callers }
-        requires table { Each (λ pass. pass.table ≡ self.table) passes.items }
-        requires free { Each (λ pass. pass.holds ≡ false) passes.items }
-        ensures origin { Each (λ pass. T.origin result ≡ origin_of T.origin pass) passes.items }
-        ensures tally { Each (λ pass. T.tally result ≤ tally_of T.tally pass) passes.items }
-        ensures seen { Each (λ pass. IsPrefix (seen T.list pass) (T.list result)) passes.items }
-        ensures mine { Each (λ pass. own (T.list result) pass.caller ≡ mine T.list pass) passes.items }
-        ensures stand { Each (λ pass. T.stand result pass.caller ≡ stand_of T.stand pass) passes.items }
+        requires table { EachIn (λ pass. pass.table ≡ self.table) passes.items }
+        requires free { EachIn (λ pass. pass.holds ≡ false) passes.items }
+        ensures origin { EachIn (λ pass. T.origin result ≡ origin_of T.origin pass) passes.items }
+        ensures tally { EachIn (λ pass. T.tally result ≤ tally_of T.tally pass) passes.items }
+        ensures seen { EachIn (λ pass. IsPrefix (seen T.list pass) (T.list result)) passes.items }
+        ensures mine { EachIn (λ pass. own (T.list result) pass.caller ≡ mine T.list pass) passes.items }
+        ensures stand { EachIn (λ pass. T.stand result pass.caller ≡ stand_of T.stand pass) passes.items }
     {
         let Turn { table } = self;
         let seat = gather(&table.shared, passes);
@@ -154,7 +154,7 @@ fn laid<T: Booked>(
     alloc: Global,
     value: T,
     callers: u8,
-) -> Result<(Turn<T>, Seat<Option<T>, View<T>>), T>
+) -> Result<(Turn<T>, Seat<Option<T>, SeatView<T>>), T>
     requires { 0 < callers }
     ensures turn { IfOk result (λ made. made.0.callers ≡ callers) }
     ensures seat { IfOk result (λ made. (made.1.table_id ≡ made.0.table)
@@ -182,8 +182,8 @@ fn laid<T: Booked>(
 
 // A pass for each card.
 fn deal<T: Booked>(
-    shared: &Shared<Option<T>, View<T>, Key<T>, Law<T>>,
-    mut seat: Seat<Option<T>, View<T>>,
+    shared: &Shared<Option<T>, SeatView<T>, Key<T>, Law<T>>,
+    mut seat: Seat<Option<T>, SeatView<T>>,
     cards: Vec<Card<T>>,
     mut passes: Vec<Pass<T>>,
 ) -> Vec<Pass<T>>
@@ -200,8 +200,8 @@ fn deal<T: Booked>(
 
 // The pass of the card whose sight is the seat's first.
 fn cut<T: Booked>(
-    shared: &Shared<Option<T>, View<T>, Key<T>, Law<T>>,
-    seat: &mut Seat<Option<T>, View<T>>,
+    shared: &Shared<Option<T>, SeatView<T>, Key<T>, Law<T>>,
+    seat: &mut Seat<Option<T>, SeatView<T>>,
     card: Card<T>,
 ) -> Pass<T>
     requires table { (seat.old.table_id ≡ shared.now.table_id) × (0 < shared.now.table_id.words) }
@@ -217,8 +217,8 @@ fn cut<T: Booked>(
 // Takes the turn where it is free, and else looks again later.
 fn win<T: Booked, R: Wait>(
     rt: &R,
-    shared: &Shared<Option<T>, View<T>, Key<T>, Law<T>>,
-    seat: &mut Seat<Option<T>, View<T>>,
+    shared: &Shared<Option<T>, SeatView<T>, Key<T>, Law<T>>,
+    seat: &mut Seat<Option<T>, SeatView<T>>,
     card: &Card<T>,
 )
     requires table { (seat.old.table_id ≡ shared.now.table_id) × (0 < shared.now.table_id.words) }
@@ -238,7 +238,7 @@ fn win<T: Booked, R: Wait>(
 }
 
 // Looks at the turn for a moment, until it is free; then sleeps for a while.
-fn linger<T: Booked, R: Wait>(rt: &R, shared: &Shared<Option<T>, View<T>, Key<T>, Law<T>>)
+fn linger<T: Booked, R: Wait>(rt: &R, shared: &Shared<Option<T>, SeatView<T>, Key<T>, Law<T>>)
     requires { 0 < shared.now.table_id.words }
 {
     for _ in 0..LOOKS {
@@ -252,8 +252,8 @@ fn linger<T: Booked, R: Wait>(rt: &R, shared: &Shared<Option<T>, View<T>, Key<T>
 
 // Publishes the count of the value that lies in the seat's slot, which is the one that the card sees.
 fn publish<T: Booked>(
-    shared: &Shared<Option<T>, View<T>, Key<T>, Law<T>>,
-    seat: &mut Seat<Option<T>, View<T>>,
+    shared: &Shared<Option<T>, SeatView<T>, Key<T>, Law<T>>,
+    seat: &mut Seat<Option<T>, SeatView<T>>,
     card: &Card<T>,
     count: u64,
 )
@@ -270,8 +270,8 @@ fn publish<T: Booked>(
 
 // Gives the turn up, with the value that lies in the seat's slot. Who waits for it looks for itself.
 fn give_up<T: Booked>(
-    shared: &Shared<Option<T>, View<T>, Key<T>, Law<T>>,
-    seat: &mut Seat<Option<T>, View<T>>,
+    shared: &Shared<Option<T>, SeatView<T>, Key<T>, Law<T>>,
+    seat: &mut Seat<Option<T>, SeatView<T>>,
     card: &Card<T>,
 )
     requires table { (seat.old.table_id ≡ shared.now.table_id) × (0 < shared.now.table_id.words)
@@ -286,12 +286,12 @@ fn give_up<T: Booked>(
 
 // One seat with the sights of all passes.
 fn gather<T: Booked>(
-    shared: &Shared<Option<T>, View<T>, Key<T>, Law<T>>,
+    shared: &Shared<Option<T>, SeatView<T>, Key<T>, Law<T>>,
     passes: Vec<Pass<T>>,
-) -> Seat<Option<T>, View<T>>
+) -> Seat<Option<T>, SeatView<T>>
     requires some { (0 < length passes.items) × (0 < shared.now.table_id.words) }
-    requires table { Each (λ pass. pass.table ≡ shared.now.table_id) passes.items }
-    requires free { Each (λ pass. pass.holds ≡ false) passes.items }
+    requires table { EachIn (λ pass. pass.table ≡ shared.now.table_id) passes.items }
+    requires free { EachIn (λ pass. pass.holds ≡ false) passes.items }
     ensures table { result.table_id ≡ shared.now.table_id }
     ensures seat { result.me ≡ (idle (map sight_of_pass passes.items), []) }
 {
@@ -308,8 +308,8 @@ fn gather<T: Booked>(
 
 // The seat takes in the sight of a pass.
 fn absorb<T: Booked>(
-    shared: &Shared<Option<T>, View<T>, Key<T>, Law<T>>,
-    seat: &mut Seat<Option<T>, View<T>>,
+    shared: &Shared<Option<T>, SeatView<T>, Key<T>, Law<T>>,
+    seat: &mut Seat<Option<T>, SeatView<T>>,
     pass: Pass<T>,
 )
     requires table { (seat.old.table_id ≡ shared.now.table_id) × (pass.table ≡ shared.now.table_id)

@@ -13,7 +13,7 @@ use Rattle.mb_kinds.specs.declared.faults.FaultRecord.{FaultRecord}
 use Rattle.mb_core_spec.specs.State.{records_of}
 use Rattle.mb_run.proofs.Lists.{neq}
 use Rattle.mb_run.specs.Events.{LeavesOthersAlone}
-use Rattle.mb_run.specs.Sights.{Limits, Seat, Sight, amiss_in}
+use Rattle.mb_run.specs.Sights.{Limits, SightSeat, Sight, amiss_in}
 use Rattle.mb_volume.specs.Parts.{MovesPart, Part, part_of, stand_if, stand_in}
 
 -- ---- fault records
@@ -38,7 +38,7 @@ records_others old new caller other apart moves =
 pub others_stand : (old new : Sight) (caller : ℕ) → MovesPart caller old new → (other : ℕ) → other ≢ caller → stand_in new other ≡ stand_in old other
 others_stand old new caller moves other apart =
     ap (λ (l : Limits). stand_if (nat_lt other l.callers) (new.seats other) (records_of new.records other)) moves.config
-    ∙ ap (λ (s : Seat). stand_if (nat_lt other old.config.callers) s (records_of new.records other)) (moves.seats other apart)
+    ∙ ap (λ (s : SightSeat). stand_if (nat_lt other old.config.callers) s (records_of new.records other)) (moves.seats other apart)
     ∙ ap (λ (rs : List FaultRecord). stand_if (nat_lt other old.config.callers) (old.seats other) rs) (records_others old new caller other apart moves)
 
 abbrev pub stand_made : Sight → ℕ → Stand
@@ -50,7 +50,7 @@ stands_declared sight caller low = ap (λ b. stand_if b (sight.seats caller) (re
 pub has_stand : (sight : Sight) (caller : ℕ) → caller < sight.config.callers → IsSome (stand_in sight caller)
 has_stand sight caller low = subst IsSome (sym (stands_declared sight caller low)) refl
 
-declared_if : (b : Bool) (seat : Seat) (struck : List FaultRecord) → IsSome (stand_if b seat struck) → b ≡ true
+declared_if : (b : Bool) (seat : SightSeat) (struck : List FaultRecord) → IsSome (stand_if b seat struck) → b ≡ true
 declared_if true seat struck some = refl
 declared_if false seat struck some = some
 

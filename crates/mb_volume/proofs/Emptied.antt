@@ -4,7 +4,7 @@ use Rattle.mb_core_spec.specs.Copies.{PagesState, no_pages}
 use Rattle.mb_edge.specs.declared.crossings.Crossing.{Crossing}
 use Rattle.mb_kinds.specs.declared.calls.Call.{Call}
 use Rattle.mb_kinds.specs.declared.entries.Flight.{Flight}
-use Rattle.mb_run.specs.Sights.{Seat}
+use Rattle.mb_run.specs.Sights.{SightSeat}
 use Rattle.mb_run.specs.declared.runner.At.{At}
 use Rattle.mb_run.specs.declared.runner.At.TheVariants as at
 use Rattle.mb_volume.specs.Attempts.{without_pages}
@@ -46,7 +46,7 @@ on_emptied (event.Leave ticket) call parts attempt on = (on.0, on.1, emptied cal
 on_emptied (event.Fault ticket crossing passed) call parts attempt on = on
 on_emptied event.Recover call parts attempt on = on
 
-pub may_emptied : (e : Event) (call : Call) (test : Option (Crossing → Bool)) (struck : Option Crossing) (seats : ℕ → Seat) (attempt : Attempt) → MayCome call test struck (seats attempt.crossings.caller) attempt e
+pub may_emptied : (e : Event) (call : Call) (test : Option (Crossing → Bool)) (struck : Option Crossing) (seats : ℕ → SightSeat) (attempt : Attempt) → MayCome call test struck (seats attempt.crossings.caller) attempt e
     → MayCome call test struck (seats (without_pages e attempt).crossings.caller) (without_pages e attempt) e
 may_emptied event.Enter call test struck seats attempt may = may
 may_emptied (event.Gather ticket need) call test struck seats attempt may = may
@@ -80,7 +80,7 @@ passed_emptied flight attempt at.Outside passed = passed
 passed_emptied flight attempt (at.Inside ticket) passed = record { enters = passed.enters; gathers = λ there. absurd (let both : false ≡ true = there in cc); finishes = passed.finishes }
 passed_emptied flight attempt (at.Logged ticket) passed = passed
 
-pub marks_emptied : (e : Event) (old new : ℕ → Seat) (attempt now : Attempt) (answer : Came) → MarksPoints e (old (without_pages e attempt).crossings.caller) (new (without_pages e attempt).crossings.caller) (without_pages e attempt) now answer
+pub marks_emptied : (e : Event) (old new : ℕ → SightSeat) (attempt now : Attempt) (answer : Came) → MarksPoints e (old (without_pages e attempt).crossings.caller) (new (without_pages e attempt).crossings.caller) (without_pages e attempt) now answer
     → MarksPoints e (old attempt.crossings.caller) (new attempt.crossings.caller) attempt now answer
 marks_emptied event.Enter old new attempt now answer marks = record { passes = λ passed. marks.passes (passed_emptied (old attempt.crossings.caller).flight attempt attempt.at passed); crosses = marks.crosses }
 marks_emptied (event.Gather ticket need) old new attempt now answer marks = marks

@@ -14,8 +14,8 @@ use Rattle.mb_run.proofs.Lists.{own_mine}
 use Rattle.mb_run.proofs.Amiss.{enters_amiss, still_amiss}
 use Rattle.mb_run.specs.Events.{Answers, BeginsFlight, EntersInSight, EndsFlight, IsUnplain, entry_of}
 use Rattle.mb_run.specs.Pages.{HasTablesFor}
-use Rattle.mb_run.specs.Sights.{IsOrderlyInSight, Limits, Seat, Sight, flight_of}
-use Rattle.mb_run.specs.declared.answers.Enter.TheVariants as enter
+use Rattle.mb_run.specs.Sights.{IsOrderlyInSight, Limits, SightSeat, Sight, flight_of}
+use Rattle.mb_run.specs.declared.answers.EnterAnswer.TheVariants as enter
 use Rattle.mb_run.specs.declared.runner.At.TheVariants as at
 use Rattle.mb_volume.specs.Attempts.{going_in}
 use Rattle.mb_volume.specs.Called.{MetOnce, Suffers}
@@ -88,7 +88,7 @@ module _ (call : Call) (test : Option (Crossing → Bool)) (from : Part) (old : 
   begun_now new flight is lacks begins = record {
     call_is = is.call_is;
     ordinal = is.ordinal;
-    begun = ap (λ (s : Seat). s.begun) begins.mine ∙ is.ordinal;
+    begun = ap (λ (s : SightSeat). s.begun) begins.mine ∙ is.ordinal;
     entered = subst (λ b. AddsEntryIf b attempt.crossings.caller (from.seat.begun + 1) call from.entries (own new.history attempt.crossings.caller)) (sym lacks)
         (ap (λ h. own h attempt.crossings.caller) begins.history ∙ is.lacks lacks);
   }
@@ -102,7 +102,7 @@ module _ (call : Call) (test : Option (Crossing → Bool)) (from : Part) (old : 
     most = u.most;
     ordinal = u.ordinal;
     counts = u.counts;
-    begun = subst (IsBegunIf attempt.crossings.caller call from (part_of new attempt.crossings.caller)) (sym (ap (λ (s : Seat). s.flight) begins.mine)) (begun_now new flight is lacks begins);
+    begun = subst (IsBegunIf attempt.crossings.caller call from (part_of new attempt.crossings.caller)) (sym (ap (λ (s : SightSeat). s.flight) begins.mine)) (begun_now new flight is lacks begins);
     stands = stands;
     tables = tables;
     struck = subst (StruckSoFar test attempt.crossings from.struck) (sym (struck_still attempt.crossings.caller old new begins.stays.records)) u.struck;
@@ -122,8 +122,8 @@ module _ (call : Call) (test : Option (Crossing → Bool)) (from : Part) (old : 
       let flight = flight_of old attempt.crossings.caller call (old.seats attempt.crossings.caller).flight in (
         underway_begins new flight attempt refl (flight_now call test from old attempt u) enters.1 enters.2 (subst (PlaceStands attempt.crossings.caller (new.seats attempt.crossings.caller)) (sym outside) tt)
             (subst (λ (l : Limits). HasTablesFor l.callers attempt.pages) (sym enters.2.stays.config) u.tables)
-            (subst (HasMetOnce attempt.crossings.ordinal (part_of new attempt.crossings.caller)) (sym outside) (λ has. absurd (lacks_entry (Some flight) enters.1 (subst FlightHasEntry (ap (λ (s : Seat). s.flight) enters.2.mine) has)))),
-        (flight, ap (λ (s : Seat). s.flight) enters.2.mine, enters.1),
+            (subst (HasMetOnce attempt.crossings.ordinal (part_of new attempt.crossings.caller)) (sym outside) (λ has. absurd (lacks_entry (Some flight) enters.1 (subst FlightHasEntry (ap (λ (s : SightSeat). s.flight) enters.2.mine) has)))),
+        (flight, ap (λ (s : SightSeat). s.flight) enters.2.mine, enters.1),
       )
 
   pub comes_inside : (new : Sight) (ticket : Ticket) → EntersInSight old new attempt.crossings.caller call (enter.Inside ticket)
@@ -134,7 +134,7 @@ module _ (call : Call) (test : Option (Crossing → Bool)) (from : Part) (old : 
       let is = flight_now call test from old attempt u in
       let made : IsFlight call from (part_of old attempt.crossings.caller) flight = record { call_is = is.call_is; ordinal = is.ordinal; lacks = is.lacks } in (
         underway_begins new flight (going_in attempt ticket) refl made enters.lacks enters.begins
-            (record { flight = flight; here = ap (λ (s : Seat). s.flight) enters.begins.mine; mine = refl; ordinal = enters.ordinal; moment = enters.moment; answered = enters.lacks }, enters.own) tt
+            (record { flight = flight; here = ap (λ (s : SightSeat). s.flight) enters.begins.mine; mine = refl; ordinal = enters.ordinal; moment = enters.moment; answered = enters.lacks }, enters.own) tt
             (subst (MetOnce attempt.crossings.ordinal) (sym (struck_still attempt.crossings.caller old new enters.begins.stays.records))
             (subst (λ n. MetOnce n (part_of old attempt.crossings.caller).struck) (is.ordinal ∙ sym u.ordinal) (once_inside old.records attempt.crossings.caller was.ordinal enters.once))),
         refl,

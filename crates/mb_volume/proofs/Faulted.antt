@@ -16,7 +16,7 @@ use Rattle.mb_run.proofs.Counting.{counted_goes, counted_taken}
 use Rattle.mb_run.specs.Events.{FaultsWith}
 use Rattle.mb_run.specs.Recovering.{CrossingsGoOn, FaultIsTaken}
 use Rattle.mb_run.specs.Served.{counted}
-use Rattle.mb_run.specs.Sights.{SeatHasTicket, IsTicketOf, Seat, Sight}
+use Rattle.mb_run.specs.Sights.{SeatHasTicket, IsTicketOf, SightSeat, Sight}
 use Rattle.mb_run.specs.declared.runner.At.{At}
 use Rattle.mb_run.specs.declared.runner.At.TheVariants as at
 use Rattle.mb_volume.specs.Attempts.{back_out}
@@ -32,12 +32,12 @@ use Rattle.mb_volume.proofs.Standing.{flying}
 use Rattle.mb_volume.proofs.Struck.{struck_on, struck_push}
 
 -- the ticket of a call that stands inside
-pub record Stood (caller : ℕ) (seat : Seat) (ticket : Ticket) : Type 0 where
+pub record Stood (caller : ℕ) (seat : SightSeat) (ticket : Ticket) : Type 0 where
   pub done : Bool
   pub has : SeatHasTicket done seat ticket
   pub mine : ticket.caller ≡ caller
 
-pub stood_at : (caller : ℕ) (seat : Seat) (a : At) (ticket : Ticket) → PlaceHoldsTicket a ticket → PlaceStands caller seat a → Stood caller seat ticket
+pub stood_at : (caller : ℕ) (seat : SightSeat) (a : At) (ticket : Ticket) → PlaceHoldsTicket a ticket → PlaceStands caller seat a → Stood caller seat ticket
 stood_at caller seat at.Outside ticket holds stands = absurd holds
 stood_at caller seat (at.Inside mine) ticket holds stands = subst (Stood caller seat) holds (record { done = false; has = stands.0; mine = stands.1 })
 stood_at caller seat (at.Logged mine) ticket holds stands = subst (Stood caller seat) holds (record { done = true; has = stands.0; mine = stands.1 })
@@ -91,11 +91,11 @@ module _ (call : Call) (test : Option (Crossing → Bool)) (from : Part) (old : 
       let now : FlightIsCall attempt.crossings.caller call from (part_of new attempt.crossings.caller) flight = record {
         call_is = flies.call_is;
         ordinal = flies.ordinal;
-        begun = ap (λ (s : Seat). s.begun) seat ∙ flies.begun;
+        begun = ap (λ (s : SightSeat). s.begun) seat ∙ flies.begun;
         entered = subst (AddsEntryIf flight.answered attempt.crossings.caller (from.seat.begun + 1) call from.entries) (sym entries) flies.entered;
       } in
       let begun : IsBegunIf attempt.crossings.caller call from (part_of new attempt.crossings.caller) (new.seats attempt.crossings.caller).flight =
-      subst (IsBegunIf attempt.crossings.caller call from (part_of new attempt.crossings.caller)) (sym (ap (λ (s : Seat). s.flight) seat ∙ here)) now in
+      subst (IsBegunIf attempt.crossings.caller call from (part_of new attempt.crossings.caller)) (sym (ap (λ (s : SightSeat). s.flight) seat ∙ here)) now in
       record {
         config = config ∙ u.config;
         within = was.within;
@@ -103,7 +103,7 @@ module _ (call : Call) (test : Option (Crossing → Bool)) (from : Part) (old : 
         ordinal = was.ordinal;
         counts = was.counts;
         begun = subst (λ n. IsBegunIf n call from (part_of new attempt.crossings.caller) (new.seats attempt.crossings.caller).flight) (sym on.caller) begun;
-        stands = subst (λ (s : Seat). PlaceStands crossings.caller s attempt.at) (sym seat) was.stands;
+        stands = subst (λ (s : SightSeat). PlaceStands crossings.caller s attempt.at) (sym seat) was.stands;
         tables = rw config u.tables;
         struck = subst (StruckSoFar test crossings from.struck) (sym struck) (struck_push test attempt.crossings crossings from.struck (records_of old.records attempt.crossings.caller) taken on is u.struck);
         once = subst (λ n. HasMetOnce n (part_of new attempt.crossings.caller) attempt.at) (sym on.ordinal) (once struck);

@@ -13,7 +13,7 @@ use Rattle.mb_run.proofs.Counting.{same_or_not}
 use Rattle.mb_run.proofs.TallyRecords.{counted_some, counted_there, next_first}
 use Rattle.mb_run.specs.Recovering.{next_of}
 use Rattle.mb_run.specs.Served.{AreSixCounts, counted}
-use Rattle.mb_run.specs.Sights.{Seat}
+use Rattle.mb_run.specs.Sights.{SightSeat}
 use Rattle.mb_run.specs.Tallies.{count_of, is_logged}
 use Rattle.mb_run.specs.declared.runner.At.TheVariants as at
 use Rattle.mb_volume.specs.Attempts.{new_attempt}
@@ -124,7 +124,7 @@ module _ (test : Option (Crossing → Bool)) (crossings : Crossings) (kind : Kin
 taken_all : (test : Option (Crossing → Bool)) (caller ordinal first now : ℕ) (crossings : Crossings) → HasHeard test caller ordinal first now crossings → IsPastLeave crossings → TakesFirsts test caller ordinal first now
 taken_all test caller ordinal first now crossings heard past = λ kind on. heard.taken kind on (past_some crossings kind on past)
 
-heard_came : (test : Option (Crossing → Bool)) (caller ordinal first now : ℕ) (seat : Seat) (after : Attempt) (answer : Came) → (IsCalm answer → HasHeard test caller ordinal first now after.crossings) → PassedBy seat after answer
+heard_came : (test : Option (Crossing → Bool)) (caller ordinal first now : ℕ) (seat : SightSeat) (after : Attempt) (answer : Came) → (IsCalm answer → HasHeard test caller ordinal first now after.crossings) → PassedBy seat after answer
     → HeardBy test caller ordinal first now seat after answer
 heard_came test caller ordinal first now seat after (came.Answered answer) heard passed = λ plain. taken_all test caller ordinal first now after.crossings (heard plain) (passed plain)
 heard_came test caller ordinal first now seat after (came.Inside ticket) heard passed = record { heard = heard tt; passed = passed }
@@ -133,7 +133,7 @@ heard_came test caller ordinal first now seat after came.Shut heard passed = rec
 heard_came test caller ordinal first now seat after came.Busy heard passed = record { heard = heard tt; passed = passed }
 heard_came test caller ordinal first now seat after came.NoMemory heard passed = tt
 
-module _ (test : Option (Crossing → Bool)) (was is : Seat) (old after : Attempt) (answer : Came) where
+module _ (test : Option (Crossing → Bool)) (was is : SightSeat) (old after : Attempt) (answer : Came) where
   -- an event for which nobody was asked
   pub hears_event : (before now : ℕ) → before ≤ now → (IsCalm answer → KeepsOwn old.crossings after.crossings) → (HasPassed was.flight old → PassedBy is after answer) → Hears test before now was is old after answer
   hears_event before now more keeps passes = λ caller ordinal first heard.
@@ -169,7 +169,7 @@ not_logged attempt ticket crossings inside logged = absurd (let both : 0 ≡ 1 =
 pub inside_leaves : (attempt : Attempt) (ticket : Ticket) (kind : Kind) → attempt.at ≡ at.Inside ticket → is_logged attempt.at ≡ 1 → kind ≡ Leave
 inside_leaves attempt ticket kind inside logged = absurd (let both : 0 ≡ 1 = sym (ap is_logged inside) ∙ logged in omega (arith, both))
 
-pub past_leave : (seat : Seat) (attempt : Attempt) (ticket : Ticket) → AreSixCounts attempt.crossings → attempt.at ≡ at.Logged ticket → HasPassed seat.flight attempt → IsPastLeave (counted attempt.crossings Leave)
+pub past_leave : (seat : SightSeat) (attempt : Attempt) (ticket : Ticket) → AreSixCounts attempt.crossings → attempt.at ≡ at.Logged ticket → HasPassed seat.flight attempt → IsPastLeave (counted attempt.crossings Leave)
 past_leave seat attempt ticket are logged passed =
     let was : HasFinished attempt.crossings = subst (HasPassedAt seat.flight attempt) logged passed in
     let grown = grown_counted attempt.crossings Leave are in
@@ -180,7 +180,7 @@ past_leave seat attempt ticket are logged passed =
 
 -- ---- the call enters
 
-pub entered_inside : (seat : Seat) (mid : Attempt) (ticket : Ticket) (after : Attempt) → AreSixCounts mid.crossings → mid.at ≡ at.Inside ticket → EnteredBy seat mid (came.Inside ticket) → after ≡ record mid { crossings = counted mid.crossings Enter }
+pub entered_inside : (seat : SightSeat) (mid : Attempt) (ticket : Ticket) (after : Attempt) → AreSixCounts mid.crossings → mid.at ≡ at.Inside ticket → EnteredBy seat mid (came.Inside ticket) → after ≡ record mid { crossings = counted mid.crossings Enter }
     → HasPassed seat.flight after
 entered_inside seat mid ticket after are inside entered counts =
     subst (HasPassed seat.flight) (sym counts) (subst (HasPassedAt seat.flight (record mid { crossings = counted mid.crossings Enter })) (sym inside) (record {
@@ -189,7 +189,7 @@ entered_inside seat mid ticket after are inside entered counts =
       finishes = λ asked. absurd (let both : false ≡ true = sym entered.1 ∙ asked in cc);
     }))
 
-module _ (test : Option (Crossing → Bool)) (was is last : Seat) (old mid after : Attempt) (answer : Came) (ticket : Ticket) (inside : mid.at ≡ at.Inside ticket) (before between now : ℕ) (more : before ≤ between) (same : mid.crossings ≡ old.crossings) where
+module _ (test : Option (Crossing → Bool)) (was is last : SightSeat) (old mid after : Attempt) (answer : Came) (ticket : Ticket) (inside : mid.at ≡ at.Inside ticket) (before between now : ℕ) (more : before ≤ between) (same : mid.crossings ≡ old.crossings) where
   entered_heard : (caller ordinal first : ℕ) → HasHeard test caller ordinal first before old.crossings → HasHeard test caller ordinal first between mid.crossings
   entered_heard caller ordinal first heard = heard_kept test caller ordinal first before between old.crossings mid.crossings more (keeps_same old.crossings mid.crossings same) heard
 
@@ -197,7 +197,7 @@ module _ (test : Option (Crossing → Bool)) (was is last : Seat) (old mid after
   pub hears_entered : answer ≡ came.Inside ticket → AreSixCounts mid.crossings → (HasPassed was.flight old → EnteredBy is mid answer) → HearsAt test between now mid.crossings Enter → last ≡ is → after ≡ record mid { crossings = counted mid.crossings Enter }
       → Hears test before now was last old after came.On
   hears_entered said are passes hears seat counts = λ caller ordinal first heard.
-      subst (λ (s : Seat). IsHeard test caller ordinal first now s after) (sym seat) (record {
+      subst (λ (s : SightSeat). IsHeard test caller ordinal first now s after) (sym seat) (record {
         heard = subst (λ (a : Attempt). HasHeard test caller ordinal first now a.crossings) (sym counts) (hears caller ordinal first (entered_heard caller ordinal first heard.heard));
         passed = entered_inside is mid ticket after are inside (subst (EnteredBy is mid) said (passes heard.passed)) counts;
       })
@@ -207,7 +207,7 @@ module _ (test : Option (Crossing → Bool)) (was is last : Seat) (old mid after
   hears_struck came struck = λ caller ordinal first heard. struck caller ordinal first (entered_heard caller ordinal first heard.heard) (not_logged mid ticket (counted mid.crossings Enter) inside)
 
 -- an entering call that did not go in
-not_in : (seat : Seat) (after : Attempt) (answer : Came) → ((ticket : Ticket) → answer ≡ came.Inside ticket → ⊥) → EnteredBy seat after answer → PassedBy seat after answer
+not_in : (seat : SightSeat) (after : Attempt) (answer : Came) → ((ticket : Ticket) → answer ≡ came.Inside ticket → ⊥) → EnteredBy seat after answer → PassedBy seat after answer
 not_in seat after (came.Answered answer) not entered = entered
 not_in seat after (came.Inside ticket) not entered = absurd (not ticket refl)
 not_in seat after came.On not entered = entered
@@ -215,13 +215,13 @@ not_in seat after came.Shut not entered = entered
 not_in seat after came.Busy not entered = entered
 not_in seat after came.NoMemory not entered = entered
 
-pub hears_outside : (test : Option (Crossing → Bool)) (was is : Seat) (old after : Attempt) (answer : Came) (before now : ℕ) → ((ticket : Ticket) → answer ≡ came.Inside ticket → ⊥) → before ≤ now → after.crossings ≡ old.crossings
+pub hears_outside : (test : Option (Crossing → Bool)) (was is : SightSeat) (old after : Attempt) (answer : Came) (before now : ℕ) → ((ticket : Ticket) → answer ≡ came.Inside ticket → ⊥) → before ≤ now → after.crossings ≡ old.crossings
     → (HasPassed was.flight old → EnteredBy is after answer) → Hears test before now was is old after answer
 hears_outside test was is old after answer before now not more same passes = hears_same test was is old after answer before now more same (λ passed. not_in is after answer not (passes passed))
 
 -- ---- the call begins
 
-pub heard_begins : (test : Option (Crossing → Bool)) (caller begun count : ℕ) (seat : Seat) (attempt : Attempt) → attempt ≡ new_attempt caller begun → seat.flight ≡ None → IsHeard test caller (begun + 1) count count seat attempt
+pub heard_begins : (test : Option (Crossing → Bool)) (caller begun count : ℕ) (seat : SightSeat) (attempt : Attempt) → attempt ≡ new_attempt caller begun → seat.flight ≡ None → IsHeard test caller (begun + 1) count count seat attempt
 heard_begins test caller begun count seat attempt is free = subst (IsHeard test caller (begun + 1) count count seat) (sym is) (record {
   heard = record { caller_is = refl; ordinal_is = refl; later = omega arith; taken = λ kind on some. absurd (some (none kind)) };
   passed = λ has. absurd (subst FlightHasEntry free has);
@@ -235,6 +235,6 @@ heard_begins test caller begun count seat attempt is free = subst (IsHeard test 
   none Replay = refl
 
 -- the fault injector was asked at the present finish
-pub finish_asked : (seat : Seat) (attempt : Attempt) (ticket : Ticket) → attempt.at ≡ at.Inside ticket → attempt.asked ≡ true → HasPassed seat.flight attempt → count_of attempt.crossings Finish ≢ 0
+pub finish_asked : (seat : SightSeat) (attempt : Attempt) (ticket : Ticket) → attempt.at ≡ at.Inside ticket → attempt.asked ≡ true → HasPassed seat.flight attempt → count_of attempt.crossings Finish ≢ 0
 finish_asked seat attempt ticket inside asked passed =
     let was : IsPastEnter attempt = subst (HasPassedAt seat.flight attempt) inside passed in was.finishes asked

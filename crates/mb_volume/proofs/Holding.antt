@@ -16,7 +16,7 @@ use Rattle.mb_run.specs.declared.runner.At.TheVariants as at
 use Rattle.mb_run.specs.Served.{counted}
 use Rattle.mb_run.specs.Sights.{Limits, Sight, limits_of, amiss_in}
 use Rattle.mb_turn.proofs.Lists.{prefix_trans}
-use Rattle.mb_turn.specs.Passes.{Continues, IsIdle, Known, known}
+use Rattle.mb_turn.specs.Passes.{ContinuesBy, IsIdle, Known, known}
 use Rattle.mb_volume_core.proofs.Origins.{origin_of}
 use Rattle.mb_volume_core.specs.declared.volume_core.Origin.{Origin}
 use Rattle.mb_volume.specs.Parts.{MovesPart, Part, part_of, stand_in}
@@ -39,7 +39,7 @@ declared_on saw caller call test from attempt same u = subst (λ n. n < saw.conf
 pub config_same : {F D : Type 0} (one other : CoreState F D) → origin_of one ≡ origin_of other → (sight_of one).config ≡ (sight_of other).config
 config_same {F} {D} one other same = ap (λ (o : Origin D). limits_of o.config) same
 
-pub goes_on : (caller : ℕ) (first then last : List Entry) → IsPrefix first then → Continues caller then last → IsPrefix first last
+pub goes_on : (caller : ℕ) (first then last : List Entry) → IsPrefix first then → ContinuesBy caller then last → IsPrefix first last
 goes_on caller first then last saw more = prefix_trans first then last saw (more.new, sym more.whole)
 
 -- the part that was seen is the part of the core that was taken
@@ -149,7 +149,7 @@ pub others_held : (now new : Sight) (mine caller : ℕ) → mine ≡ caller → 
 others_held now new mine caller same moves other apart = others_stand now new mine moves other (λ is. apart (is ∙ same))
 
 pub later_held : {F D : Type 0} (table : TableId) (old : Known (Shared F D)) (now new : Shared F D) → IsIdle table old → origin_of now.core.core ≡ origin_of old.value.core.core → origin_of new.core.core ≡ origin_of now.core.core
-    → IsPrefix (seen_by old).history (sight_of now.core.core).history → (mine : ℕ) → Continues mine (sight_of now.core.core).history (sight_of new.core.core).history
+    → IsPrefix (seen_by old).history (sight_of now.core.core).history → (mine : ℕ) → ContinuesBy mine (sight_of now.core.core).history (sight_of new.core.core).history
     → amiss_in (sight_of now.core.core) ≤ amiss_in (seen_by old) → amiss_in (sight_of new.core.core) ≤ amiss_in (sight_of now.core.core) → IsLater table old (known old.table old.caller new false)
 later_held {F} {D} table old now new idle one other saw mine more fewer low = record {
   idle = (idle.0, refl);

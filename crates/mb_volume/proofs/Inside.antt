@@ -1,7 +1,7 @@
 -- A call inside gathers and finishes; one that has its entry leaves.
 use Rattle.std.proofs.Common.{◌≡◌, [], ◌∷◌, ◌++◌, ℕ, ◌+◌, ◌≤◌, Bool, true, false, refl, ap, sym, subst, ◌∙◌, arith, Option, None, Some}
 use Rattle.mb_calls.specs.declared.performing.Performed.TheVariants as performed
-use Rattle.mb_calls.specs.declared.performing.Ready.{Ready}
+use Rattle.mb_calls.specs.declared.performing.ReadyCall.{ReadyCall}
 use Rattle.mb_core_spec.specs.Copies.{PagesState}
 use Rattle.mb_core_state.specs.declared.answers.Finished.{Finished}
 use Rattle.mb_core_state.specs.declared.answers.Finished.TheVariants as finished
@@ -22,7 +22,7 @@ use Rattle.mb_run.proofs.Amiss.{gathers_amiss, leaves_amiss}
 use Rattle.mb_run.specs.Events.{Answers, FinishesInSight, Gains, GathersInSight, IsCallOf, IsReadyAt, IsStale, EndsFlight, LeavesOthersAlone, LeavesWith, Logs, SealsIf, entry_of, sealed}
 use Rattle.mb_run.specs.Pages.{HasTablesFor, PerformsOver}
 use Rattle.mb_run.specs.Seals.{is_due}
-use Rattle.mb_run.specs.Sights.{IsOrderlyInSight, SeatHasTicket, Limits, Seat, Sight, amiss_in}
+use Rattle.mb_run.specs.Sights.{IsOrderlyInSight, SeatHasTicket, Limits, SightSeat, Sight, amiss_in}
 use Rattle.mb_run.specs.declared.runner.At.TheVariants as at
 use Rattle.mb_volume.specs.Attempts.{back_out, going_in}
 use Rattle.mb_volume.specs.Called.{MetOnce}
@@ -152,7 +152,7 @@ module _ (call : Call) (test : Option (Crossing → Bool)) (from : Part) (old : 
         let now : FlightIsCall attempt.crossings.caller call from (part_of new attempt.crossings.caller) flight = record {
           call_is = was.call_is;
           ordinal = was.ordinal;
-          begun = ap (λ (s : Seat). s.begun) logs.mine ∙ was.ordinal;
+          begun = ap (λ (s : SightSeat). s.begun) logs.mine ∙ was.ordinal;
           entered = added;
         } in
         record {
@@ -161,8 +161,8 @@ module _ (call : Call) (test : Option (Crossing → Bool)) (from : Part) (old : 
           most = u.most;
           ordinal = u.ordinal;
           counts = u.counts;
-          begun = subst (IsBegunIf attempt.crossings.caller call from (part_of new attempt.crossings.caller)) (sym (ap (λ (s : Seat). s.flight) logs.mine)) now;
-          stands = (record { flight = flight; here = ap (λ (s : Seat). s.flight) logs.mine; mine = mine; ordinal = ordinal; moment = moment; answered = refl }, own_ticket);
+          begun = subst (IsBegunIf attempt.crossings.caller call from (part_of new attempt.crossings.caller)) (sym (ap (λ (s : SightSeat). s.flight) logs.mine)) now;
+          stands = (record { flight = flight; here = ap (λ (s : SightSeat). s.flight) logs.mine; mine = mine; ordinal = ordinal; moment = moment; answered = refl }, own_ticket);
           tables = subst (λ (l : Limits). HasTablesFor l.callers attempt.pages) (sym logs.stays.config) u.tables;
           struck = subst (StruckSoFar test attempt.crossings from.struck) (sym (struck_still attempt.crossings.caller old new logs.stays.records)) u.struck;
           once = subst (MetOnce attempt.crossings.ordinal) (sym (struck_still attempt.crossings.caller old new logs.stays.records)) once_inside;
@@ -178,7 +178,7 @@ module _ (call : Call) (test : Option (Crossing → Bool)) (from : Part) (old : 
     call_at flight here = (flying call test from old attempt u flight (ap (λ n. (old.seats n).flight) (sym own_ticket) ∙ here)).call_is
 
     -- what was performed is what the flight is finished with
-    pub ready_at : (ready : Ready) → PerformsOver attempt.pages ticket.caller call ticket.moment (performed.Ready ready) → IsReadyAt old ticket attempt.pages ready
+    pub ready_at : (ready : ReadyCall) → PerformsOver attempt.pages ticket.caller call ticket.moment (performed.Ready ready) → IsReadyAt old ticket attempt.pages ready
     ready_at ready performs = λ flight here.
         let flight_here : (old.seats attempt.crossings.caller).flight ≡ Some flight = ap (λ n. (old.seats n).flight) (sym own_ticket) ∙ here in
         let is = flying call test from old attempt u flight flight_here in

@@ -19,11 +19,11 @@ use Rattle.mb_run.specs.Pages.{has}
 use Rattle.mb_run.specs.Recovering.{GoOn, Steps, StrikesStep}
 use Rattle.mb_run.specs.Seals.{is_plain}
 use Rattle.mb_run.specs.Served.{AreSixCounts, counted}
-use Rattle.mb_run.specs.Sights.{Seat, Sight}
+use Rattle.mb_run.specs.Sights.{SightSeat, Sight}
 use Rattle.mb_run.specs.Tallies.{count_of, is_logged}
-use Rattle.mb_run.specs.declared.answers.Enter.TheVariants as enter
-use Rattle.mb_run.specs.declared.answers.Stepped.{Stepped}
-use Rattle.mb_run.specs.declared.answers.Stepped.TheVariants as stepped
+use Rattle.mb_run.specs.declared.answers.EnterAnswer.TheVariants as enter
+use Rattle.mb_run.specs.declared.answers.StepAnswer.{StepAnswer}
+use Rattle.mb_run.specs.declared.answers.StepAnswer.TheVariants as stepped
 use Rattle.mb_run.specs.declared.runner.At.{At}
 use Rattle.mb_run.specs.declared.runner.At.TheVariants as at
 use Rattle.mb_volume.specs.Attempts.{KeepsCrossings, back_out, going_in}
@@ -114,7 +114,7 @@ module _ (old new : Sight) (attempt : Attempt) where
 
   pub passed_shut : (flight : Flight) → attempt.at ≡ at.Outside → flight.answered ≡ false → BeginsFlight attempt.crossings.caller flight old new → HasPassed (new.seats attempt.crossings.caller).flight attempt
   passed_shut flight outside lacks begins =
-      subst (HasPassedAt (new.seats attempt.crossings.caller).flight attempt) (sym outside) (λ has. absurd (lacks_entry (Some flight) lacks (subst FlightHasEntry (ap (λ (s : Seat). s.flight) begins.mine) has)))
+      subst (HasPassedAt (new.seats attempt.crossings.caller).flight attempt) (sym outside) (λ has. absurd (lacks_entry (Some flight) lacks (subst FlightHasEntry (ap (λ (s : SightSeat). s.flight) begins.mine) has)))
 
   -- a call without its entry has to enter again
   pub passed_back : new ≡ old → FlightLacksEntry (old.seats attempt.crossings.caller).flight → HasPassed (new.seats attempt.crossings.caller).flight (back_out attempt)
@@ -155,7 +155,7 @@ module _ (old new : Sight) (attempt : Attempt) where
 
   pub passed_struck : (ticket : Ticket) (kind : Kind) (nth : ℕ) (answer : Fault) (passed : Crossings) → PlaceHoldsTicket attempt.at ticket → PlaceStands attempt.crossings.caller (old.seats attempt.crossings.caller) attempt.at
       → FaultsWith old new ticket kind nth answer → (is_logged attempt.at ≡ 1 → IsPastLeave passed) → HasPassed (new.seats attempt.crossings.caller).flight (back_out (record attempt { crossings = passed }))
-  passed_struck ticket kind nth answer passed holds stands faults asked = λ has. struck_at attempt.at ticket passed holds stands asked (subst (λ (s : Seat). FlightHasEntry s.flight) (struck_seat ticket kind nth answer faults) has)
+  passed_struck ticket kind nth answer passed holds stands faults asked = λ has. struck_at attempt.at ticket passed holds stands asked (subst (λ (s : SightSeat). FlightHasEntry s.flight) (struck_seat ticket kind nth answer faults) has)
 
 -- ---- a step of a recovery that a call runs
 
@@ -166,7 +166,7 @@ module _ (test : Option (Crossing → Bool)) (old new : Sight) (attempt : Attemp
     | inr replay ↦ (let is = ap place_of replay.1 in omega (arith, is))
   ]) strikes.next.counts
 
-  step_keeps : (crossings : Crossings) (answer : Stepped) → answer ≢ stepped.Idle → Steps test (Some attempt.crossings) (Some crossings) old new answer → IsCalm (rolled answer) → KeepsOwn attempt.crossings crossings
+  step_keeps : (crossings : Crossings) (answer : StepAnswer) → answer ≢ stepped.Idle → Steps test (Some attempt.crossings) (Some crossings) old new answer → IsCalm (rolled answer) → KeepsOwn attempt.crossings crossings
   step_keeps crossings stepped.Idle busy steps calm = absurd (busy refl)
   step_keeps crossings (stepped.Unwound ticket) busy steps calm = keeps_same attempt.crossings crossings steps.3
   step_keeps crossings (stepped.Failed faults) busy steps calm = elim steps.1 [ inl plain ↦ keeps_same attempt.crossings crossings plain.3 | inr strikes ↦ struck_keeps crossings strikes ]
@@ -179,7 +179,7 @@ module _ (test : Option (Crossing → Bool)) (old new : Sight) (attempt : Attemp
   step_keeps crossings stepped.Device busy steps calm = absurd (let both : false ≡ true = calm in cc)
   step_keeps crossings stepped.NoMemory busy steps calm = absurd calm
 
-  step_seat : (crossings : Crossings) (answer : Stepped) → answer ≢ stepped.Idle → Steps test (Some attempt.crossings) (Some crossings) old new answer → IsCalm (rolled answer) → new.seats attempt.crossings.caller ≡ old.seats attempt.crossings.caller
+  step_seat : (crossings : Crossings) (answer : StepAnswer) → answer ≢ stepped.Idle → Steps test (Some attempt.crossings) (Some crossings) old new answer → IsCalm (rolled answer) → new.seats attempt.crossings.caller ≡ old.seats attempt.crossings.caller
   step_seat crossings stepped.Idle busy steps calm = absurd (busy refl)
   step_seat crossings (stepped.Unwound ticket) busy steps calm = steps.1.waits.seats attempt.crossings.caller
   step_seat crossings (stepped.Failed faults) busy steps calm = elim steps.1 [ inl plain ↦ plain.1.seats attempt.crossings.caller | inr strikes ↦ strikes.waits.seats attempt.crossings.caller ]
@@ -192,14 +192,14 @@ module _ (test : Option (Crossing → Bool)) (old new : Sight) (attempt : Attemp
   step_seat crossings stepped.Device busy steps calm = absurd (let both : false ≡ true = calm in cc)
   step_seat crossings stepped.NoMemory busy steps calm = absurd calm
 
-  step_passes : (crossings : Crossings) (answer : Stepped) → answer ≢ stepped.Idle → Steps test (Some attempt.crossings) (Some crossings) old new answer → HasPassed (old.seats attempt.crossings.caller).flight attempt
+  step_passes : (crossings : Crossings) (answer : StepAnswer) → answer ≢ stepped.Idle → Steps test (Some attempt.crossings) (Some crossings) old new answer → HasPassed (old.seats attempt.crossings.caller).flight attempt
       → IsCalm (rolled answer) → HasPassed (new.seats attempt.crossings.caller).flight (record attempt { crossings = crossings })
   step_passes crossings answer busy steps passed calm =
-      subst (λ (s : Seat). HasPassed s.flight (record attempt { crossings = crossings })) (sym (step_seat crossings answer busy steps calm))
+      subst (λ (s : SightSeat). HasPassed s.flight (record attempt { crossings = crossings })) (sym (step_seat crossings answer busy steps calm))
       (passed_on (old.seats attempt.crossings.caller).flight attempt crossings (grown_kept attempt.crossings crossings (step_keeps crossings answer busy steps calm)) passed)
 
 -- what it comes to
-pub by_rolled : (seat : Seat) (attempt : Attempt) (answer : Stepped) → (IsCalm (rolled answer) → HasPassed seat.flight attempt) → PassedBy seat attempt (rolled answer)
+pub by_rolled : (seat : SightSeat) (attempt : Attempt) (answer : StepAnswer) → (IsCalm (rolled answer) → HasPassed seat.flight attempt) → PassedBy seat attempt (rolled answer)
 by_rolled seat attempt stepped.Idle goes = goes tt
 by_rolled seat attempt (stepped.Unwound ticket) goes = goes tt
 by_rolled seat attempt (stepped.Failed faults) goes = goes tt
@@ -214,7 +214,7 @@ by_rolled seat attempt stepped.NoMemory goes = tt
 
 module _ (test : Option (Crossing → Bool)) (old new : Sight) (attempt : Attempt) (are : AreSixCounts attempt.crossings) where
   -- with the crossings that are kept
-  pub marks_rolled : (by : Option Crossings) (now : Attempt) (answer : Stepped) → answer ≢ stepped.Idle → GoOn (Some attempt.crossings) by → KeepsCrossings attempt by now → Steps test (Some attempt.crossings) by old new answer
+  pub marks_rolled : (by : Option Crossings) (now : Attempt) (answer : StepAnswer) → answer ≢ stepped.Idle → GoOn (Some attempt.crossings) by → KeepsCrossings attempt by now → Steps test (Some attempt.crossings) by old new answer
       → MarksPoints event.Recover (old.seats attempt.crossings.caller) (new.seats attempt.crossings.caller) attempt now (rolled answer)
   marks_rolled None now answer busy on keeps steps = absurd on
   marks_rolled (Some crossings) now answer busy on keeps steps =

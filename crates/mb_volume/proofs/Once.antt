@@ -11,7 +11,7 @@ use Rattle.mb_kinds.specs.declared.faults.Kind.TheVariants.{Enter, Gather, Finis
 use Rattle.mb_kinds.specs.declared.faults.Ticket.{Ticket}
 use Rattle.mb_run.proofs.Twice.{once_at_most}
 use Rattle.mb_run.specs.Runs.{is_of, strikes_inside}
-use Rattle.mb_run.specs.Sights.{Seat}
+use Rattle.mb_run.specs.Sights.{SightSeat}
 use Rattle.mb_run.specs.Tallies.{is_logged}
 use Rattle.mb_run.specs.declared.runner.At.{At}
 use Rattle.mb_run.specs.declared.runner.At.TheVariants as at
@@ -112,7 +112,7 @@ once_out ordinal now a once = λ has. once_with ordinal now a has once
 -- it was struck in a recovery
 pub once_struck : (ordinal : ℕ) (was is : Part) (fault : FaultRecord) (a : At) → is_own fault.kind ≡ false → is.seat ≡ was.seat → is.struck ≡ was.struck ++ fault ∷ [] → HasMetOnce ordinal was a → HasMetOnce ordinal is a
 once_struck ordinal was is fault at.Outside other seat struck once =
-    λ has. subst (MetOnce ordinal) (sym struck) (once_push ordinal was.struck fault other (once (subst (λ (s : Seat). FlightHasEntry s.flight) seat has)))
+    λ has. subst (MetOnce ordinal) (sym struck) (once_push ordinal was.struck fault other (once (subst (λ (s : SightSeat). FlightHasEntry s.flight) seat has)))
 once_struck ordinal was is fault (at.Inside ticket) other seat struck once = subst (MetOnce ordinal) (sym struck) (once_push ordinal was.struck fault other once)
 once_struck ordinal was is fault (at.Logged ticket) other seat struck once = subst (MetOnce ordinal) (sym struck) (once_push ordinal was.struck fault other once)
 
@@ -121,5 +121,5 @@ pub once_faulted : (caller ordinal : ℕ) (was is : Part) (fault : FaultRecord) 
     → is.struck ≡ was.struck ++ fault ∷ [] → HasMetOnce ordinal was a → HasMetOnce ordinal is at.Outside
 once_faulted caller ordinal was is fault at.Outside ticket holds stands leaves seat struck once = absurd holds
 once_faulted caller ordinal was is fault (at.Inside mine) ticket holds stands leaves seat struck once =
-    λ has. absurd (lacks_entry was.seat.flight (subst FlightLacksEntry (sym stands.0.here) stands.0.answered) (subst (λ (s : Seat). FlightHasEntry s.flight) seat has))
+    λ has. absurd (lacks_entry was.seat.flight (subst FlightLacksEntry (sym stands.0.here) stands.0.answered) (subst (λ (s : SightSeat). FlightHasEntry s.flight) seat has))
 once_faulted caller ordinal was is fault (at.Logged mine) ticket holds stands leaves seat struck once = λ has. subst (MetOnce ordinal) (sym struck) (once_push ordinal was.struck fault (ap is_own (leaves refl)) once)

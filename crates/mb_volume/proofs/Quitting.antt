@@ -9,7 +9,7 @@ use Rattle.mb_kinds.specs.declared.entries.Entry.{Entry}
 use Rattle.mb_kinds.specs.declared.entries.Stand.{Stand}
 use Rattle.mb_run.specs.CoreSight.{seat_of, sight_of}
 use Rattle.mb_run.specs.Events.{Quits}
-use Rattle.mb_run.specs.Sights.{IsWaiting, Seat, Sight}
+use Rattle.mb_run.specs.Sights.{IsWaiting, SightSeat, Sight}
 use Rattle.mb_run.proofs.Amiss.{quits_amiss}
 use Rattle.mb_turn.specs.Passes.{Begins}
 use Rattle.mb_volume_core.proofs.Leaving.{gone, has_open_call, quit_origin, quits_by}
@@ -61,7 +61,7 @@ module _ {F D : Type 0} (saw now : CoreState F D) (caller mine begun ordinal : �
     begun_still =
         let ends : CoreState F D = with_room (ended now mine quit_open.0.mine new.cache.pins) new in
         ap (λ (c : CoreState F D). ((sight_of c).seats mine).begun) made
-        ∙ ap (λ (s : Seat). s.begun) (seat_now now ends mine (gone quit_open.0.mine) refl quit_open.0.mine quit_open.0.here)
+        ∙ ap (λ (s : SightSeat). s.begun) (seat_now now ends mine (gone quit_open.0.mine) refl quit_open.0.mine quit_open.0.here)
         ∙ sym (ap (λ (o : Option CallerState). (seat_of o).begun) quit_open.0.here)
 
     off : IsLeftOff ordinal (part_of (sight_of now) mine) (part_of (sight_of new) mine)

@@ -27,7 +27,7 @@ use Rattle.mb_run.specs.Events.{EntersInSight, FaultsWith, FinishesInSight, Gath
 use Rattle.mb_run.specs.Rising.{RisesWith}
 use Rattle.mb_run.specs.Seals.{is_due}
 use Rattle.mb_run.specs.Sights.{SeatHasTicket, Sight}
-use Rattle.mb_run.specs.declared.answers.Enter.TheVariants as enter
+use Rattle.mb_run.specs.declared.answers.EnterAnswer.TheVariants as enter
 use Rattle.mb_volume.specs.Parts.{MovesPart, Part, part_of}
 use Rattle.mb_volume.specs.Rising.{RisesAfter}
 

@@ -9,8 +9,8 @@ use Rattle.mb_kinds.specs.declared.replies.Reply.TheVariants as reply
 use Rattle.mb_run.specs.Events.{Answers, entry_of}
 use Rattle.mb_run.specs.Recovering.{GoOn, CrossingsGoOn, RunsForFlight, Steps, StrikesStep, Waits}
 use Rattle.mb_run.specs.Sights.{IsOrderlyInSight, IsWaiting, Sight}
-use Rattle.mb_run.specs.declared.answers.Stepped.{Stepped}
-use Rattle.mb_run.specs.declared.answers.Stepped.TheVariants as stepped
+use Rattle.mb_run.specs.declared.answers.StepAnswer.{StepAnswer}
+use Rattle.mb_run.specs.declared.answers.StepAnswer.TheVariants as stepped
 use Rattle.mb_volume.specs.Attempts.{KeepsCrossings}
 use Rattle.mb_volume.specs.Called.{is_own}
 use Rattle.mb_volume.specs.Parts.{MovesPart, Part, part_of}
@@ -56,7 +56,7 @@ module _ (call : Call) (test : Option (Crossing → Bool)) (from : Part) (old : 
         (λ more. once_struck attempt.crossings.ordinal (part_of old attempt.crossings.caller) (part_of new attempt.crossings.caller) strikes.fault attempt.at (elim strikes.next.point [ inl remount ↦ ap is_own remount.1 | inr replay ↦ ap is_own replay.1 ])
         (strikes.waits.seats attempt.crossings.caller) more u.once)
 
-    comes_rolled : (new : Sight) (answer : Stepped) → Steps test (Some attempt.crossings) (Some crossings) old new answer
+    comes_rolled : (new : Sight) (answer : StepAnswer) → Steps test (Some attempt.crossings) (Some crossings) old new answer
         → Comes call test attempt.crossings.caller from (part_of new attempt.crossings.caller) (record attempt { crossings = crossings }) (rolled answer)
     comes_rolled new stepped.Idle steps = subst (λ (s : Sight). IsCallUnderway call test from (part_of s attempt.crossings.caller) (record attempt { crossings = crossings })) (sym steps.1) (underway_on call test from (part_of old attempt.crossings.caller) attempt u crossings on)
     comes_rolled new (stepped.Unwound ticket) steps = (underway_waits new steps.1.waits steps.1.records, waits_still new steps.1.waits)
@@ -74,7 +74,7 @@ module _ (call : Call) (test : Option (Crossing → Bool)) (from : Part) (old : 
 
   -- ---- with the crossings that are kept
 
-  pub comes_by : (new : Sight) (by : Option Crossings) (now : Attempt) (answer : Stepped) → GoOn (Some attempt.crossings) by → KeepsCrossings attempt by now → Steps test (Some attempt.crossings) by old new answer
+  pub comes_by : (new : Sight) (by : Option Crossings) (now : Attempt) (answer : StepAnswer) → GoOn (Some attempt.crossings) by → KeepsCrossings attempt by now → Steps test (Some attempt.crossings) by old new answer
       → Comes call test attempt.crossings.caller from (part_of new attempt.crossings.caller) now (rolled answer)
   comes_by new None now answer on keeps steps = absurd on
   comes_by new (Some crossings) now answer on keeps steps =
@@ -90,7 +90,7 @@ module _ (test : Option (Crossing → Bool)) (old : Sight) (attempt : Attempt) (
     moves_waits : (new : Sight) → Waits old new → new.records ≡ old.records → MovesPart attempt.crossings.caller old new
     moves_waits new waits records = moves_records attempt.crossings.caller old new [] waits.config waits.seats waits.counts.history (records ∙ sym (append-nil old.records)) tt (waits_amiss old new waits)
 
-    moves_rolled : (new : Sight) (answer : Stepped) → Steps test (Some attempt.crossings) (Some crossings) old new answer → MovesPart attempt.crossings.caller old new
+    moves_rolled : (new : Sight) (answer : StepAnswer) → Steps test (Some attempt.crossings) (Some crossings) old new answer → MovesPart attempt.crossings.caller old new
     moves_rolled new stepped.Idle steps = moves_nothing old new attempt.crossings.caller steps.1
     moves_rolled new (stepped.Unwound ticket) steps = moves_waits new steps.1.waits steps.1.records
     moves_rolled new (stepped.Failed faults) steps = elim steps.1 [ inl plain ↦ moves_waits new plain.1 plain.0 | inr strikes ↦ moves_strikes new strikes ]
@@ -110,6 +110,6 @@ module _ (test : Option (Crossing → Bool)) (old : Sight) (attempt : Attempt) (
   same_caller None now on keeps = absurd on
   same_caller (Some crossings) now on keeps = ap (λ (a : Attempt). a.crossings.caller) keeps ∙ on.caller
 
-  pub moves_by : IsOrderlyInSight old → (new : Sight) (by : Option Crossings) (answer : Stepped) → GoOn (Some attempt.crossings) by → Steps test (Some attempt.crossings) by old new answer → MovesPart attempt.crossings.caller old new
+  pub moves_by : IsOrderlyInSight old → (new : Sight) (by : Option Crossings) (answer : StepAnswer) → GoOn (Some attempt.crossings) by → Steps test (Some attempt.crossings) by old new answer → MovesPart attempt.crossings.caller old new
   moves_by right new None answer on steps = absurd on
   moves_by right new (Some crossings) answer on steps = moves_rolled right crossings on new answer steps

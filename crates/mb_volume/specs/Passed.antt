@@ -8,7 +8,7 @@ use Rattle.mb_kinds.specs.declared.faults.Kind.{Kind}
 use Rattle.mb_kinds.specs.declared.faults.Kind.TheVariants.{Enter, Gather, Finish, Leave}
 use Rattle.mb_run.specs.Pages.{has}
 use Rattle.mb_run.specs.Served.{counted}
-use Rattle.mb_run.specs.Sights.{Seat, Sight}
+use Rattle.mb_run.specs.Sights.{SightSeat, Sight}
 use Rattle.mb_run.specs.Seals.{is_plain}
 use Rattle.mb_run.specs.Tallies.{count_of, is_logged}
 use Rattle.mb_run.specs.declared.runner.At.{At}
@@ -59,17 +59,17 @@ IsAskedFor (event.Leave ticket) attempt = count_of attempt.crossings Leave ≢ 0
 IsAskedFor (event.Fault ticket crossing passed) attempt = is_logged attempt.at ≡ 1 → IsPastLeave passed
 IsAskedFor _ attempt = Unit {0}
 
-abbrev pub PassedBy : Seat → Attempt → Came → Type 0
+abbrev pub PassedBy : SightSeat → Attempt → Came → Type 0
 PassedBy seat attempt (came.Answered answer) = is_plain answer ≡ true → IsPastLeave attempt.crossings
 PassedBy seat attempt came.NoMemory = Unit {0}
 PassedBy seat attempt _ = HasPassed seat.flight attempt
 
 -- a call that went in has nothing yet, and was not asked there
-abbrev pub EnteredBy : Seat → Attempt → Came → Type 0
+abbrev pub EnteredBy : SightSeat → Attempt → Came → Type 0
 EnteredBy seat attempt (came.Inside ticket) = (attempt.pages ≡ no_pages) × (attempt.asked ≡ false)
 EnteredBy seat attempt came = PassedBy seat attempt came
 
-abbrev pub PassesPoints : Event → Seat → Seat → Attempt → Attempt → Came → Type 0
+abbrev pub PassesPoints : Event → SightSeat → SightSeat → Attempt → Attempt → Came → Type 0
 PassesPoints event.Enter old new before now came = HasPassed old.flight before → EnteredBy new now came
 PassesPoints (event.Fault ticket crossing passed) old new before now came = IsAskedFor (event.Fault ticket crossing passed) before → PassedBy new now came
 PassesPoints event old new before now came = IsAskedFor event before → HasPassed old.flight before → PassedBy new now came
@@ -93,7 +93,7 @@ Crosses event.Recover before now came = IsCalm came → KeepsOwn before now
 Crosses _ before now came = now ≡ before
 
 -- what an event does to the fault points that its call passed; `was` and `is` are the seats of its caller
-pub record MarksPoints (event : Event) (was is : Seat) (before now : Attempt) (came : Came) : Type 0 where
+pub record MarksPoints (event : Event) (was is : SightSeat) (before now : Attempt) (came : Came) : Type 0 where
   pub passes : PassesPoints event was is before now came
   pub crosses : Crosses event before.crossings now.crossings came
 
@@ -109,17 +109,17 @@ pub record HasHeard (test : Option (Crossing → Bool)) (caller ordinal first no
   pub later : first ≤ now
   pub taken : (kind : Kind) → is_on_way kind ≡ true → count_of crossings kind ≢ 0 → RisesAtFirst test caller ordinal first now kind
 
-pub record IsHeard (test : Option (Crossing → Bool)) (caller ordinal first now : ℕ) (seat : Seat) (attempt : Attempt) : Type 0 where
+pub record IsHeard (test : Option (Crossing → Bool)) (caller ordinal first now : ℕ) (seat : SightSeat) (attempt : Attempt) : Type 0 where
   pub heard : HasHeard test caller ordinal first now attempt.crossings
   pub passed : HasPassed seat.flight attempt
 
-abbrev pub HeardBy : Option (Crossing → Bool) → ℕ → ℕ → ℕ → ℕ → Seat → Attempt → Came → Type 0
+abbrev pub HeardBy : Option (Crossing → Bool) → ℕ → ℕ → ℕ → ℕ → SightSeat → Attempt → Came → Type 0
 HeardBy test caller ordinal first now seat attempt (came.Answered answer) = is_plain answer ≡ true → TakesFirsts test caller ordinal first now
 HeardBy test caller ordinal first now seat attempt came.NoMemory = Unit {0}
 HeardBy test caller ordinal first now seat attempt _ = IsHeard test caller ordinal first now seat attempt
 
 -- a step of a call: `before` and `now` are the counts of faults, `was` and `is` the seats of its caller
-abbrev pub Hears : Option (Crossing → Bool) → ℕ → ℕ → Seat → Seat → Attempt → Attempt → Came → Type 0
+abbrev pub Hears : Option (Crossing → Bool) → ℕ → ℕ → SightSeat → SightSeat → Attempt → Attempt → Came → Type 0
 Hears test before now was is old new came = (caller ordinal first : ℕ) → IsHeard test caller ordinal first before was old → HeardBy test caller ordinal first now is new came
 
 -- the fault injector was asked at the next fault point of a kind, and the call goes on
@@ -127,6 +127,6 @@ abbrev pub HearsAt : Option (Crossing → Bool) → ℕ → ℕ → Crossings �
 HearsAt test before now crossings kind = (caller ordinal first : ℕ) → HasHeard test caller ordinal first before crossings → HasHeard test caller ordinal first now (counted crossings kind)
 
 -- it was asked there, and the call is struck
-abbrev pub HearsFault : Option (Crossing → Bool) → ℕ → ℕ → Seat → Attempt → Attempt → Kind → Came → Type 0
+abbrev pub HearsFault : Option (Crossing → Bool) → ℕ → ℕ → SightSeat → Attempt → Attempt → Kind → Came → Type 0
 HearsFault test before now is old new kind came = (caller ordinal first : ℕ) → HasHeard test caller ordinal first before old.crossings → (is_logged old.at ≡ 1 → IsPastLeave (counted old.crossings kind))
     → HeardBy test caller ordinal first now is new came

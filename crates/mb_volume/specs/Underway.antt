@@ -17,10 +17,10 @@ use Rattle.mb_core_spec.specs.Copies.{PagesState}
 use Rattle.mb_run.specs.Pages.{PagesGrowBy, HasTablesFor, PerformsOver, has}
 use Rattle.mb_run.specs.Seals.{is_plain}
 use Rattle.mb_run.specs.Served.{AreSixCounts, AreSound, IsCounted, counted}
-use Rattle.mb_run.specs.Sights.{SeatHasTicket, IsWaiting, Seat, Sight}
+use Rattle.mb_run.specs.Sights.{SeatHasTicket, IsWaiting, SightSeat, Sight}
 use Rattle.mb_run.specs.Tallies.{is_logged}
-use Rattle.mb_run.specs.declared.answers.Stepped.{Stepped}
-use Rattle.mb_run.specs.declared.answers.Stepped.TheVariants as stepped
+use Rattle.mb_run.specs.declared.answers.StepAnswer.{StepAnswer}
+use Rattle.mb_run.specs.declared.answers.StepAnswer.TheVariants as stepped
 use Rattle.mb_run.specs.declared.runner.At.{At}
 use Rattle.mb_run.specs.declared.runner.At.TheVariants as at
 use Rattle.mb_volume.specs.Called.{IsAnsweredWith, MetOnce, SaysOfLimit, Suffers, own_faults}
@@ -64,7 +64,7 @@ IsBegunIf caller call from now None = (now.seat.begun ≡ from.seat.begun) × (n
 IsBegunIf caller call from now (Some flight) = FlightIsCall caller call from now flight
 
 -- the ticket that the caller has
-abbrev pub PlaceStands : ℕ → Seat → At → Type 0
+abbrev pub PlaceStands : ℕ → SightSeat → At → Type 0
 PlaceStands caller seat at.Outside = Unit {0}
 PlaceStands caller seat (at.Inside ticket) = SeatHasTicket false seat ticket × (ticket.caller ≡ caller)
 PlaceStands caller seat (at.Logged ticket) = SeatHasTicket true seat ticket × (ticket.caller ≡ caller)
@@ -136,7 +136,7 @@ pub record IsLeftOff (ordinal : ℕ) (old now : Part) : Type 0 where
   pub still : old.seat.begun ≢ ordinal → now.seat.flight ≡ old.seat.flight
 
 -- what a step of a recovery comes to for the call that ran it
-abbrev pub rolled : Stepped → Came
+abbrev pub rolled : StepAnswer → Came
 rolled stepped.Idle = came.On
 rolled (stepped.Failed faults) = came.On
 rolled stepped.Resumed = came.On
@@ -201,7 +201,7 @@ pub record IsMetNext (test : Option (Crossing → Bool)) (struck : Option Crossi
   pub leaves : is_logged attempt.at ≡ 1 → crossing.kind ≡ Leave
 
 -- when an event may come
-abbrev pub MayCome : Call → Option (Crossing → Bool) → Option Crossing → Seat → Attempt → Event → Type 0
+abbrev pub MayCome : Call → Option (Crossing → Bool) → Option Crossing → SightSeat → Attempt → Event → Type 0
 MayCome call test struck seat attempt event.Enter = attempt.at ≡ at.Outside
 MayCome call test struck seat attempt (event.Gather ticket need) = (attempt.at ≡ at.Inside ticket) × (need.first < 262144) × (1 ≤ need.count) × (need.count ≤ 32)
 MayCome call test struck seat attempt (event.Finish ticket ready) =

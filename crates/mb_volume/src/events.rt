@@ -12,12 +12,12 @@ ghost use Rattle.mb_volume.specs.declared.events.Event.TheVariants as events;
 ghost use Rattle.mb_volume.specs.Underway.{GrowsAfter, PlaceHoldsTicket, IsMetNext, IsOn, MayCome, rolled, GoesSeen, GoesUnaskedSeen};
 
 use crate::attempt::Attempt;
-use mb_calls::Ready;
+use mb_calls::ReadyCall;
 use mb_core_state::{Finished, Gathered, Left};
 use mb_edge::{Crossing, Crossings, Hook};
 use mb_iface::Need;
 use mb_kinds::{Call, Reply, Ticket};
-use mb_run::{At, Enter, EventCore, Stepped};
+use mb_run::{At, EnterAnswer, EventCore, StepAnswer};
 use std::alloc::Global;
 
 /// What a caller does with the core in one hold of the turn.
@@ -28,7 +28,7 @@ pub(crate) enum Event {
     /// It gathers blocks.
     Gather(Ticket, Need),
     /// It finishes with what it performed, and the checkpoint that is due is taken.
-    Finish(Ticket, Ready),
+    Finish(Ticket, ReadyCall),
     /// It leaves.
     Leave(Ticket),
     /// It is struck at that crossing; the crossings with that one counted.
@@ -68,10 +68,10 @@ fn enter<C: EventCore>(alloc: Global, core: &mut C, attempt: &mut Attempt, call:
     ensures right { IsOrderlyInSight (C.sight core.new) }
 {
     match core.enter(alloc, attempt.crossings.caller, call) {
-        Enter::Done(reply) => Came::Answered(reply),
-        Enter::Shut => Came::Shut,
-        Enter::NoMemory => Came::NoMemory,
-        Enter::Inside(ticket) => {
+        EnterAnswer::Done(reply) => Came::Answered(reply),
+        EnterAnswer::Shut => Came::Shut,
+        EnterAnswer::NoMemory => Came::NoMemory,
+        EnterAnswer::Inside(ticket) => {
             attempt.go_in(ticket);
             Came::Inside(ticket)
         }
@@ -124,7 +124,7 @@ fn finish<C: EventCore>(
     attempt: &mut Attempt,
     call: &Call,
     ticket: &Ticket,
-    ready: Ready,
+    ready: ReadyCall,
 ) -> Came
     requires on { IsOn call.now (part_of (C.sight core.old) attempt.old.crossings.caller) attempt.old }
     requires inside { attempt.old.at ≡ at.Inside ticket.now }
@@ -214,13 +214,13 @@ fn fault<C: EventCore, H: Hook>(
 }
 
 /// What a step of a recovery comes to for the call that ran it.
-fn rolled(stepped: Stepped) -> Came
+fn rolled(stepped: StepAnswer) -> Came
     ensures { result ≡ rolled stepped }
 {
     match stepped {
-        Stepped::Device => Came::Answered(Reply::Device),
-        Stepped::NoMemory => Came::NoMemory,
-        Stepped::Idle | Stepped::Failed { .. } | Stepped::Resumed => Came::On,
+        StepAnswer::Device => Came::Answered(Reply::Device),
+        StepAnswer::NoMemory => Came::NoMemory,
+        StepAnswer::Idle | StepAnswer::Failed { .. } | StepAnswer::Resumed => Came::On,
         _ => Came::Shut,
     }
 }
@@ -250,7 +250,7 @@ fn recover<C: EventCore, H: Hook>(
     let stepped = core.recover_step(alloc, &mut by, hook);
     match stepped {
         // no recovery was in progress, so no fault point was passed
-        Stepped::Idle => Came::On,
+        StepAnswer::Idle => Came::On,
         _ => {
             attempt.keep(&by);
             rolled(stepped)

@@ -19,7 +19,7 @@ use crate::events::{Came, Event};
 use crate::performing::{has_tables, perform};
 use crate::shared::SharedCore;
 use crate::volume::Volume;
-use mb_calls::{Performed, Performing, Ready};
+use mb_calls::{Performed, Performing, ReadyCall};
 use mb_edge::{Disk, Hook, Word};
 use mb_iface::{FileSys, Need};
 use mb_kinds::{Call, Kind, Ticket};
@@ -193,7 +193,7 @@ impl<F: FileSys, D: Disk> Volume<F, D> {
         attempt: &mut Attempt,
         call: &Call,
         ticket: &Ticket,
-        ready: Ready,
+        ready: ReadyCall,
     ) -> Came
         requires idle { IsIdle self.now.table pass.old }
         requires making { IsMaking call.now (H.test hook.old) pass.old attempt.old false }

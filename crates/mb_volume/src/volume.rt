@@ -17,7 +17,7 @@ use mb_edge::{Disk, Hook, NoMemory};
 use mb_iface::FileSys;
 use mb_kinds::{Call, Reply};
 use mb_run::EventCore;
-use mb_turn::{Pass, Passes, Turn};
+use mb_turn::{Pass, PassList, Turn};
 use mb_volume_core::VolumeCore;
 use std::alloc::Global;
 use std::marker::Model;
@@ -42,7 +42,7 @@ impl<F: FileSys, D: Disk> Volume<F, D> {
     pub fn start(
         alloc: Global,
         core: VolumeCore<F, D>,
-    ) -> Result<(Volume<F, D>, Passes<SharedCore<F, D>>), VolumeCore<F, D>>
+    ) -> Result<(Volume<F, D>, PassList<SharedCore<F, D>>), VolumeCore<F, D>>
         requires seals { AreInTime core.core.config.threshold (length core.core.journal.oplog) core.core.journal.sealed_at core.core.journal.history }
         ensures callers { IfOk result (λ started. started.0.callers ≡ (sight_of core.core).config.callers) }
         ensures passes { IfOk result (λ started.
@@ -119,7 +119,7 @@ impl<F: FileSys, D: Disk> Volume<F, D> {
     }
 
     /// Ends the sharing, with all passes, and gives the core back.
-    pub fn close(self, passes: Passes<SharedCore<F, D>>) -> VolumeCore<F, D>
+    pub fn close(self, passes: PassList<SharedCore<F, D>>) -> VolumeCore<F, D>
         requires all { length passes.items ≡ self.callers }
         requires idle { AllByRecursion (IsIdle self.table) passes.items }
         ensures first { AllByRecursion (λ pass. result.core.first ≡ pass.value.core.core.first) passes.items }

@@ -9,7 +9,7 @@ use Rattle.mb_core_spec.specs.Numbers.{is_open, open_flight}
 use Rattle.mb_core_spec.specs.State.{CallerState, CoreState}
 use Rattle.mb_run.specs.CoreSight.{seat_of, sight_of}
 use Rattle.mb_run.specs.Events.{Answers}
-use Rattle.mb_run.specs.Sights.{Seat, is_new, one_if as one_more_if}
+use Rattle.mb_run.specs.Sights.{SightSeat, is_new, one_if as one_more_if}
 use Rattle.mb_volume_core.proofs.Staying.{begun_now, floor_without, keeps_log, marks_none, open_now, seat_now, stays_at}
 
 -- a call in flight without an entry is open
@@ -20,7 +20,7 @@ open_is flying flight flies unanswered = rw flies (rw unanswered refl)
 pub not_new : (found : Option CallerState) (mine : CallerState) (flight : Flight) → found ≡ Some mine → mine.flight ≡ Some flight → one_more_if (is_new (seat_of found).flight) ≡ 0
 not_new found mine flight here flies = ap (λ (o : Option CallerState). one_more_if (is_new (seat_of o).flight)) here ∙ ap (λ (f : Option Flight). one_more_if (is_new f)) flies
 
-abbrev bare : ℕ → Seat
+abbrev bare : ℕ → SightSeat
 bare begun = record { begun = begun; flight = None }
 
 abbrev gone : CallerState → CallerState

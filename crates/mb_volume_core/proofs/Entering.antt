@@ -25,7 +25,7 @@ use Rattle.mb_core_events.specs.Callings.{MayCall}
 use Rattle.mb_run.specs.CoreSight.{is_fresh, pages_kept, seat_of, sight_of, stales_of}
 use Rattle.mb_run.specs.Events.{Answers, BeginsFlight, EntersInSight, EntersInside, IsAnsweredAt, IsReplyOf, IsUnplain, KeepsLog, EndsFlight, LeavesOthersAlone}
 use Rattle.mb_run.specs.Served.{MayBeginOrGoOn, MayEnterInSight}
-use Rattle.mb_run.specs.Sights.{IsOld, Seat, flight_of, is_new, one_if as one_where, recovers}
+use Rattle.mb_run.specs.Sights.{IsOld, SightSeat, flight_of, is_new, one_if as one_where, recovers}
 use Rattle.mb_volume_core.specs.Answers.{entered_as}
 use Rattle.mb_volume_core.proofs.Leaving.{gone, leaves_at, reply_of}
 use Rattle.mb_volume_core.proofs.Origins.{origin_of}
@@ -83,12 +83,12 @@ module _ {F D : Type 0} (told : D → Option Image) (faults : D → ℕ) (core :
   flight_same_if None =
       let with_ordinal : ℕ → Flight = λ n. record { call = given; ordinal = n + 1; moment = core.config.start + begun core.callers + 1; ticket = None; answered = false } in
       let with_moment : ℕ → Flight = λ n. record { call = given; ordinal = mine.begun + 1; moment = n; ticket = None; answered = false } in
-      ap with_ordinal (ap (λ (s : Seat). s.begun) seat_is) ∙ ap with_moment (add_assoc core.config.start (begun core.callers) 1)
+      ap with_ordinal (ap (λ (s : SightSeat). s.begun) seat_is) ∙ ap with_moment (add_assoc core.config.start (begun core.callers) 1)
   flight_same_if (Some flight) = refl
 
   -- the driver's word for it
   flight_same : flight_of (sight_of core) caller given ((sight_of core).seats caller).flight ≡ the_flight mine.flight
-  flight_same = ap (λ (s : Seat). flight_of (sight_of core) caller given s.flight) seat_is ∙ flight_same_if mine.flight
+  flight_same = ap (λ (s : SightSeat). flight_of (sight_of core) caller given s.flight) seat_is ∙ flight_same_if mine.flight
 
   lacks_is : (o : Option Flight) → LacksEntry o → (the_flight o).answered ≡ false
   lacks_is None lacks = refl
@@ -124,7 +124,7 @@ module _ {F D : Type 0} (told : D → Option Image) (faults : D → ℕ) (core :
   opens_one (Some flight) flies lacks = ap (λ (o : Option Flight). one_if (is_open (open_flight o)) + 0) flies ∙ ap (λ (b : Bool). one_if (is_open (if b then None else Some flight)) + 0) lacks
 
   new_is : (o : Option Flight) → mine.flight ≡ o → one_where (is_new ((sight_of core).seats caller).flight) ≡ one_where (is_new o)
-  new_is o flies = ap (λ (s : Seat). one_where (is_new s.flight)) seat_is ∙ ap (λ (x : Option Flight). one_where (is_new x)) flies
+  new_is o flies = ap (λ (s : SightSeat). one_where (is_new s.flight)) seat_is ∙ ap (λ (x : Option Flight). one_where (is_new x)) flies
 
   -- ---- the call waits, or goes inside
 
@@ -143,7 +143,7 @@ module _ {F D : Type 0} (told : D → Option Image) (faults : D → ℕ) (core :
         let one = opens_one o flies lacks in
         let same = new_is o flies in
         let opened : one_if (is_open (open_flight now.flight)) ≡ 1 = ap (λ (x : Option Flight). one_if (is_open (open_flight x))) goes ∙ ap (λ (b : Bool). one_if (is_open (if b then None else Some flight))) unanswered in
-        let seat : ℕ → Option Flight → Seat = λ n x. record { begun = n; flight = x } in
+        let seat : ℕ → Option Flight → SightSeat = λ n x. record { begun = n; flight = x } in
         record {
           stays = stays;
           mine = seat_now core after caller now stored mine here ∙ ap (λ (n : ℕ). seat n now.flight) (number ∙ begun_is o flies lacks ∙ sym ordinal) ∙ ap (seat flight.ordinal) goes;
@@ -162,7 +162,7 @@ module _ {F D : Type 0} (told : D → Option Image) (faults : D → ℕ) (core :
         let one = opens_one o flies lacks in
         let same = new_is o flies in
         let shut : one_if (is_open (open_flight now.flight)) ≡ 0 = ap (λ (x : Option Flight). one_if (is_open (open_flight x))) ends in
-        let seat : ℕ → Option Flight → Seat = λ n x. record { begun = n; flight = x } in
+        let seat : ℕ → Option Flight → SightSeat = λ n x. record { begun = n; flight = x } in
         record {
           stays = stays;
           mine = seat_now core after caller now stored mine here ∙ ap (λ (n : ℕ). seat n now.flight) (number ∙ begun_is o flies lacks) ∙ ap (seat (the_flight o).ordinal) ends;
@@ -221,7 +221,7 @@ module _ {F D : Type 0} (told : D → Option Image) (faults : D → ℕ) (core :
       let begins : BeginsFlight caller with_ticket (sight_of core) (sight_of core) =
       begins_at core mine stored (Some flight) now.flies unanswered refl (stays_at core core caller mine stored refl refl refl refl) with_ticket has refl unanswered refl (keeps_log core core refl refl (marks_none core.journal.trail core.journal.trail refl)) refl in
       let never : IsOld core.incarnation ((sight_of core).seats caller).flight → ⊥ = λ old.
-      (let earlier : IfSome flight.ticket (λ (t : Ticket). t.incarnation < core.incarnation) = subst (IsOld core.incarnation) (ap (λ (s : Seat). s.flight) seat_is ∙ now.flies) old in
+      (let earlier : IfSome flight.ticket (λ (t : Ticket). t.incarnation < core.incarnation) = subst (IsOld core.incarnation) (ap (λ (s : SightSeat). s.flight) seat_is ∙ now.flies) old in
       let low : ticket.incarnation < core.incarnation = subst (λ (t : Option Ticket). IfSome t (λ (x : Ticket). x.incarnation < core.incarnation)) now.held earlier in
       let present = now.present in
       omega (arith, low, present)) in

@@ -14,8 +14,8 @@ use Rattle.mb_oplog.specs.declared.oplogs.Logged.{Logged}
 use Rattle.mb_tree.specs.declared.machines.Machine.{Machine}
 use Rattle.mb_tree.specs.declared.operations.FsOp.{FsOp}
 use Rattle.mb_tree.specs.declared.seats.Seat.{Seat as Session}
-use Rattle.mb_calls.specs.Performed.{AreAlike, IsAnsweredBy as WasAnswered, IsPlainReply, IsReadyFor as WasReady}
-use Rattle.mb_calls.specs.declared.performing.Ready.{Ready as PerformedReady}
+use Rattle.mb_calls.specs.Performed.{AreAlike, IsAnsweredOver as WasAnswered, IsPlainReply, IsReadyOver as WasReady}
+use Rattle.mb_calls.specs.declared.performing.ReadyCall.{ReadyCall as PerformedReady}
 use Rattle.mb_callers.specs.CallerLaws.{FloorMeetsNoStale}
 use Rattle.mb_callers.specs.Stale.{AllFresh, IsLeastStale}
 use Rattle.mb_core_spec.specs.Callers.{one_if}
@@ -41,7 +41,7 @@ use Rattle.mb_run.specs.CoreSight.{is_fresh, pages_kept, seat_of, sight_of, stal
 use Rattle.mb_run.specs.Events.{FinishesInSight, IsReadyAt, IsStale, Logs}
 use Rattle.mb_volume_core.specs.Seals.{SealsAfter}
 use Rattle.mb_run.specs.Pages.{HasTablesFor, has}
-use Rattle.mb_run.specs.Sights.{SeatHasTicket, Seat}
+use Rattle.mb_run.specs.Sights.{SeatHasTicket, SightSeat}
 use Rattle.mb_volume_core.specs.Answers.{as_performed}
 use Rattle.mb_volume_core.proofs.Answering.{open_is}
 use Rattle.mb_volume_core.proofs.Freshness.{holds_fresh}
@@ -179,7 +179,7 @@ module _ {F D : Type 0} (told : D → Option Image) (faults : D → ℕ) (core :
     abbrev entered : Reply → CallerState
     entered answer = record (taken_back of.mine) { flight = Some (record of.flight { answered = true }); answer = Some answer }
 
-    abbrev with_entry : ℕ → Seat
+    abbrev with_entry : ℕ → SightSeat
     with_entry begun = record { begun = begun; flight = Some (record of.flight { answered = true }) }
 
     logs : (ready : Ready) → IsMine caller core.floor → IsLogged core new caller of.mine of.flight ticket ready → Logs caller (sight_of core) (sight_of new) ticket

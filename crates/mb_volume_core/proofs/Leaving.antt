@@ -17,7 +17,7 @@ use Rattle.mb_core_state.specs.declared.answers.Left.TheVariants as left
 use Rattle.mb_core_events.specs.Callings.{CallHasEntry, HasOpenCall}
 use Rattle.mb_run.specs.CoreSight.{seat_of, sight_of}
 use Rattle.mb_run.specs.Events.{IsReplyOf, KeepsLog, EndsFlight, LeavesWith, Quits, LeavesOthersAlone}
-use Rattle.mb_run.specs.Sights.{SeatHasTicket, IsWaiting, Seat}
+use Rattle.mb_run.specs.Sights.{SeatHasTicket, IsWaiting, SightSeat}
 use Rattle.mb_volume_core.proofs.Origins.{origin_of}
 use Rattle.mb_volume_core.proofs.Staying.{begun_now, floor_without, keeps_log, marks_none, marks_one, open_now, seat_now, seated, stays_at}
 
@@ -50,7 +50,7 @@ module _ {F D : Type 0} (core : CoreState F D) (caller : ℕ) (mine : CallerStat
       let sum : begun after.callers + mine.begun ≡ begun core.callers + mine.begun = begun_now core after caller (gone mine) stored mine here in
       let calls : open_calls after.callers + one_if (is_open (open_flight mine.flight)) ≡ open_calls core.callers + 0 = open_now core after caller (gone mine) stored mine here in
       let shut : one_if (is_open (open_flight mine.flight)) ≡ 0 = ap (λ (o : Option Flight). one_if (is_open (open_flight o))) flies ∙ ap (λ (b : Bool). one_if (is_open (if b then None else Some flight))) answered in
-      let left_by : Option CallerState → Seat = λ o. record { begun = (seat_of o).begun; flight = None } in
+      let left_by : Option CallerState → SightSeat = λ o. record { begun = (seat_of o).begun; flight = None } in
       record {
         stays = stays;
         was = ap (λ (o : Option CallerState). (seat_of o).flight) here ∙ flies;
@@ -67,7 +67,7 @@ module _ {F D : Type 0} (core : CoreState F D) (caller : ℕ) (mine : CallerStat
       let made : CoreState F D = with_room (ended core caller mine new.cache.pins) new in
       let quits : Quits caller (sight_of core) (sight_of made) = record {
         stays = stays_at core made caller (gone mine) refl refl refl refl refl;
-        mine = ap (λ (s : Seat). s.flight) (seat_now core made caller (gone mine) refl mine here);
+        mine = ap (λ (s : SightSeat). s.flight) (seat_now core made caller (gone mine) refl mine here);
         history = refl;
         log = keeps_log core made refl refl (marks_none core.journal.trail core.journal.trail refl);
         trail = refl;

@@ -44,7 +44,7 @@ use Rattle.mb_run.specs.Recovering.{StepEndsByDevice, GoOn, IsAtNone, PassesPoin
 use Rattle.mb_run.specs.Served.{AreSixCounts, counted}
 use Rattle.mb_run.specs.Seals.{MarksTrail}
 use Rattle.mb_run.specs.Sights.{recovers, steps_left}
-use Rattle.mb_run.specs.declared.answers.Stepped.TheVariants as stepped
+use Rattle.mb_run.specs.declared.answers.StepAnswer.TheVariants as stepped
 use Rattle.mb_run.proofs.Counting.{counted_goes, counted_taken}
 use Rattle.mb_run.proofs.Lengthening.{stands_still}
 use Rattle.mb_volume_core.specs.Answers.{stepped_as}

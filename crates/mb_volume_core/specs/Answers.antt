@@ -1,22 +1,22 @@
 -- The core's answers as the driver has them, and what a call came to as the core takes it.
-use Rattle.mb_calls.specs.declared.performing.Ready.{Ready as PerformedReady}
+use Rattle.mb_calls.specs.declared.performing.ReadyCall.{ReadyCall as PerformedReady}
 use Rattle.mb_core_spec.specs.declared.ready.Ready.{Ready}
 use Rattle.mb_core_state.specs.declared.answers.Enter.{Enter as Entered}
 use Rattle.mb_core_state.specs.declared.answers.Enter.TheVariants as entered
 use Rattle.mb_recover.specs.declared.steps.Stepped.{Stepped as Recovered}
 use Rattle.mb_recover.specs.declared.steps.Stepped.TheVariants as recovered
-use Rattle.mb_run.specs.declared.answers.Enter.{Enter}
-use Rattle.mb_run.specs.declared.answers.Enter.TheVariants as enter
-use Rattle.mb_run.specs.declared.answers.Stepped.{Stepped}
-use Rattle.mb_run.specs.declared.answers.Stepped.TheVariants as stepped
+use Rattle.mb_run.specs.declared.answers.EnterAnswer.{EnterAnswer}
+use Rattle.mb_run.specs.declared.answers.EnterAnswer.TheVariants as enter
+use Rattle.mb_run.specs.declared.answers.StepAnswer.{StepAnswer}
+use Rattle.mb_run.specs.declared.answers.StepAnswer.TheVariants as stepped
 
-abbrev pub entered_as : Entered → Enter
+abbrev pub entered_as : Entered → EnterAnswer
 entered_as (entered.Done answer) = enter.Done answer
 entered_as entered.Shut = enter.Shut
 entered_as (entered.Inside ticket) = enter.Inside ticket
 entered_as entered.NoMemory = enter.NoMemory
 
-abbrev pub stepped_as : Recovered → Stepped
+abbrev pub stepped_as : Recovered → StepAnswer
 stepped_as recovered.Idle = stepped.Idle
 stepped_as (recovered.Unwound ticket) = stepped.Unwound ticket
 stepped_as (recovered.Failed faults) = stepped.Failed faults

@@ -1,45 +1,45 @@
 ghost use Rattle.std.specs.Prelude.{◌≡◌};
 ghost use Rattle.mb_volume_core.specs.Answers.{as_performed, entered_as, stepped_as};
 
-use mb_calls::Ready as PerformedReady;
+use mb_calls::ReadyCall;
 use mb_core_spec::Ready;
-use mb_core_state::Enter as Entered;
-use mb_recover::Stepped as Recovered;
-use mb_run::{Enter, Stepped};
+use mb_core_state::Enter;
+use mb_recover::Stepped;
+use mb_run::{EnterAnswer, StepAnswer};
 
 /// The answer to a call that enters, as the driver has it.
-pub fn entered_as(answer: Entered) -> Enter
+pub fn entered_as(answer: Enter) -> EnterAnswer
     ensures { result ≡ entered_as answer }
 {
     match answer {
-        Entered::Done(reply) => Enter::Done(reply),
-        Entered::Shut => Enter::Shut,
-        Entered::Inside(ticket) => Enter::Inside(ticket),
-        Entered::NoMemory => Enter::NoMemory,
+        Enter::Done(reply) => EnterAnswer::Done(reply),
+        Enter::Shut => EnterAnswer::Shut,
+        Enter::Inside(ticket) => EnterAnswer::Inside(ticket),
+        Enter::NoMemory => EnterAnswer::NoMemory,
     }
 }
 
 /// The answer of a step of a recovery, as the driver has it.
-pub fn stepped_as(answer: Recovered) -> Stepped
+pub fn stepped_as(answer: Stepped) -> StepAnswer
     ensures { result ≡ stepped_as answer }
 {
     match answer {
-        Recovered::Idle => Stepped::Idle,
-        Recovered::Unwound(ticket) => Stepped::Unwound(ticket),
-        Recovered::Failed { faults } => Stepped::Failed { faults },
-        Recovered::Dropped => Stepped::Dropped,
-        Recovered::Remounted => Stepped::Remounted,
-        Recovered::Reopened => Stepped::Reopened,
-        Recovered::Replayed(number) => Stepped::Replayed(number),
-        Recovered::Resumed => Stepped::Resumed,
-        Recovered::Again { faults } => Stepped::Again { faults },
-        Recovered::Device => Stepped::Device,
-        Recovered::NoMemory => Stepped::NoMemory,
+        Stepped::Idle => StepAnswer::Idle,
+        Stepped::Unwound(ticket) => StepAnswer::Unwound(ticket),
+        Stepped::Failed { faults } => StepAnswer::Failed { faults },
+        Stepped::Dropped => StepAnswer::Dropped,
+        Stepped::Remounted => StepAnswer::Remounted,
+        Stepped::Reopened => StepAnswer::Reopened,
+        Stepped::Replayed(number) => StepAnswer::Replayed(number),
+        Stepped::Resumed => StepAnswer::Resumed,
+        Stepped::Again { faults } => StepAnswer::Again { faults },
+        Stepped::Device => StepAnswer::Device,
+        Stepped::NoMemory => StepAnswer::NoMemory,
     }
 }
 
 /// What a call came to, as the core takes it.
-pub fn as_ready(ready: PerformedReady) -> Ready
+pub fn as_ready(ready: ReadyCall) -> Ready
     ensures { result ≡ as_performed ready }
 {
     Ready {

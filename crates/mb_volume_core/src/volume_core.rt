@@ -10,7 +10,7 @@ ghost use Rattle.mb_volume_core.specs.Seals.{SealsAfter};
 use crate::answers::{as_ready, entered_as, stepped_as};
 use mb_cache::Flushed;
 use mb_callers::{Pages, least_stale_block};
-use mb_calls::{Performed, Performing, Ready};
+use mb_calls::{Performed, Performing, ReadyCall};
 use mb_core_events::Core;
 use mb_core_spec::{Config, Stage};
 use mb_core_state::{Fault, Finished, Gathered, Left};
@@ -18,7 +18,7 @@ use mb_edge::{Crossings, Disk, Hook, NoMemory};
 use mb_iface::{FileSys, Need};
 use mb_kinds::{Call, Kind, Ticket};
 use mb_recover::recover_step;
-use mb_run::{Enter, EventCore, Stepped};
+use mb_run::{EnterAnswer, EventCore, StepAnswer};
 use std::alloc::Global;
 
 /// What a core was begun on: its first disk, as it was then, and what it was begun with. Contracts alone speak of it.
@@ -143,7 +143,7 @@ impl<F: FileSys, D: Disk> EventCore for VolumeCore<F, D> {
         )
     }
 
-    fn enter(&mut self, alloc: Global, caller: u8, call: &Call) -> Enter {
+    fn enter(&mut self, alloc: Global, caller: u8, call: &Call) -> EnterAnswer {
         in_order(&self.core);
         entered_as(self.core.enter(alloc, caller, call))
     }
@@ -165,7 +165,7 @@ impl<F: FileSys, D: Disk> EventCore for VolumeCore<F, D> {
         ticket: &Ticket,
         pages: &Pages,
         call: &Call,
-        ready: Ready,
+        ready: ReadyCall,
     ) -> Finished {
         in_order(&self.core);
         least_stale_block();
@@ -191,7 +191,7 @@ impl<F: FileSys, D: Disk> EventCore for VolumeCore<F, D> {
         alloc: Global,
         by: &mut Option<Crossings>,
         hook: &mut H,
-    ) -> Stepped {
+    ) -> StepAnswer {
         in_order(&self.core);
         counts_fit(by);
         let stepped = recover_step(alloc, &mut self.core, by, hook);

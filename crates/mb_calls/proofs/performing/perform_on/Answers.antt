@@ -1,6 +1,6 @@
 use Rattle.std.proofs.Common.{Err, ap, refl, sym, subst, ◌∙◌}
 use Rattle.mb_calls.specs.Endings.{Ends, ready_refused}
-use Rattle.mb_calls.specs.Performed.{IsFit, IsReadyFor}
+use Rattle.mb_calls.specs.Performed.{IsFit, IsReadyOver}
 use Rattle.mb_tree.specs.LocalLaws.{is_shared_call}
 use Rattle.mb_tree.specs.declared.plans.CallPlan.{CallPlan}
 use Rattle.mb_calls.specs.Halts.{Needs}
@@ -15,7 +15,7 @@ returns-in-Ok-clause-right g c =
 
 pub returns-in-Refused-clause-right : goal.returns-in-Refused-clause-right
 returns-in-Refused-clause-right g c =
-    subst (λ r. IsReadyFor (g.V.View.shown c.args.view.now) c.args.sessions.now c.args.opens.now c.args.caller c.args.call.now c.args.moment r) (ap (λ b. ready_refused b c.in-Refused.error) (sym c.is_shared_call-shared.ensures) ∙ sym c.refused.ensures)
+    subst (λ r. IsReadyOver (g.V.View.shown c.args.view.now) c.args.sessions.now c.args.opens.now c.args.caller c.args.call.now c.args.moment r) (ap (λ b. ready_refused b c.in-Refused.error) (sym c.is_shared_call-shared.ensures) ∙ sym c.refused.ensures)
     (right_refused (g.V.View.shown c.args.view.now) c.args.sessions.now c.args.opens.now c.args.caller c.args.call.now c.args.moment c.seat_of-seat.result.now c.call_allowed.ensures c.seat_of-seat.ensures c.in-Refused.error
     (subst (λ s. Planned (g.V.View.shown c.args.view.now) c.args.sessions.now c.args.opens.now c.args.caller c.args.call.now c.args.moment c.seat_of-seat.result.now c.call_allowed.ensures c.seat_of-seat.ensures (Err s)) c.in-Refused.is c.in-Err.ensures.says))
 

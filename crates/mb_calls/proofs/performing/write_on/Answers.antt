@@ -1,7 +1,7 @@
 use Rattle.std.proofs.Common.{ap, sym, subst, ◌∙◌, Err}
 use Rattle.mb_calls.specs.Endings.{Ends, ready_refused}
 use Rattle.mb_calls.specs.Following.{IsRowAlone}
-use Rattle.mb_calls.specs.Performed.{IsReadyFor}
+use Rattle.mb_calls.specs.Performed.{IsReadyOver}
 use Rattle.mb_calls.proofs.Promising.{fit_ended, needed_ended, right_ended, right_refused}
 use Rattle.mb_calls.proofs.performing.write_on.Goals as goal
 
@@ -23,6 +23,6 @@ returns-in-Ok-clause-fit g c =
 
 pub returns-in-Refused-clause-right : goal.returns-in-Refused-clause-right
 returns-in-Refused-clause-right g c =
-    subst (λ r. IsReadyFor (g.V.View.shown c.args.view.now) c.args.sessions.now c.args.opens.now c.args.caller c.args.call.now c.args.moment r) (ap (λ b. ready_refused b c.in-Refused.error) (sym c.is_shared_call-shared.ensures) ∙ sym c.refused.ensures)
+    subst (λ r. IsReadyOver (g.V.View.shown c.args.view.now) c.args.sessions.now c.args.opens.now c.args.caller c.args.call.now c.args.moment r) (ap (λ b. ready_refused b c.in-Refused.error) (sym c.is_shared_call-shared.ensures) ∙ sym c.refused.ensures)
     (right_refused (g.V.View.shown c.args.view.now) c.args.sessions.now c.args.opens.now c.args.caller c.args.call.now c.args.moment c.seat_of-seat.result.now c.call_allowed.ensures c.seat_of-seat.ensures c.in-Refused.error
     (λ image tree others over alike. subst (λ s. IsRowAlone c.seat_of-seat.result.now c.args.call.now c.args.moment (Err s)) c.in-Refused.is c.in-Err.ensures.row tree.nodes others))

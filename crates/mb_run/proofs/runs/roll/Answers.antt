@@ -1,4 +1,4 @@
-use Rattle.mb_run.specs.declared.answers.Stepped.TheVariants as stepped
+use Rattle.mb_run.specs.declared.answers.StepAnswer.TheVariants as stepped
 use Rattle.std.proofs.Common.{inl, inr, refl}
 use Rattle.mb_run.proofs.Inside.{room}
 use Rattle.mb_run.proofs.Lengthening.{no_step, one_step, stands_still}

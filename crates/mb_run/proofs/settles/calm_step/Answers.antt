@@ -1,6 +1,6 @@
 use Rattle.std.proofs.Common.{Some, inl, inr, refl}
 use Rattle.mb_edge.specs.Hooks.{nowhere}
-use Rattle.mb_run.specs.declared.answers.Stepped.TheVariants as stepped
+use Rattle.mb_run.specs.declared.answers.StepAnswer.TheVariants as stepped
 use Rattle.mb_run.proofs.Ending.{alone_keeps}
 use Rattle.mb_run.proofs.Lengthening.{no_step, one_step, stands_still}
 use Rattle.mb_run.proofs.Timely.{alone_undue}

@@ -3,7 +3,7 @@ use Rattle.std.proofs.lemmas.Option.{slice_get-get_or}
 use Rattle.mb_core_spec.specs.declared.config.Config.{Config}
 use Rattle.mb_kinds.specs.declared.calls.Call.{Call}
 use Rattle.mb_run.specs.Served.{calls_of}
-use Rattle.mb_run.specs.Sights.{Seat}
+use Rattle.mb_run.specs.Sights.{SightSeat}
 use Rattle.mb_volume.specs.Passing.{part_in}
 use Rattle.mb_volume.proofs.Holding.{later_same, later_then}
 use Rattle.mb_threads.proofs.Together.{dealt_idle}
@@ -19,7 +19,7 @@ pub call-requires-clause-most : goal.call-requires-clause-most
 call-requires-clause-most g c =
     may_more c.args.own.calls.now c.loop-made.made-index c.args.own.pass.caller c.made-item.result
     (slice_get-get_or c.args.own.calls.now c.loop-made.made-index c.made-item.result c.loop-made-test.true ∙ ap Some (sym c.made-item.is)) (c.if-made-caller.false ∙ c.caller-caller.ensures) _ _ _
-    (ap (λ (s : Seat). s.begun) c.loop-made.invariant.made.seat) c.requires.most (ap (λ (k : Config). k.most) c.loop-made.invariant.later.config)
+    (ap (λ (s : SightSeat). s.begun) c.loop-made.invariant.made.seat) c.requires.most (ap (λ (k : Config). k.most) c.loop-made.invariant.later.config)
 
 pub loop-made-preserved : goal.loop-made-preserved
 loop-made-preserved g c =

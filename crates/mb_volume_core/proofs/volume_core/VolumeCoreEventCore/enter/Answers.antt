@@ -1,7 +1,7 @@
 use Rattle.std.proofs.Common.{◌<◌, length, subst, sym, arith}
 use Rattle.mb_run.specs.CoreSight.{sight_of}
 use Rattle.mb_run.specs.Events.{EntersInSight}
-use Rattle.mb_run.specs.declared.answers.Enter.{Enter}
+use Rattle.mb_run.specs.declared.answers.EnterAnswer.{EnterAnswer}
 use Rattle.mb_run.proofs.InTime.{enters_time}
 use Rattle.mb_volume_core.proofs.Entering.{enter_origin, enters_by, may_call}
 use Rattle.mb_volume_core.proofs.Orderly.{orderly}
@@ -18,7 +18,7 @@ returns-clause-enters g c =
     let low : c.args.caller < length core.config.callers = c.requires.may.within in
     let same = c.in_order.ensures.orderly.numbered.callers_are in
     let here = some_at core.callers c.args.caller (omega (arith, low, same)) in
-    subst (λ (answer : Enter). EntersInSight (sight_of core) (sight_of c.enter.new.self) c.args.caller c.args.call.now answer) (sym c.entered_as.ensures)
+    subst (λ (answer : EnterAnswer). EntersInSight (sight_of core) (sight_of c.enter.new.self) c.args.caller c.args.call.now answer) (sym c.entered_as.ensures)
     (enters_by g.D.Disk.told g.D.Disk.faults core c.in_order.ensures c.args.caller here.0 here.1 c.args.call.now c.enter.new.self c.enter.result (c.enter.ensures.enters here.0 here.1))
 
 pub returns-clause-stands : goal.returns-clause-stands

@@ -1,7 +1,7 @@
 use Rattle.std.proofs.Common.{◌∙◌, sym, subst}
 use Rattle.mb_run.specs.CoreSight.{sight_of}
 use Rattle.mb_run.specs.Recovering.{RunsForFlight, Steps}
-use Rattle.mb_run.specs.declared.answers.Stepped.{Stepped}
+use Rattle.mb_run.specs.declared.answers.StepAnswer.{StepAnswer}
 use Rattle.mb_core_events.specs.Callings.{phase_now}
 use Rattle.mb_run.proofs.InTime.{if_some_at, steps_time}
 use Rattle.mb_volume_core.proofs.Orderly.{orderly}
@@ -20,7 +20,7 @@ returns-clause-unasked g c = unasked_at c.args.by.now c.args.hook.now c.recover_
 
 pub returns-clause-steps : goal.returns-clause-steps
 returns-clause-steps g c =
-    subst (λ (answer : Stepped). Steps (g.H.Hook.test c.args.hook.now) c.args.by.now c.recover_step-stepped.new.by (sight_of c.args.self.now.core) (sight_of c.recover_step-stepped.new.core) answer) (sym c.stepped_as.ensures)
+    subst (λ (answer : StepAnswer). Steps (g.H.Hook.test c.args.hook.now) c.args.by.now c.recover_step-stepped.new.by (sight_of c.args.self.now.core) (sight_of c.recover_step-stepped.new.core) answer) (sym c.stepped_as.ensures)
     (comes g.D.Disk.told g.D.Disk.faults c.args.self.now.core c.in_order.ensures c.recover_step-stepped.new.core (g.H.Hook.test c.args.hook.now) c.args.by.now c.recover_step-stepped.new.by c.recover_step-stepped.ensures.counted (has_for c.args.self.now.core c.args.by.now c.requires.by)
     (g.H.Hook.struck c.recover_step-stepped.new.hook) c.counts_fit.ensures (g.H.Hook.strokes c.recover_step-stepped.new.hook) c.recover_step-stepped.result c.recover_step-stepped.ensures.heard c.recover_step-stepped.ensures.recovers).0
 
@@ -39,7 +39,7 @@ returns-clause-stands g c = λ is. stands_at g.D.Disk.faults c.args.self.now.cor
 
 pub returns-clause-rises : goal.returns-clause-rises
 returns-clause-rises g c =
-    let steps = subst (λ (answer : Stepped). Steps (g.H.Hook.test c.args.hook.now) c.args.by.now c.recover_step-stepped.new.by (sight_of c.args.self.now.core) (sight_of c.recover_step-stepped.new.core) answer) c.stepped_as.ensures (returns-clause-steps g c) in
+    let steps = subst (λ (answer : StepAnswer). Steps (g.H.Hook.test c.args.hook.now) c.args.by.now c.recover_step-stepped.new.by (sight_of c.args.self.now.core) (sight_of c.recover_step-stepped.new.core) answer) c.stepped_as.ensures (returns-clause-steps g c) in
     rises g.D.Disk.told g.D.Disk.faults c.args.self.now.core c.recover_step-stepped.new.core c.args.by.now c.recover_step-stepped.new.by (g.H.Hook.test c.args.hook.now) (g.H.Hook.strokes c.recover_step-stepped.new.hook) _ _ c.recover_step-stepped.result
     c.requires.by c.recover_step-stepped.ensures.recovers steps c.recover_step-stepped.ensures.cause
 
