@@ -1,14 +1,16 @@
 -- A call whose pages are empty as it enters or leaves is under way as it was.
-use Rattle.std.proofs.Common.{◌≡◌, ℕ, Bool, true, false, refl, Option}
+use Rattle.std.proofs.Common.{◌≡◌, ℕ, Bool, true, false, refl, ap, subst, ◌∙◌, Option}
 use Rattle.mb_core_spec.specs.Copies.{PagesState, no_pages}
 use Rattle.mb_edge.specs.declared.crossings.Crossing.{Crossing}
+use Rattle.mb_edge.specs.declared.crossings.Crossings.{Crossings}
 use Rattle.mb_kinds.specs.declared.calls.Call.{Call}
 use Rattle.mb_kinds.specs.declared.entries.Flight.{Flight}
-use Rattle.mb_run.specs.Sights.{SightSeat}
+use Rattle.mb_run.specs.Sights.{SightSeat, Sight}
 use Rattle.mb_run.specs.declared.runner.At.{At}
 use Rattle.mb_run.specs.declared.runner.At.TheVariants as at
 use Rattle.mb_volume.specs.Attempts.{without_pages}
-use Rattle.mb_volume.specs.Parts.{Part}
+use Rattle.mb_volume.specs.Coming.{ComesOfEvent}
+use Rattle.mb_volume.specs.Parts.{MovesPart, Part, part_of}
 use Rattle.mb_volume.specs.Passed.{HasPassedAt, MarksPoints}
 use Rattle.mb_volume.specs.Underway.{Goes, GrowsAfter, IsOn, IsCallUnderway, MayCome}
 use Rattle.mb_volume.specs.declared.attempt.Attempt.{Attempt}
@@ -30,7 +32,7 @@ emptied call test from now attempt u = record {
   once = u.once;
 }
 
-pub same_crossings : (e : Event) (attempt : Attempt) → (without_pages e attempt).crossings ≡ attempt.crossings
+same_crossings : (e : Event) (attempt : Attempt) → (without_pages e attempt).crossings ≡ attempt.crossings
 same_crossings event.Enter attempt = refl
 same_crossings (event.Gather ticket need) attempt = refl
 same_crossings (event.Finish ticket ready) attempt = refl
@@ -56,7 +58,7 @@ may_emptied (event.Fault ticket crossing passed) call test struck seats attempt 
 may_emptied event.Recover call test struck seats attempt may = may
 
 -- what the event came to is said of the call with its pages too
-pub goes_emptied : (e : Event) (call : Call) (test : Option (Crossing → Bool)) (old new : ℕ → Part) (attempt now : Attempt) (answer : Came)
+goes_emptied : (e : Event) (call : Call) (test : Option (Crossing → Bool)) (old new : ℕ → Part) (attempt now : Attempt) (answer : Came)
     → Goes call test (old (without_pages e attempt).crossings.caller) (new (without_pages e attempt).crossings.caller) (without_pages e attempt) now answer
     → Goes call test (old attempt.crossings.caller) (new attempt.crossings.caller) attempt now answer
 goes_emptied event.Enter call test old new attempt now answer goes = λ from u. goes from (emptied call test from (old attempt.crossings.caller) attempt u)
@@ -80,7 +82,7 @@ passed_emptied flight attempt at.Outside passed = passed
 passed_emptied flight attempt (at.Inside ticket) passed = record { enters = passed.enters; gathers = λ there. absurd (let both : false ≡ true = there in cc); finishes = passed.finishes }
 passed_emptied flight attempt (at.Logged ticket) passed = passed
 
-pub marks_emptied : (e : Event) (old new : ℕ → SightSeat) (attempt now : Attempt) (answer : Came) → MarksPoints e (old (without_pages e attempt).crossings.caller) (new (without_pages e attempt).crossings.caller) (without_pages e attempt) now answer
+marks_emptied : (e : Event) (old new : ℕ → SightSeat) (attempt now : Attempt) (answer : Came) → MarksPoints e (old (without_pages e attempt).crossings.caller) (new (without_pages e attempt).crossings.caller) (without_pages e attempt) now answer
     → MarksPoints e (old attempt.crossings.caller) (new attempt.crossings.caller) attempt now answer
 marks_emptied event.Enter old new attempt now answer marks = record { passes = λ passed. marks.passes (passed_emptied (old attempt.crossings.caller).flight attempt attempt.at passed); crosses = marks.crosses }
 marks_emptied (event.Gather ticket need) old new attempt now answer marks = marks
@@ -88,3 +90,15 @@ marks_emptied (event.Finish ticket ready) old new attempt now answer marks = mar
 marks_emptied (event.Leave ticket) old new attempt now answer marks = record { passes = λ asked passed. marks.passes asked (passed_emptied (old attempt.crossings.caller).flight attempt attempt.at passed); crosses = marks.crosses }
 marks_emptied (event.Fault ticket crossing passed) old new attempt now answer marks = marks
 marks_emptied event.Recover old new attempt now answer marks = marks
+
+-- so of the whole event
+pub comes_emptied : (e : Event) (call : Call) (test : Option (Crossing → Bool)) (old new : Sight) (attempt now : Attempt) (answer : Came) → ComesOfEvent call test e old new (without_pages e attempt) now answer
+    → ComesOfEvent call test e old new attempt now answer
+comes_emptied e call test old new attempt now answer comes =
+    let caller = ap (λ (crossings : Crossings). crossings.caller) (same_crossings e attempt) in
+    record {
+      goes = goes_emptied e call test (part_of old) (part_of new) attempt now answer comes.goes;
+      marks = marks_emptied e old.seats new.seats attempt now answer comes.marks;
+      same = comes.same ∙ caller;
+      moves = subst (λ n. MovesPart n old new) caller comes.moves;
+    }

@@ -1,5 +1,6 @@
 -- The fault injector's count of faults beside the fault points that a call passed.
-use Rattle.std.proofs.Common.{◌≡◌, ◌≢◌, ℕ, zero, suc, ◌+◌, ◌≤◌, Bool, true, false, inl, inr, refl, ap, sym, subst, ◌∙◌, arith, Option, None, Some}
+use Rattle.std.proofs.Common.{◌≡◌, ◌≢◌, ℕ, ◌+◌, ◌-◌, ◌^◌, ◌≤◌, ◌&&◌, Bool, true, false, IfSome, inl, inr, min, nat_eq, not, refl, ap, sym, subst, ◌∙◌, arith, Option, None, Some}
+use Rattle.std.proofs.lemmas.Bool.{ne_eqb}
 use Rattle.mb_edge.specs.Causes.{Rose}
 use Rattle.mb_edge.specs.Crossings.{place_of}
 use Rattle.mb_edge.specs.Hooks.{AnswersTest}
@@ -13,116 +14,169 @@ use Rattle.mb_run.proofs.Counting.{same_or_not}
 use Rattle.mb_run.proofs.TallyRecords.{counted_some, counted_there, next_first}
 use Rattle.mb_run.specs.Recovering.{next_of}
 use Rattle.mb_run.specs.Served.{AreSixCounts, counted}
-use Rattle.mb_run.specs.Sights.{SightSeat}
+use Rattle.mb_run.specs.Sights.{SightSeat, one_if}
 use Rattle.mb_run.specs.Tallies.{count_of, is_logged}
 use Rattle.mb_run.specs.declared.runner.At.TheVariants as at
 use Rattle.mb_volume.specs.Attempts.{new_attempt}
-use Rattle.mb_volume.specs.Called.{RisesAtFirst, TakesFirsts, is_on_way}
-use Rattle.mb_volume.specs.Passed.{EnteredBy, HasFinished, HasHeard, HasPassed, HasPassedAt, HeardBy, Hears, HearsAt, HearsFault, IsCalm, IsHeard, IsPastEnter, IsPastLeave, KeepsOwn, PassedBy}
+use Rattle.mb_volume.specs.Called.{TakesFirsts, first_of_kind, firsts_planned}
+use Rattle.mb_volume.specs.Passed.{EnteredBy, HasFinished, HasHeard, HasPassed, HasPassedAt, HeardBy, Hears, HearsAt, HearsFault, IsCalm, IsHeard, IsPastEnter, IsPastLeave, KeepsOwn, PassedBy, firsts_met, met_if}
 use Rattle.mb_volume.specs.Underway.{FlightHasEntry}
 use Rattle.mb_volume.specs.declared.attempt.Attempt.{Attempt}
 use Rattle.mb_volume.specs.declared.events.Came.{Came}
 use Rattle.mb_volume.specs.declared.events.Came.TheVariants as came
 use Rattle.mb_volume.proofs.Marking.{grown_counted, keeps_same, passed_on}
 
--- ---- kinds
-
-kind_at : ℕ → Kind
-kind_at zero = Enter
-kind_at (suc zero) = Gather
-kind_at (suc (suc zero)) = Finish
-kind_at (suc (suc (suc zero))) = Leave
-kind_at (suc (suc (suc (suc zero)))) = Remount
-kind_at (suc (suc (suc (suc (suc n))))) = Replay
-
-kind_place : (kind : Kind) → kind_at (place_of kind) ≡ kind
-unfolding kind_at
-kind_place Enter = refl
-kind_place Gather = refl
-kind_place Finish = refl
-kind_place Leave = refl
-kind_place Remount = refl
-kind_place Replay = refl
-
-same_place : (one other : Kind) → place_of one ≡ place_of other → one ≡ other
-same_place one other same = sym (kind_place one) ∙ ap kind_at same ∙ kind_place other
-
--- a call that was where it leaves was at a fault point of each kind on its way
-past_some : (crossings : Crossings) (kind : Kind) → is_on_way kind ≡ true → IsPastLeave crossings → count_of crossings kind ≢ 0
-past_some crossings Enter on past = past.finished.enters
-past_some crossings Gather on past = past.finished.gathers
-past_some crossings Finish on past = past.finished.finishes
-past_some crossings Leave on past = past.leaves
-past_some crossings Remount on past = absurd (let both : false ≡ true = on in cc)
-past_some crossings Replay on past = absurd (let both : false ≡ true = on in cc)
-
--- ---- the count never falls
+-- ---- the first fault points that were met
 
 rose_more : (first before now : ℕ) → before ≤ now → Rose first before → Rose first now
 rose_more first before now more rose = omega (arith, more, rose)
 
-rose_from : (first before now : ℕ) → first ≤ before → Rose before now → Rose first now
-rose_from first before now more rose = omega (arith, more, rose)
+-- what was counted is met where the test holds
+counted_met : (n : ℕ) (holds : Bool) → n ≢ 0 → one_if (not (nat_eq n 0) && holds) ≡ one_if holds
+counted_met n holds was = ap (λ b. one_if (not b && holds)) (ne_eqb n 0 was)
 
-takes_later : (test : Option (Crossing → Bool)) (caller ordinal first before now : ℕ) (kind : Kind) → before ≤ now → RisesAtFirst test caller ordinal first before kind → RisesAtFirst test caller ordinal first now kind
-takes_later None caller ordinal first before now kind more taken = tt
-takes_later (Some fires) caller ordinal first before now kind more taken = λ holds. rose_more first before now more (taken holds)
+module _ (fires : Crossing → Bool) (caller ordinal : ℕ) where
+  met_same : (one other : Crossings) (kind : Kind) → count_of other kind ≡ count_of one kind → met_if fires caller ordinal other kind ≡ met_if fires caller ordinal one kind
+  met_same one other kind same = ap (λ n. one_if (not (nat_eq n 0) && fires (first_of_kind caller ordinal kind))) same
 
-takes_rose : (test : Option (Crossing → Bool)) (caller ordinal first now : ℕ) (kind : Kind) → Rose first now → RisesAtFirst test caller ordinal first now kind
-takes_rose None caller ordinal first now kind rose = tt
-takes_rose (Some fires) caller ordinal first now kind rose = λ holds. rose
+  kept_met : (old new : Crossings) → KeepsOwn old new → firsts_met fires caller ordinal new ≡ firsts_met fires caller ordinal old
+  kept_met old new keeps =
+      let enter = met_same old new Enter (keeps.counts Enter refl) in
+      let gather = met_same old new Gather (keeps.counts Gather refl) in
+      let finish = met_same old new Finish (keeps.counts Finish refl) in
+      let leave = met_same old new Leave (keeps.counts Leave refl) in
+      omega (arith, enter, gather, finish, leave)
+
+  -- a call that was where it leaves met all that are planned
+  past_met : (crossings : Crossings) → IsPastLeave crossings → firsts_met fires caller ordinal crossings ≡ firsts_planned fires caller ordinal
+  past_met crossings past =
+      let enter = counted_met (count_of crossings Enter) (fires (first_of_kind caller ordinal Enter)) past.finished.enters in
+      let gather = counted_met (count_of crossings Gather) (fires (first_of_kind caller ordinal Gather)) past.finished.gathers in
+      let finish = counted_met (count_of crossings Finish) (fires (first_of_kind caller ordinal Finish)) past.finished.finishes in
+      let leave = counted_met (count_of crossings Leave) (fires (first_of_kind caller ordinal Leave)) past.leaves in
+      omega (arith, enter, gather, finish, leave)
+
+  -- one more of a kind is counted: of that kind one more is met at most, if it is the first one, and of the others as many
+  module _ (crossings : Crossings) (kind : Kind) (are : AreSixCounts crossings) (more : ℕ) (here : count_of crossings kind ≡ 0 → one_if (fires (first_of_kind caller ordinal kind)) ≤ more) where
+    met_there : (other : Kind) → place_of other ≢ place_of kind → met_if fires caller ordinal (counted crossings kind) other ≡ met_if fires caller ordinal crossings other
+    met_there other apart = met_same crossings (counted crossings kind) other (counted_there crossings kind are other apart)
+
+    met_here : met_if fires caller ordinal (counted crossings kind) kind ≤ met_if fires caller ordinal crossings kind + more
+    met_here =
+        let now = counted_met (count_of (counted crossings kind) kind) (fires (first_of_kind caller ordinal kind)) (counted_some crossings kind are) in
+        elim (same_or_not (count_of crossings kind) 0) [
+          | inl none ↦ (let most = here none in omega (arith, now, most))
+          | inr was ↦ (let then = counted_met (count_of crossings kind) (fires (first_of_kind caller ordinal kind)) was in omega (arith, now, then))
+        ]
+
+  met_next : (crossings : Crossings) (kind : Kind) → AreSixCounts crossings → (more : ℕ) → (count_of crossings kind ≡ 0 → one_if (fires (first_of_kind caller ordinal kind)) ≤ more)
+      → firsts_met fires caller ordinal (counted crossings kind) ≤ firsts_met fires caller ordinal crossings + more
+  met_next crossings Enter are more here =
+      let enter = met_here crossings Enter are more here in
+      let gather = met_there crossings Enter are more here Gather (λ is. let no : 1 ≡ 0 = is in omega (arith, no)) in
+      let finish = met_there crossings Enter are more here Finish (λ is. let no : 2 ≡ 0 = is in omega (arith, no)) in
+      let leave = met_there crossings Enter are more here Leave (λ is. let no : 3 ≡ 0 = is in omega (arith, no)) in
+      omega (arith, enter, gather, finish, leave)
+  met_next crossings Gather are more here =
+      let enter = met_there crossings Gather are more here Enter (λ is. let no : 0 ≡ 1 = is in omega (arith, no)) in
+      let gather = met_here crossings Gather are more here in
+      let finish = met_there crossings Gather are more here Finish (λ is. let no : 2 ≡ 1 = is in omega (arith, no)) in
+      let leave = met_there crossings Gather are more here Leave (λ is. let no : 3 ≡ 1 = is in omega (arith, no)) in
+      omega (arith, enter, gather, finish, leave)
+  met_next crossings Finish are more here =
+      let enter = met_there crossings Finish are more here Enter (λ is. let no : 0 ≡ 2 = is in omega (arith, no)) in
+      let gather = met_there crossings Finish are more here Gather (λ is. let no : 1 ≡ 2 = is in omega (arith, no)) in
+      let finish = met_here crossings Finish are more here in
+      let leave = met_there crossings Finish are more here Leave (λ is. let no : 3 ≡ 2 = is in omega (arith, no)) in
+      omega (arith, enter, gather, finish, leave)
+  met_next crossings Leave are more here =
+      let enter = met_there crossings Leave are more here Enter (λ is. let no : 0 ≡ 3 = is in omega (arith, no)) in
+      let gather = met_there crossings Leave are more here Gather (λ is. let no : 1 ≡ 3 = is in omega (arith, no)) in
+      let finish = met_there crossings Leave are more here Finish (λ is. let no : 2 ≡ 3 = is in omega (arith, no)) in
+      let leave = met_here crossings Leave are more here in
+      omega (arith, enter, gather, finish, leave)
+  met_next crossings Remount are more here =
+      let enter = met_there crossings Remount are more here Enter (λ is. let no : 0 ≡ 4 = is in omega (arith, no)) in
+      let gather = met_there crossings Remount are more here Gather (λ is. let no : 1 ≡ 4 = is in omega (arith, no)) in
+      let finish = met_there crossings Remount are more here Finish (λ is. let no : 2 ≡ 4 = is in omega (arith, no)) in
+      let leave = met_there crossings Remount are more here Leave (λ is. let no : 3 ≡ 4 = is in omega (arith, no)) in
+      omega (arith, enter, gather, finish, leave)
+  met_next crossings Replay are more here =
+      let enter = met_there crossings Replay are more here Enter (λ is. let no : 0 ≡ 5 = is in omega (arith, no)) in
+      let gather = met_there crossings Replay are more here Gather (λ is. let no : 1 ≡ 5 = is in omega (arith, no)) in
+      let finish = met_there crossings Replay are more here Finish (λ is. let no : 2 ≡ 5 = is in omega (arith, no)) in
+      let leave = met_there crossings Replay are more here Leave (λ is. let no : 3 ≡ 5 = is in omega (arith, no)) in
+      omega (arith, enter, gather, finish, leave)
+
+-- ---- the count never falls
+
+takes_kept : (test : Option (Crossing → Bool)) (caller ordinal first before now : ℕ) (old new : Crossings) → before ≤ now → KeepsOwn old new → IfSome test (λ fires. min (first + firsts_met fires caller ordinal old) (2 ^ 64 - 1) ≤ before)
+    → IfSome test (λ fires. min (first + firsts_met fires caller ordinal new) (2 ^ 64 - 1) ≤ now)
+takes_kept None caller ordinal first before now old new more keeps taken = tt
+takes_kept (Some fires) caller ordinal first before now old new more keeps taken = let same = kept_met fires caller ordinal old new keeps in omega (arith, same, more, taken)
 
 pub heard_kept : (test : Option (Crossing → Bool)) (caller ordinal first before now : ℕ) (old new : Crossings) → before ≤ now → KeepsOwn old new → HasHeard test caller ordinal first before old → HasHeard test caller ordinal first now new
 heard_kept test caller ordinal first before now old new more keeps heard = record {
   caller_is = keeps.caller ∙ heard.caller_is;
   ordinal_is = keeps.ordinal ∙ heard.ordinal_is;
   later = (let was = heard.later in omega (arith, more, was));
-  taken = λ kind on some. takes_later test caller ordinal first before now kind more (heard.taken kind on (λ none. some (keeps.counts kind on ∙ none)));
+  taken = takes_kept test caller ordinal first before now old new more keeps heard.taken;
 }
 
 -- ---- the fault injector is asked
 
-first_point : (crossings : Crossings) (kind : Kind) (caller ordinal : ℕ) → crossings.caller ≡ caller → crossings.ordinal ≡ ordinal → count_of crossings kind ≡ 0 → next_of kind crossings ≡ record { caller = caller; ordinal = ordinal; kind = kind; nth = 1 }
+first_point : (crossings : Crossings) (kind : Kind) (caller ordinal : ℕ) → crossings.caller ≡ caller → crossings.ordinal ≡ ordinal → count_of crossings kind ≡ 0 → next_of kind crossings ≡ first_of_kind caller ordinal kind
 first_point crossings kind caller ordinal mine mine_too none =
     let point : ℕ → ℕ → ℕ → Crossing = λ c o n. record { caller = c; ordinal = o; kind = kind; nth = n } in
     ap (λ n. point crossings.caller crossings.ordinal n) (next_first crossings.counts kind none) ∙ ap (λ c. point c crossings.ordinal 1) mine ∙ ap (λ o. point caller o 1) mine_too
 
+one_most : (b : Bool) → one_if b ≤ 1
+one_most true = omega arith
+one_most false = omega arith
+
+module _ (crossings : Crossings) (kind : Kind) (are : AreSixCounts crossings) (caller ordinal first before now : ℕ) (later : before ≤ now) where
+  -- it let the call go on
+  let_go : (test : Option (Crossing → Bool)) → crossings.caller ≡ caller → crossings.ordinal ≡ ordinal → AnswersTest test (next_of kind crossings) word.Go → IfSome test (λ fires. min (first + firsts_met fires caller ordinal crossings) (2 ^ 64 - 1) ≤ before)
+      → IfSome test (λ fires. min (first + firsts_met fires caller ordinal (counted crossings kind)) (2 ^ 64 - 1) ≤ now)
+  let_go None mine mine_too answers taken = tt
+  let_go (Some fires) mine mine_too answers taken =
+      let met = met_next fires caller ordinal crossings kind are 0 (λ none. (let is : one_if (fires (first_of_kind caller ordinal kind)) ≡ 0 = ap one_if (ap fires (sym (first_point crossings kind caller ordinal mine mine_too none)) ∙ sym answers) in omega (arith, is))) in
+      omega (arith, met, later, taken)
+
+  -- it faulted
+  struck : (test : Option (Crossing → Bool)) → Rose before now → IfSome test (λ fires. min (first + firsts_met fires caller ordinal crossings) (2 ^ 64 - 1) ≤ before)
+      → IfSome test (λ fires. min (first + firsts_met fires caller ordinal (counted crossings kind)) (2 ^ 64 - 1) ≤ now)
+  struck None rose taken = tt
+  struck (Some fires) rose taken =
+      let met = met_next fires caller ordinal crossings kind are 1 (λ none. one_most (fires (first_of_kind caller ordinal kind))) in
+      omega (arith, met, rose, taken)
+
 module _ (test : Option (Crossing → Bool)) (crossings : Crossings) (kind : Kind) (are : AreSixCounts crossings) where
-  -- what is known of the other kinds, and of this one if it was counted before
-  heard_next : (caller ordinal first before now : ℕ) → before ≤ now → (count_of crossings kind ≡ 0 → RisesAtFirst test caller ordinal first now kind) → HasHeard test caller ordinal first before crossings
-      → HasHeard test caller ordinal first now (counted crossings kind)
-  heard_next caller ordinal first before now more here heard = record {
+  pub hears_go : (before now : ℕ) → before ≤ now → AnswersTest test (next_of kind crossings) word.Go → HearsAt test before now crossings kind
+  hears_go before now more answers = λ caller ordinal first heard. record {
     caller_is = heard.caller_is;
     ordinal_is = heard.ordinal_is;
     later = (let was = heard.later in omega (arith, more, was));
-    taken = λ other on some. elim (same_or_not (place_of other) (place_of kind)) [
-      | inl same ↦ (let is = same_place other kind same in
-          subst (λ (k : Kind). RisesAtFirst test caller ordinal first now k) (sym is) (elim (same_or_not (count_of crossings kind) 0) [
-            | inl none ↦ here none
-            | inr was ↦ takes_later test caller ordinal first before now kind more (heard.taken kind (subst (λ (k : Kind). is_on_way k ≡ true) is on) was)
-          ]))
-      | inr apart ↦ takes_later test caller ordinal first before now other more (heard.taken other on (λ none. some (counted_there crossings kind are other apart ∙ none)))
-    ];
+    taken = let_go crossings kind are caller ordinal first before now more test heard.caller_is heard.ordinal_is answers heard.taken;
   }
 
-  let_go : (told : Option (Crossing → Bool)) (caller ordinal first now : ℕ) → next_of kind crossings ≡ record { caller = caller; ordinal = ordinal; kind = kind; nth = 1 } → AnswersTest told (next_of kind crossings) word.Go → RisesAtFirst told caller ordinal first now kind
-  let_go None caller ordinal first now is answers = tt
-  let_go (Some fires) caller ordinal first now is answers = λ holds. absurd (let both : false ≡ true = answers ∙ ap fires is ∙ holds in cc)
-
-  -- it let the call go on
-  pub hears_go : (before now : ℕ) → before ≤ now → AnswersTest test (next_of kind crossings) word.Go → HearsAt test before now crossings kind
-  hears_go before now more answers = λ caller ordinal first heard.
-      heard_next caller ordinal first before now more (λ none. let_go test caller ordinal first now (first_point crossings kind caller ordinal heard.caller_is heard.ordinal_is none) answers) heard
-
-  -- it faulted
   heard_fault : (caller ordinal first before now : ℕ) → Rose before now → before ≤ now → HasHeard test caller ordinal first before crossings → HasHeard test caller ordinal first now (counted crossings kind)
-  heard_fault caller ordinal first before now rose more heard =
-      heard_next caller ordinal first before now more (λ none. takes_rose test caller ordinal first now kind (rose_from first before now heard.later rose)) heard
+  heard_fault caller ordinal first before now rose more heard = record {
+    caller_is = heard.caller_is;
+    ordinal_is = heard.ordinal_is;
+    later = (let was = heard.later in omega (arith, more, was));
+    taken = struck crossings kind are caller ordinal first before now more test rose heard.taken;
+  }
 
 -- ---- what a step comes to
 
+taken_by : (test : Option (Crossing → Bool)) (caller ordinal first now : ℕ) (crossings : Crossings) → IsPastLeave crossings → IfSome test (λ fires. min (first + firsts_met fires caller ordinal crossings) (2 ^ 64 - 1) ≤ now)
+    → TakesFirsts test caller ordinal first now
+taken_by None caller ordinal first now crossings past taken = tt
+taken_by (Some fires) caller ordinal first now crossings past taken = let all = past_met fires caller ordinal crossings past in omega (arith, all, taken)
+
 taken_all : (test : Option (Crossing → Bool)) (caller ordinal first now : ℕ) (crossings : Crossings) → HasHeard test caller ordinal first now crossings → IsPastLeave crossings → TakesFirsts test caller ordinal first now
-taken_all test caller ordinal first now crossings heard past = λ kind on. heard.taken kind on (past_some crossings kind on past)
+taken_all test caller ordinal first now crossings heard past = taken_by test caller ordinal first now crossings past heard.taken
 
 heard_came : (test : Option (Crossing → Bool)) (caller ordinal first now : ℕ) (seat : SightSeat) (after : Attempt) (answer : Came) → (IsCalm answer → HasHeard test caller ordinal first now after.crossings) → PassedBy seat after answer
     → HeardBy test caller ordinal first now seat after answer
@@ -221,18 +275,15 @@ hears_outside test was is old after answer before now not more same passes = hea
 
 -- ---- the call begins
 
+none_met : (test : Option (Crossing → Bool)) (caller ordinal begun count : ℕ) → IfSome test (λ fires. min (count + firsts_met fires caller ordinal (new_attempt caller begun).crossings) (2 ^ 64 - 1) ≤ count)
+none_met None caller ordinal begun count = tt
+none_met (Some fires) caller ordinal begun count = omega arith
+
 pub heard_begins : (test : Option (Crossing → Bool)) (caller begun count : ℕ) (seat : SightSeat) (attempt : Attempt) → attempt ≡ new_attempt caller begun → seat.flight ≡ None → IsHeard test caller (begun + 1) count count seat attempt
 heard_begins test caller begun count seat attempt is free = subst (IsHeard test caller (begun + 1) count count seat) (sym is) (record {
-  heard = record { caller_is = refl; ordinal_is = refl; later = omega arith; taken = λ kind on some. absurd (some (none kind)) };
+  heard = record { caller_is = refl; ordinal_is = refl; later = omega arith; taken = none_met test caller (begun + 1) begun count };
   passed = λ has. absurd (subst FlightHasEntry free has);
-}) where
-  none : (kind : Kind) → count_of (new_attempt caller begun).crossings kind ≡ 0
-  none Enter = refl
-  none Gather = refl
-  none Finish = refl
-  none Leave = refl
-  none Remount = refl
-  none Replay = refl
+})
 
 -- the fault injector was asked at the present finish
 pub finish_asked : (seat : SightSeat) (attempt : Attempt) (ticket : Ticket) → attempt.at ≡ at.Inside ticket → attempt.asked ≡ true → HasPassed seat.flight attempt → count_of attempt.crossings Finish ≢ 0

@@ -132,6 +132,13 @@ later_then table first then last one other = record {
   seals = omega (arith, one.seals, other.seals);
 }
 
+-- nothing more was seen at one of two moments
+pub later_past : {F D : Type 0} (table : TableId) (first then last : Known (Shared F D)) → last ≡ then → IsLater table first then → IsLater table first last
+later_past {F} {D} table first then last same later = subst (λ (p : Known (Shared F D)). IsLater table first p) (sym same) later
+
+pub later_from : {F D : Type 0} (table : TableId) (first then last : Known (Shared F D)) → then ≡ first → IsLater table then last → IsLater table first last
+later_from {F} {D} table first then last same later = subst (λ (p : Known (Shared F D)). IsLater table p last) same later
+
 -- ---- the answers of a hold
 
 module _ {F D : Type 0} (saw now new : CoreState F D) (caller mine : ℕ) (same : mine ≡ caller) (low : caller < (sight_of saw).config.callers) (began : origin_of now ≡ origin_of saw)

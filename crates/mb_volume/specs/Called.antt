@@ -1,7 +1,6 @@
 -- What a call by a shared volume leaves of its caller's part of the core, as the caller saw it before and as it sees it then.
-use Rattle.std.specs.Prelude.{ℕ, ◌+◌, ◌≤◌, ◌≡◌, ◌++◌, ◌∷◌, List, [], length, filter, nat_eq, Bool, true, false, Option, None, IfSome}
+use Rattle.std.specs.Prelude.{ℕ, ◌+◌, ◌-◌, ◌^◌, ◌≤◌, ◌≡◌, ◌++◌, ◌∷◌, List, [], length, filter, min, nat_eq, Bool, true, false, Option, None, IfSome}
 use Rattle.std.specs.List.{AllByRecursion}
-use Rattle.mb_edge.specs.Causes.{Rose}
 use Rattle.mb_edge.specs.declared.crossings.Crossing.{Crossing}
 use Rattle.mb_kinds.specs.declared.calls.Call.{Call}
 use Rattle.mb_kinds.specs.declared.entries.Entry.{Entry}
@@ -12,6 +11,7 @@ use Rattle.mb_kinds.specs.declared.replies.Reply.{Reply}
 use Rattle.mb_kinds.specs.declared.replies.Reply.TheVariants as reply
 use Rattle.mb_run.specs.Seals.{is_plain}
 use Rattle.mb_run.specs.Served.{AreSound}
+use Rattle.mb_run.specs.Sights.{one_if}
 use Rattle.mb_volume.specs.Parts.{Part}
 
 -- a fault that counts as its call's own
@@ -82,13 +82,19 @@ is_on_way kind.Remount = false
 is_on_way kind.Replay = false
 is_on_way _ = true
 
--- where the test holds of a call's first fault point of a kind, the count of faults rose
-abbrev pub RisesAtFirst : Option (Crossing → Bool) → ℕ → ℕ → ℕ → ℕ → Kind → Type 0
-RisesAtFirst test caller ordinal before now kind = IfSome test (λ fires. fires (record { caller = caller; ordinal = ordinal; kind = kind; nth = 1 }) ≡ true → Rose before now)
+-- a call's first fault point of a kind
+abbrev pub first_of_kind : ℕ → ℕ → Kind → Crossing
+first_of_kind caller ordinal kind = record { caller = caller; ordinal = ordinal; kind = kind; nth = 1 }
 
--- so it is of each kind on its way
+-- at how many of the first ones on its way a test holds
+abbrev pub firsts_planned : (Crossing → Bool) → ℕ → ℕ → ℕ
+firsts_planned fires caller ordinal =
+    one_if (fires (first_of_kind caller ordinal kind.Enter)) + one_if (fires (first_of_kind caller ordinal kind.Gather))
+    + one_if (fires (first_of_kind caller ordinal kind.Finish)) + one_if (fires (first_of_kind caller ordinal kind.Leave))
+
+-- the count of faults rose by one at least for each of them; it stays at the greatest u64
 abbrev pub TakesFirsts : Option (Crossing → Bool) → ℕ → ℕ → ℕ → ℕ → Type 0
-TakesFirsts test caller ordinal before now = (kind : Kind) → is_on_way kind ≡ true → RisesAtFirst test caller ordinal before now kind
+TakesFirsts test caller ordinal before now = IfSome test (λ fires. min (before + firsts_planned fires caller ordinal) (2 ^ 64 - 1) ≤ now)
 
 -- of the caller's next call, where it was answered with a plain reply
 abbrev pub TakesPlannedFaults : Option (Crossing → Bool) → ℕ → Part → ℕ → ℕ → Reply → Type 0

@@ -6,4 +6,5 @@ pub mod Underway
 pub mod Passing
 pub mod Rising
 pub mod Passed
+pub mod Coming
 pub mod Examples

@@ -1,5 +1,5 @@
 -- Which fault points a call passed on its way, by where it stands, and what the fault injector's count of faults says of them.
-use Rattle.std.specs.Prelude.{ℕ, ◌≤◌, ◌≡◌, ◌≢◌, Bool, true, false, Option}
+use Rattle.std.specs.Prelude.{ℕ, ◌+◌, ◌-◌, ◌^◌, ◌≤◌, ◌≡◌, ◌≢◌, min, nat_eq, ◌&&◌, not, Bool, true, false, Option, IfSome}
 use Rattle.mb_core_spec.specs.Copies.{no_pages}
 use Rattle.mb_edge.specs.declared.crossings.Crossing.{Crossing}
 use Rattle.mb_edge.specs.declared.crossings.Crossings.{Crossings}
@@ -8,12 +8,12 @@ use Rattle.mb_kinds.specs.declared.faults.Kind.{Kind}
 use Rattle.mb_kinds.specs.declared.faults.Kind.TheVariants.{Enter, Gather, Finish, Leave}
 use Rattle.mb_run.specs.Pages.{has}
 use Rattle.mb_run.specs.Served.{counted}
-use Rattle.mb_run.specs.Sights.{SightSeat, Sight}
+use Rattle.mb_run.specs.Sights.{SightSeat, Sight, one_if}
 use Rattle.mb_run.specs.Seals.{is_plain}
 use Rattle.mb_run.specs.Tallies.{count_of, is_logged}
 use Rattle.mb_run.specs.declared.runner.At.{At}
 use Rattle.mb_run.specs.declared.runner.At.TheVariants as at
-use Rattle.mb_volume.specs.Called.{RisesAtFirst, TakesFirsts, is_on_way}
+use Rattle.mb_volume.specs.Called.{TakesFirsts, first_of_kind, is_on_way}
 use Rattle.mb_volume.specs.Underway.{FlightHasEntry}
 use Rattle.mb_volume.specs.declared.attempt.Attempt.{Attempt}
 use Rattle.mb_volume.specs.declared.events.Came.{Came}
@@ -103,11 +103,22 @@ MarksSeen event old new before now came = MarksPoints event (old.seats before.cr
 
 -- ---- since the call began, when the count of faults was `first`
 
+-- the test holds of the first fault point of a kind, and the call passed one
+abbrev pub met_if : (Crossing → Bool) → ℕ → ℕ → Crossings → Kind → ℕ
+met_if fires caller ordinal crossings kind = one_if (not (nat_eq (count_of crossings kind) 0) && fires (first_of_kind caller ordinal kind))
+
+-- at how many of the first ones that it passed on its way the test holds
+abbrev pub firsts_met : (Crossing → Bool) → ℕ → ℕ → Crossings → ℕ
+firsts_met fires caller ordinal crossings =
+    met_if fires caller ordinal crossings Enter + met_if fires caller ordinal crossings Gather
+    + met_if fires caller ordinal crossings Finish + met_if fires caller ordinal crossings Leave
+
+-- the count rose by one at least for each of them
 pub record HasHeard (test : Option (Crossing → Bool)) (caller ordinal first now : ℕ) (crossings : Crossings) : Type 0 where
   pub caller_is : crossings.caller ≡ caller
   pub ordinal_is : crossings.ordinal ≡ ordinal
   pub later : first ≤ now
-  pub taken : (kind : Kind) → is_on_way kind ≡ true → count_of crossings kind ≢ 0 → RisesAtFirst test caller ordinal first now kind
+  pub taken : IfSome test (λ fires. min (first + firsts_met fires caller ordinal crossings) (2 ^ 64 - 1) ≤ now)
 
 pub record IsHeard (test : Option (Crossing → Bool)) (caller ordinal first now : ℕ) (seat : SightSeat) (attempt : Attempt) : Type 0 where
   pub heard : HasHeard test caller ordinal first now attempt.crossings

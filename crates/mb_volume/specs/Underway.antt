@@ -175,16 +175,9 @@ pub record IsTold (now : Part) : Type 0 where
   pub limit : AllByRecursion (λ (entry : Entry). SaysOfLimit now.config.limit entry.reply) now.entries
   pub twice : AllByRecursion (λ (entry : Entry). SaysOfTwice entry.ordinal now.struck entry.reply) now.entries
 
--- and whatever the hook's test is, which was not asked
-abbrev pub GoesUnasked : Call → Part → Part → Attempt → Attempt → Came → Type 0
-GoesUnasked call old new before now came = (test : Option (Crossing → Bool)) → Goes call test old new before now came
-
 -- the same by sights of a core, of the caller whose attempt it is
 abbrev pub GoesSeen : Call → Option (Crossing → Bool) → Sight → Sight → Attempt → Attempt → Came → Type 0
 GoesSeen call test old new before now came = Goes call test (part_of old before.crossings.caller) (part_of new before.crossings.caller) before now came
-
-abbrev pub GoesUnaskedSeen : Call → Sight → Sight → Attempt → Attempt → Came → Type 0
-GoesUnaskedSeen call old new before now came = GoesUnasked call (part_of old before.crossings.caller) (part_of new before.crossings.caller) before now came
 
 -- the place has that ticket
 abbrev pub PlaceHoldsTicket : At → Ticket → Type 0

@@ -5,11 +5,11 @@ ghost use Rattle.mb_run.specs.Pages.{PagesGrowBy, PerformsOver, has};
 ghost use Rattle.mb_run.specs.Rising.{RisesWith};
 ghost use Rattle.mb_run.specs.Sights.{IsOrderlyInSight, IsWaiting};
 ghost use Rattle.mb_run.specs.declared.runner.At.TheVariants as at;
-ghost use Rattle.mb_volume.specs.Parts.{MovesPart, part_of};
-ghost use Rattle.mb_volume.specs.Passed.{MarksSeen};
+ghost use Rattle.mb_volume.specs.Coming.{ComesOfEvent, ComesUnasked};
+ghost use Rattle.mb_volume.specs.Parts.{part_of};
 ghost use Rattle.mb_volume.specs.Rising.{RisesAfter, word_for};
 ghost use Rattle.mb_volume.specs.declared.events.Event.TheVariants as events;
-ghost use Rattle.mb_volume.specs.Underway.{GrowsAfter, PlaceHoldsTicket, IsMetNext, IsOn, MayCome, rolled, GoesSeen, GoesUnaskedSeen};
+ghost use Rattle.mb_volume.specs.Underway.{GrowsAfter, PlaceHoldsTicket, IsMetNext, IsOn, MayCome, rolled};
 
 use crate::attempt::Attempt;
 use mb_calls::ReadyCall;
@@ -59,11 +59,8 @@ fn enter<C: EventCore>(alloc: Global, core: &mut C, attempt: &mut Attempt, call:
     requires on { IsOn call.now (part_of (C.sight core.old) attempt.old.crossings.caller) attempt.old }
     requires outside { attempt.old.at ≡ at.Outside }
     requires right { IsOrderlyInSight (C.sight core.old) }
-    ensures goes { GoesUnaskedSeen call.now (C.sight core.old) (C.sight core.new) attempt.old attempt.new result }
-    ensures marks { MarksSeen events.Enter (C.sight core.old) (C.sight core.new) attempt.old attempt.new result }
-    ensures same { attempt.new.crossings.caller ≡ attempt.old.crossings.caller }
-    ensures moves { MovesPart attempt.old.crossings.caller (C.sight core.old) (C.sight core.new) }
-    ensures still { (C.sight core.new).records ≡ (C.sight core.old).records }
+    ensures comes { ComesUnasked call.now events.Enter
+        (C.sight core.old) (C.sight core.new) attempt.old attempt.new result }
     ensures origin { C.origin core.new ≡ C.origin core.old }
     ensures right { IsOrderlyInSight (C.sight core.new) }
 {
@@ -89,16 +86,11 @@ fn gather<C: EventCore>(
 ) -> Came
     requires on { IsOn call.now (part_of (C.sight core.old) attempt.old.crossings.caller) attempt.old }
     requires inside { attempt.old.at ≡ at.Inside ticket.now }
-    requires first { need.first < 262144 }
-    requires some { 1 ≤ need.count }
-    requires count { need.count ≤ 32 }
+    requires need { (need.first < 262144) × (1 ≤ need.count) × (need.count ≤ 32) }
     requires right { IsOrderlyInSight (C.sight core.old) }
     ensures grown { PagesGrowBy need attempt.old.pages attempt.new.pages }
-    ensures goes { GoesUnaskedSeen call.now (C.sight core.old) (C.sight core.new) attempt.old attempt.new result }
-    ensures marks { MarksSeen (events.Gather ticket.now need) (C.sight core.old) (C.sight core.new) attempt.old attempt.new result }
-    ensures same { attempt.new.crossings.caller ≡ attempt.old.crossings.caller }
-    ensures moves { MovesPart attempt.old.crossings.caller (C.sight core.old) (C.sight core.new) }
-    ensures still { (C.sight core.new).records ≡ (C.sight core.old).records }
+    ensures comes { ComesUnasked call.now (events.Gather ticket.now need)
+        (C.sight core.old) (C.sight core.new) attempt.old attempt.new result }
     ensures origin { C.origin core.new ≡ C.origin core.old }
     ensures right { IsOrderlyInSight (C.sight core.new) }
 {
@@ -129,13 +121,11 @@ fn finish<C: EventCore>(
     requires on { IsOn call.now (part_of (C.sight core.old) attempt.old.crossings.caller) attempt.old }
     requires inside { attempt.old.at ≡ at.Inside ticket.now }
     requires there { has attempt.old.pages 0 ≡ true }
-    requires ready { PerformsOver attempt.old.pages ticket.now.caller call.now ticket.now.moment (performed.Ready ready) }
+    requires ready { PerformsOver attempt.old.pages ticket.now.caller call.now ticket.now.moment
+        (performed.Ready ready) }
     requires right { IsOrderlyInSight (C.sight core.old) }
-    ensures goes { GoesUnaskedSeen call.now (C.sight core.old) (C.sight core.new) attempt.old attempt.new result }
-    ensures marks { MarksSeen (events.Finish ticket.now ready) (C.sight core.old) (C.sight core.new) attempt.old attempt.new result }
-    ensures same { attempt.new.crossings.caller ≡ attempt.old.crossings.caller }
-    ensures moves { MovesPart attempt.old.crossings.caller (C.sight core.old) (C.sight core.new) }
-    ensures still { (C.sight core.new).records ≡ (C.sight core.old).records }
+    ensures comes { ComesUnasked call.now (events.Finish ticket.now ready)
+        (C.sight core.old) (C.sight core.new) attempt.old attempt.new result }
     ensures origin { C.origin core.new ≡ C.origin core.old }
     ensures right { IsOrderlyInSight (C.sight core.new) }
 {
@@ -166,11 +156,8 @@ fn leave<C: EventCore>(core: &mut C, attempt: &mut Attempt, call: &Call, ticket:
     requires on { IsOn call.now (part_of (C.sight core.old) attempt.old.crossings.caller) attempt.old }
     requires logged { attempt.old.at ≡ at.Logged ticket.now }
     requires right { IsOrderlyInSight (C.sight core.old) }
-    ensures goes { GoesUnaskedSeen call.now (C.sight core.old) (C.sight core.new) attempt.old attempt.new result }
-    ensures marks { MarksSeen (events.Leave ticket.now) (C.sight core.old) (C.sight core.new) attempt.old attempt.new result }
-    ensures same { attempt.new.crossings.caller ≡ attempt.old.crossings.caller }
-    ensures moves { MovesPart attempt.old.crossings.caller (C.sight core.old) (C.sight core.new) }
-    ensures still { (C.sight core.new).records ≡ (C.sight core.old).records }
+    ensures comes { ComesUnasked call.now (events.Leave ticket.now)
+        (C.sight core.old) (C.sight core.new) attempt.old attempt.new result }
     ensures origin { C.origin core.new ≡ C.origin core.old }
     ensures right { IsOrderlyInSight (C.sight core.new) }
 {
@@ -198,11 +185,10 @@ fn fault<C: EventCore, H: Hook>(
     requires holds { PlaceHoldsTicket attempt.old.at ticket.now }
     requires met { IsMetNext (H.test hook.now) (H.struck hook.now) attempt.old crossing.now passed.now }
     requires right { IsOrderlyInSight (C.sight core.old) }
-    ensures goes { GoesSeen call.now (H.test hook.now) (C.sight core.old) (C.sight core.new) attempt.old attempt.new result }
-    ensures marks { MarksSeen (events.Fault ticket.now crossing.now passed.now) (C.sight core.old) (C.sight core.new) attempt.old attempt.new result }
-    ensures same { attempt.new.crossings.caller ≡ attempt.old.crossings.caller }
-    ensures moves { MovesPart attempt.old.crossings.caller (C.sight core.old) (C.sight core.new) }
-    ensures rises { RisesAfter word.Fault (H.faults hook.now) (H.faults hook.now) (C.sight core.old).records (C.sight core.new).records }
+    ensures comes { ComesOfEvent call.now (H.test hook.now) (events.Fault ticket.now crossing.now passed.now)
+        (C.sight core.old) (C.sight core.new) attempt.old attempt.new result }
+    ensures rises { RisesAfter word.Fault (H.faults hook.now) (H.faults hook.now)
+        (C.sight core.old).records (C.sight core.new).records }
     ensures origin { C.origin core.new ≡ C.origin core.old }
     ensures right { IsOrderlyInSight (C.sight core.new) }
 {
@@ -236,11 +222,10 @@ fn recover<C: EventCore, H: Hook>(
     requires on { IsOn call.now (part_of (C.sight core.old) attempt.old.crossings.caller) attempt.old }
     requires waits { IsWaiting ((C.sight core.old).seats attempt.old.crossings.caller) }
     requires right { IsOrderlyInSight (C.sight core.old) }
-    ensures goes { GoesSeen call.now (H.test hook.old) (C.sight core.old) (C.sight core.new) attempt.old attempt.new result }
-    ensures marks { MarksSeen events.Recover (C.sight core.old) (C.sight core.new) attempt.old attempt.new result }
-    ensures same { attempt.new.crossings.caller ≡ attempt.old.crossings.caller }
-    ensures moves { MovesPart attempt.old.crossings.caller (C.sight core.old) (C.sight core.new) }
-    ensures rises { RisesWith (H.faults hook.old) (H.faults hook.new) (C.sight core.old).records (C.sight core.new).records }
+    ensures comes { ComesOfEvent call.now (H.test hook.old) events.Recover
+        (C.sight core.old) (C.sight core.new) attempt.old attempt.new result }
+    ensures rises { RisesWith (H.faults hook.old) (H.faults hook.new)
+        (C.sight core.old).records (C.sight core.new).records }
     ensures test { H.test hook.new ≡ H.test hook.old }
     ensures origin { C.origin core.new ≡ C.origin core.old }
     ensures right { IsOrderlyInSight (C.sight core.new) }
@@ -269,14 +254,14 @@ pub(crate) fn act<C: EventCore, H: Hook>(
     event: Event,
 ) -> Came
     requires on { IsOn call.now (part_of (C.sight core.old) attempt.old.crossings.caller) attempt.old }
-    requires may { MayCome call.now (H.test hook.old) (H.struck hook.old) ((C.sight core.old).seats attempt.old.crossings.caller) attempt.old event }
+    requires may { MayCome call.now (H.test hook.old) (H.struck hook.old)
+        ((C.sight core.old).seats attempt.old.crossings.caller) attempt.old event }
     requires right { IsOrderlyInSight (C.sight core.old) }
     ensures grown { GrowsAfter event attempt.old.pages attempt.new.pages }
-    ensures goes { GoesSeen call.now (H.test hook.old) (C.sight core.old) (C.sight core.new) attempt.old attempt.new result }
-    ensures marks { MarksSeen event (C.sight core.old) (C.sight core.new) attempt.old attempt.new result }
-    ensures same { attempt.new.crossings.caller ≡ attempt.old.crossings.caller }
-    ensures moves { MovesPart attempt.old.crossings.caller (C.sight core.old) (C.sight core.new) }
-    ensures rises { RisesAfter (word_for event) (H.faults hook.old) (H.faults hook.new) (C.sight core.old).records (C.sight core.new).records }
+    ensures comes { ComesOfEvent call.now (H.test hook.old) event
+        (C.sight core.old) (C.sight core.new) attempt.old attempt.new result }
+    ensures rises { RisesAfter (word_for event) (H.faults hook.old) (H.faults hook.new)
+        (C.sight core.old).records (C.sight core.new).records }
     ensures grows { H.faults hook.old ≤ H.faults hook.new }
     ensures test { H.test hook.new ≡ H.test hook.old }
     ensures origin { C.origin core.new ≡ C.origin core.old }

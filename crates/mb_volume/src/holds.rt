@@ -3,16 +3,14 @@ ghost use Rattle.mb_calls.specs.declared.performing.Performed.TheVariants as per
 ghost use Rattle.mb_kinds.specs.declared.faults.Kind.TheVariants as kinds;
 ghost use Rattle.mb_run.specs.Pages.{PagesGrowBy, IsUnderWay, PerformsOver, has};
 ghost use Rattle.mb_run.specs.Rising.{RisesWith};
-ghost use Rattle.mb_run.specs.Served.{counted};
 ghost use Rattle.mb_run.specs.Sights.{IsWaiting};
 ghost use Rattle.mb_run.specs.Tallies.{is_logged};
 ghost use Rattle.mb_run.specs.declared.runner.At.TheVariants as at;
 ghost use Rattle.mb_turn.specs.Passes.{IsIdle};
 ghost use Rattle.mb_volume.specs.Attempts.{new_attempt};
-ghost use Rattle.mb_volume.specs.Passed.{Hears, HearsAt, HearsFault, MarksPoints};
+ghost use Rattle.mb_volume.specs.Coming.{ComesOfHold, ComesOfStep, GoesPast, IsStruckAt};
 ghost use Rattle.mb_volume.specs.Passing.{IsLater, IsMaking, part_in};
-ghost use Rattle.mb_volume.specs.Rising.{RisesAfter, word_for};
-ghost use Rattle.mb_volume.specs.Underway.{GrowsAfter, PlaceHoldsTicket, IsLeftOff, LeadsCallOn, MayCome};
+ghost use Rattle.mb_volume.specs.Underway.{GrowsAfter, PlaceHoldsTicket, IsLeftOff, MayCome};
 
 use crate::attempt::Attempt;
 use crate::events::{Came, Event};
@@ -54,14 +52,11 @@ impl<F: FileSys, D: Disk> Volume<F, D> {
     ) -> (Came, F)
         requires idle { IsIdle self.now.table pass.old }
         requires making { IsMaking call.now (H.test hook.old) pass.old attempt.old false }
-        requires may { MayCome call.now (H.test hook.old) (H.struck hook.old) (part_in pass.old).seat attempt.old event }
+        requires may { MayCome call.now (H.test hook.old) (H.struck hook.old)
+            (part_in pass.old).seat attempt.old event }
         ensures grown { GrowsAfter event attempt.old.pages attempt.new.pages }
-        ensures later { IsLater self.now.table pass.old pass.new }
-        ensures leads { LeadsCallOn call.now (H.test hook.old) (part_in pass.old) (part_in pass.new) attempt.old attempt.new result.0 }
-        ensures marks { MarksPoints event (part_in pass.old).seat (part_in pass.new).seat attempt.old attempt.new result.0 }
-        ensures same { attempt.new.crossings.caller ≡ attempt.old.crossings.caller }
-        ensures rises { RisesAfter (word_for event) (H.faults hook.old) (H.faults hook.new) (part_in pass.old).struck (part_in pass.new).struck }
-        ensures grows { H.faults hook.old ≤ H.faults hook.new }
+        ensures comes { ComesOfHold self.now.table call.now (H.test hook.old) event (H.faults hook.old) (H.faults hook.new)
+            pass.old pass.new attempt.old attempt.new result.0 }
         ensures test { H.test hook.new ≡ H.test hook.old }
     {
         let mut shared = self.turn.take(rt, pass);
@@ -89,14 +84,12 @@ impl<F: FileSys, D: Disk> Volume<F, D> {
         requires making { IsMaking call.now (H.test hook.old) pass.old attempt.old false }
         requires holds { PlaceHoldsTicket attempt.old.at ticket.now }
         requires leaves { is_logged attempt.old.at ≡ 1 → kind ≡ kinds.Leave }
-        ensures unasked { IfNone result ((pass.new ≡ pass.old)
-            × (attempt.new ≡ record attempt.old { crossings = counted attempt.old.crossings kind })) }
-        ensures later { IsLater self.now.table pass.old pass.new }
-        ensures leads { IfSome result (LeadsCallOn call.now (H.test hook.old) (part_in pass.old) (part_in pass.new) attempt.old attempt.new) }
-        ensures passed { IfNone result (HearsAt (H.test hook.old) (H.faults hook.old) (H.faults hook.new) attempt.old.crossings kind) }
-        ensures struck { IfSome result (HearsFault (H.test hook.old) (H.faults hook.old) (H.faults hook.new) (part_in pass.new).seat attempt.old attempt.new kind) }
-        ensures same { attempt.new.crossings.caller ≡ attempt.old.crossings.caller }
-        ensures rises { RisesWith (H.faults hook.old) (H.faults hook.new) (part_in pass.old).struck (part_in pass.new).struck }
+        ensures passed { IfNone result (GoesPast (H.test hook.old) (H.faults hook.old) (H.faults hook.new)
+            pass.old pass.new attempt.old attempt.new kind) }
+        ensures struck { IfSome result (IsStruckAt self.now.table call.now
+            (H.test hook.old) (H.faults hook.old) (H.faults hook.new) pass.old pass.new attempt.old attempt.new kind) }
+        ensures rises { RisesWith (H.faults hook.old) (H.faults hook.new)
+            (part_in pass.old).struck (part_in pass.new).struck }
         ensures test { H.test hook.new ≡ H.test hook.old }
     {
         let mut passed = attempt.crossings;
@@ -128,12 +121,8 @@ impl<F: FileSys, D: Disk> Volume<F, D> {
         requires idle { IsIdle self.now.table pass.old }
         requires making { IsMaking call.now (H.test hook.old) pass.old attempt.old false }
         requires outside { attempt.old.at ≡ at.Outside }
-        ensures later { IsLater self.now.table pass.old pass.new }
-        ensures leads { LeadsCallOn call.now (H.test hook.old) (part_in pass.old) (part_in pass.new) attempt.old attempt.new result }
-        ensures hears { Hears (H.test hook.old) (H.faults hook.old) (H.faults hook.new)
-            (part_in pass.old).seat (part_in pass.new).seat attempt.old attempt.new result }
-        ensures same { attempt.new.crossings.caller ≡ attempt.old.crossings.caller }
-        ensures rises { RisesWith (H.faults hook.old) (H.faults hook.new) (part_in pass.old).struck (part_in pass.new).struck }
+        ensures comes { ComesOfStep self.now.table call.now (H.test hook.old) (H.faults hook.old) (H.faults hook.new)
+            pass.old pass.new attempt.old attempt.new result }
         ensures test { H.test hook.new ≡ H.test hook.old }
     {
         let (came, _) = self.hold(rt, alloc, pass, hook, attempt, call, Event::Enter);
@@ -166,12 +155,8 @@ impl<F: FileSys, D: Disk> Volume<F, D> {
         requires inside { attempt.old.at ≡ at.Inside ticket.now }
         requires need { (need.first < 262144) × (1 ≤ need.count) × (need.count ≤ 32) }
         ensures grown { IfSome result.1 (λ code. PagesGrowBy need attempt.old.pages attempt.new.pages) }
-        ensures later { IsLater self.now.table pass.old pass.new }
-        ensures leads { LeadsCallOn call.now (H.test hook.old) (part_in pass.old) (part_in pass.new) attempt.old attempt.new result.0 }
-        ensures hears { Hears (H.test hook.old) (H.faults hook.old) (H.faults hook.new)
-            (part_in pass.old).seat (part_in pass.new).seat attempt.old attempt.new result.0 }
-        ensures same { attempt.new.crossings.caller ≡ attempt.old.crossings.caller }
-        ensures rises { RisesWith (H.faults hook.old) (H.faults hook.new) (part_in pass.old).struck (part_in pass.new).struck }
+        ensures comes { ComesOfStep self.now.table call.now (H.test hook.old) (H.faults hook.old) (H.faults hook.new)
+            pass.old pass.new attempt.old attempt.new result.0 }
         ensures test { H.test hook.new ≡ H.test hook.old }
     {
         match self.ask(rt, alloc, pass, hook, attempt, call, ticket, Kind::Gather) {
@@ -199,13 +184,10 @@ impl<F: FileSys, D: Disk> Volume<F, D> {
         requires making { IsMaking call.now (H.test hook.old) pass.old attempt.old false }
         requires inside { attempt.old.at ≡ at.Inside ticket.now }
         requires there { has attempt.old.pages 0 ≡ true }
-        requires ready { PerformsOver attempt.old.pages ticket.now.caller call.now ticket.now.moment (performed.Ready ready) }
-        ensures later { IsLater self.now.table pass.old pass.new }
-        ensures leads { LeadsCallOn call.now (H.test hook.old) (part_in pass.old) (part_in pass.new) attempt.old attempt.new result }
-        ensures hears { Hears (H.test hook.old) (H.faults hook.old) (H.faults hook.new)
-            (part_in pass.old).seat (part_in pass.new).seat attempt.old attempt.new result }
-        ensures same { attempt.new.crossings.caller ≡ attempt.old.crossings.caller }
-        ensures rises { RisesWith (H.faults hook.old) (H.faults hook.new) (part_in pass.old).struck (part_in pass.new).struck }
+        requires ready { PerformsOver attempt.old.pages ticket.now.caller call.now ticket.now.moment
+            (performed.Ready ready) }
+        ensures comes { ComesOfStep self.now.table call.now (H.test hook.old) (H.faults hook.old) (H.faults hook.new)
+            pass.old pass.new attempt.old attempt.new result }
         ensures test { H.test hook.new ≡ H.test hook.old }
     {
         if !attempt.asked {
@@ -234,12 +216,8 @@ impl<F: FileSys, D: Disk> Volume<F, D> {
         requires idle { IsIdle self.now.table pass.old }
         requires making { IsMaking call.now (H.test hook.old) pass.old attempt.old false }
         requires logged { attempt.old.at ≡ at.Logged ticket.now }
-        ensures later { IsLater self.now.table pass.old pass.new }
-        ensures leads { LeadsCallOn call.now (H.test hook.old) (part_in pass.old) (part_in pass.new) attempt.old attempt.new result }
-        ensures hears { Hears (H.test hook.old) (H.faults hook.old) (H.faults hook.new)
-            (part_in pass.old).seat (part_in pass.new).seat attempt.old attempt.new result }
-        ensures same { attempt.new.crossings.caller ≡ attempt.old.crossings.caller }
-        ensures rises { RisesWith (H.faults hook.old) (H.faults hook.new) (part_in pass.old).struck (part_in pass.new).struck }
+        ensures comes { ComesOfStep self.now.table call.now (H.test hook.old) (H.faults hook.old) (H.faults hook.new)
+            pass.old pass.new attempt.old attempt.new result }
         ensures test { H.test hook.new ≡ H.test hook.old }
     {
         match self.ask(rt, alloc, pass, hook, attempt, call, ticket, Kind::Leave) {
@@ -268,16 +246,11 @@ impl<F: FileSys, D: Disk> Volume<F, D> {
         requires inside { attempt.old.at ≡ at.Inside ticket.now }
         requires there { has attempt.old.pages 0 ≡ true }
         requires lacks { has attempt.old.pages need.first ≡ false }
-        requires need { (need.first < 262144) × (1 ≤ need.count) × (need.count ≤ 32) }
-        requires above { 1 ≤ need.first }
+        requires need { (1 ≤ need.first) × (need.first < 262144) × (1 ≤ need.count) × (need.count ≤ 32) }
         requires going { IsUnderWay attempt.old.pages attempt.old.crossings.caller call.now way.old }
         ensures going { IsUnderWay attempt.new.pages attempt.new.crossings.caller call.now way.new }
-        ensures later { IsLater self.now.table pass.old pass.new }
-        ensures leads { LeadsCallOn call.now (H.test hook.old) (part_in pass.old) (part_in pass.new) attempt.old attempt.new result }
-        ensures hears { Hears (H.test hook.old) (H.faults hook.old) (H.faults hook.new)
-            (part_in pass.old).seat (part_in pass.new).seat attempt.old attempt.new result }
-        ensures same { attempt.new.crossings.caller ≡ attempt.old.crossings.caller }
-        ensures rises { RisesWith (H.faults hook.old) (H.faults hook.new) (part_in pass.old).struck (part_in pass.new).struck }
+        ensures comes { ComesOfStep self.now.table call.now (H.test hook.old) (H.faults hook.old) (H.faults hook.new)
+            pass.old pass.new attempt.old attempt.new result }
         ensures test { H.test hook.new ≡ H.test hook.old }
     {
         let need = attempt.pages.foresee(call, need);
@@ -309,12 +282,8 @@ impl<F: FileSys, D: Disk> Volume<F, D> {
         requires inside { attempt.old.at ≡ at.Inside ticket.now }
         requires going { IsUnderWay attempt.old.pages attempt.old.crossings.caller call.now way.old }
         ensures going { IsUnderWay attempt.new.pages attempt.new.crossings.caller call.now way.new }
-        ensures later { IsLater self.now.table pass.old pass.new }
-        ensures leads { LeadsCallOn call.now (H.test hook.old) (part_in pass.old) (part_in pass.new) attempt.old attempt.new result }
-        ensures hears { Hears (H.test hook.old) (H.faults hook.old) (H.faults hook.new)
-            (part_in pass.old).seat (part_in pass.new).seat attempt.old attempt.new result }
-        ensures same { attempt.new.crossings.caller ≡ attempt.old.crossings.caller }
-        ensures rises { RisesWith (H.faults hook.old) (H.faults hook.new) (part_in pass.old).struck (part_in pass.new).struck }
+        ensures comes { ComesOfStep self.now.table call.now (H.test hook.old) (H.faults hook.old) (H.faults hook.new)
+            pass.old pass.new attempt.old attempt.new result }
         ensures test { H.test hook.new ≡ H.test hook.old }
     {
         if has_tables(&attempt.pages) {
@@ -364,12 +333,8 @@ impl<F: FileSys, D: Disk> Volume<F, D> {
         requires making { IsMaking call.now (H.test hook.old) pass.old attempt.old shut }
         requires going { IsUnderWay attempt.old.pages attempt.old.crossings.caller call.now way.old }
         ensures going { IsUnderWay attempt.new.pages attempt.new.crossings.caller call.now way.new }
-        ensures later { IsLater self.now.table pass.old pass.new }
-        ensures leads { LeadsCallOn call.now (H.test hook.old) (part_in pass.old) (part_in pass.new) attempt.old attempt.new result }
-        ensures hears { Hears (H.test hook.old) (H.faults hook.old) (H.faults hook.new)
-            (part_in pass.old).seat (part_in pass.new).seat attempt.old attempt.new result }
-        ensures same { attempt.new.crossings.caller ≡ attempt.old.crossings.caller }
-        ensures rises { RisesWith (H.faults hook.old) (H.faults hook.new) (part_in pass.old).struck (part_in pass.new).struck }
+        ensures comes { ComesOfStep self.now.table call.now (H.test hook.old) (H.faults hook.old) (H.faults hook.new)
+            pass.old pass.new attempt.old attempt.new result }
         ensures test { H.test hook.new ≡ H.test hook.old }
     {
         if shut {

@@ -8,11 +8,11 @@ ghost use Rattle.mb_run.specs.CoreSight.{sight_of};
 ghost use Rattle.mb_run.specs.Seals.{AreInTime};
 ghost use Rattle.mb_run.specs.Sights.{IsOrderlyInSight, amiss_in};
 ghost use Rattle.mb_volume.specs.Attempts.{without_pages};
-ghost use Rattle.mb_volume.specs.Parts.{MovesPart, part_of, stand_in};
-ghost use Rattle.mb_volume.specs.Passed.{MarksSeen};
+ghost use Rattle.mb_volume.specs.Coming.{ComesOfEvent};
+ghost use Rattle.mb_volume.specs.Parts.{part_of, stand_in};
 ghost use Rattle.mb_volume.specs.Rising.{RisesAfter, word_for};
 ghost use Rattle.mb_volume.specs.Shared.{origin_of};
-ghost use Rattle.mb_volume.specs.Underway.{GrowsAfter, IsOn, MayCome, GoesSeen};
+ghost use Rattle.mb_volume.specs.Underway.{GrowsAfter, IsOn, MayCome};
 
 use crate::attempt::Attempt;
 use crate::events::{Came, Event, act};
@@ -120,13 +120,13 @@ impl<F: FileSys, D: Disk> SharedCore<F, D> {
         event: Event,
     ) -> Came
         requires on { IsOn call.now (part_of (sight_of self.old.core.core) attempt.old.crossings.caller) attempt.old }
-        requires may { MayCome call.now (H.test hook.old) (H.struck hook.old) ((sight_of self.old.core.core).seats attempt.old.crossings.caller) attempt.old event }
+        requires may { MayCome call.now (H.test hook.old) (H.struck hook.old)
+            ((sight_of self.old.core.core).seats attempt.old.crossings.caller) attempt.old event }
         ensures grown { GrowsAfter event attempt.old.pages attempt.new.pages }
-        ensures goes { GoesSeen call.now (H.test hook.old) (sight_of self.old.core.core) (sight_of self.new.core.core) attempt.old attempt.new result }
-        ensures marks { MarksSeen event (sight_of self.old.core.core) (sight_of self.new.core.core) attempt.old attempt.new result }
-        ensures same { attempt.new.crossings.caller ≡ attempt.old.crossings.caller }
-        ensures moves { MovesPart attempt.old.crossings.caller (sight_of self.old.core.core) (sight_of self.new.core.core) }
-        ensures rises { RisesAfter (word_for event) (H.faults hook.old) (H.faults hook.new) self.old.core.core.journal.records self.new.core.core.journal.records }
+        ensures comes { ComesOfEvent call.now (H.test hook.old) event
+            (sight_of self.old.core.core) (sight_of self.new.core.core) attempt.old attempt.new result }
+        ensures rises { RisesAfter (word_for event) (H.faults hook.old) (H.faults hook.new)
+            self.old.core.core.journal.records self.new.core.core.journal.records }
         ensures grows { H.faults hook.old ≤ H.faults hook.new }
         ensures test { H.test hook.new ≡ H.test hook.old }
         ensures origin { origin_of self.new ≡ origin_of self.old }

@@ -60,8 +60,8 @@ impl<F: FileSys, D: Disk> Volume<F, D> {
     /// Makes one call of the pass's caller, which has none in flight and may begin one more. It may wait for other
     /// callers. The reply stands in the core's history. After `NoMemory` the call has no entry there. With each fault record
     /// that came, the fault injector's count rose. A call with a plain reply met one fault of its own at most. Where the reply
-    /// is plain and the fault injector tells its test, no fault at the call's first fault point of a kind was passed over:
-    /// where the test holds there, the count rose.
+    /// is plain and the fault injector tells its test, no fault at the call's first fault point of a kind was passed over: of
+    /// the four where it enters, gathers, finishes and leaves, the count rose by one at least for each at which the test holds.
     pub fn call<H: Hook, R: Wait>(
         &self,
         rt: &R,

@@ -1,12 +1,11 @@
-use Rattle.std.proofs.Common.{ap, sym, subst, ◌∙◌}
+use Rattle.std.proofs.Common.{sym, subst}
 use Rattle.mb_run.specs.CoreSight.{sight_of}
 use Rattle.mb_volume.specs.Parts.{part_of}
-use Rattle.mb_volume.specs.Passed.{MarksPoints}
+use Rattle.mb_volume.specs.Coming.{ComesOfEvent}
 use Rattle.mb_volume.specs.Shared.{Shared}
-use Rattle.mb_volume.specs.Underway.{Goes, IsOn, MayCome}
-use Rattle.mb_volume.specs.declared.attempt.Attempt.{Attempt}
+use Rattle.mb_volume.specs.Underway.{IsOn, MayCome}
 use Rattle.mb_volume_core.proofs.Orderly.{orderly}
-use Rattle.mb_volume.proofs.Emptied.{goes_emptied, grows_emptied, marks_emptied, may_emptied, on_emptied, same_crossings}
+use Rattle.mb_volume.proofs.Emptied.{comes_emptied, grows_emptied, may_emptied, on_emptied}
 use Rattle.mb_volume.proofs.shared.SharedCore.act.Goals as goal
 
 pub act-requires-clause-right : goal.act-requires-clause-right
@@ -25,21 +24,12 @@ act-requires-clause-may g c =
     rw (c.swap_pages.ensures.attempt, c.deref_mut-kept.ensures.value)
     (may_emptied c.args.event c.args.call.now (g.H.Hook.test c.args.hook.now) (g.H.Hook.struck c.args.hook.now) (sight_of c.self.inside.kept.value.core.core).seats attempt may)
 
-pub returns-clause-goes : goal.returns-clause-goes
-returns-clause-goes g c =
+pub returns-clause-comes : goal.returns-clause-comes
+returns-clause-comes g c =
     let attempt = c.args.attempt.now in
-    subst (λ (s : Shared g.row.F.Denot g.row.D.Denot). Goes c.args.call.now (g.H.Hook.test c.args.hook.now) (part_of (sight_of s.core.core) attempt.crossings.caller) (part_of (sight_of c.act.new.core.core) attempt.crossings.caller) attempt c.act.new.attempt c.act.result) c.self.view_is
-    (goes_emptied c.args.event c.args.call.now (g.H.Hook.test c.args.hook.now) (part_of (sight_of c.self.inside.kept.value.core.core)) (part_of (sight_of c.act.new.core.core)) attempt c.act.new.attempt c.act.result
-    (rw (c.swap_pages.ensures.attempt, c.deref_mut-kept.ensures.value) at c.act.ensures.goes))
+    subst (λ (s : Shared g.row.F.Denot g.row.D.Denot). ComesOfEvent c.args.call.now (g.H.Hook.test c.args.hook.now) c.args.event (sight_of s.core.core) (sight_of c.act.new.core.core) attempt c.act.new.attempt c.act.result) c.self.view_is
+    (comes_emptied c.args.event c.args.call.now (g.H.Hook.test c.args.hook.now) (sight_of c.self.inside.kept.value.core.core) (sight_of c.act.new.core.core) attempt c.act.new.attempt c.act.result
+    (rw (c.swap_pages.ensures.attempt, c.deref_mut-kept.ensures.value) at c.act.ensures.comes))
 
 pub returns-clause-grown : goal.returns-clause-grown
 returns-clause-grown g c = grows_emptied c.args.event c.args.attempt.now c.act.new.attempt.pages (rw c.swap_pages.ensures.attempt at c.act.ensures.grown)
-
-pub returns-clause-same : goal.returns-clause-same
-returns-clause-same g c = c.act.ensures.same ∙ ap (λ (a : Attempt). a.crossings.caller) c.swap_pages.ensures.attempt ∙ ap (λ crossings. crossings.caller) (same_crossings c.args.event c.args.attempt.now)
-
-pub returns-clause-marks : goal.returns-clause-marks
-returns-clause-marks g c =
-    let attempt = c.args.attempt.now in
-    subst (λ (s : Shared g.row.F.Denot g.row.D.Denot). MarksPoints c.args.event ((sight_of s.core.core).seats attempt.crossings.caller) ((sight_of c.act.new.core.core).seats attempt.crossings.caller) attempt c.act.new.attempt c.act.result) c.self.view_is
-    (marks_emptied c.args.event (sight_of c.self.inside.kept.value.core.core).seats (sight_of c.act.new.core.core).seats attempt c.act.new.attempt c.act.result (rw (c.swap_pages.ensures.attempt, c.deref_mut-kept.ensures.value) at c.act.ensures.marks))

@@ -24,41 +24,41 @@ loop-init g c = record {
 pub returns-in-Answered-clause-ok : goal.returns-in-Answered-clause-ok
 returns-in-Answered-clause-ok g c =
     call_answered c.args.call.now (g.H.Hook.test c.args.hook.now) c.args.pass.now c.loop.pass c.step.new.pass c.loop.attempt c.step.new.attempt c.loop.invariant.underway (c.loop.invariant.caller ∙ c.loop.invariant.later.caller) c.in-Answered.reply
-    (rw c.loop.invariant.test at c.in-Answered.ensures.leads)
+    (rw c.loop.invariant.test at c.in-Answered.ensures.comes.leads)
 
 pub returns-in-Answered-clause-rises : goal.returns-in-Answered-clause-rises
-returns-in-Answered-clause-rises g c = rises_then _ _ _ _ _ _ c.loop.invariant.rises c.step.ensures.rises
+returns-in-Answered-clause-rises g c = rises_then _ _ _ _ _ _ c.loop.invariant.rises c.step.ensures.comes.rises
 
 pub returns-in-Answered-clause-taken : goal.returns-in-Answered-clause-taken
-returns-in-Answered-clause-taken g c = (rw c.loop.invariant.test at c.in-Answered.ensures.hears) _ _ _ c.loop.invariant.heard
+returns-in-Answered-clause-taken g c = (rw c.loop.invariant.test at c.in-Answered.ensures.comes.hears) _ _ _ c.loop.invariant.heard
 
 pub give_up-requires-clause-waits : goal.give_up-requires-clause-waits
 give_up-requires-clause-waits g c =
     call_waits c.args.call.now (g.H.Hook.test c.args.hook.now) c.args.pass.now c.loop.pass c.step.new.pass c.loop.attempt c.step.new.attempt c.loop.invariant.underway (c.loop.invariant.caller ∙ c.loop.invariant.later.caller)
-    (rw c.loop.invariant.test at c.in-NoMemory.ensures.leads)
+    (rw c.loop.invariant.test at c.in-NoMemory.ensures.comes.leads)
 
 pub returns-in-NoMemory-clause-err : goal.returns-in-NoMemory-clause-err
 returns-in-NoMemory-clause-err g c =
     call_given_up c.args.call.now (g.H.Hook.test c.args.hook.now) c.args.pass.now c.loop.pass c.step.new.pass c.loop.attempt c.step.new.attempt c.loop.invariant.underway (c.loop.invariant.caller ∙ c.loop.invariant.later.caller) c.give_up.new.pass
-    c.step.ensures.same (rw c.loop.invariant.test at c.in-NoMemory.ensures.leads) c.give_up.ensures.quits
+    c.step.ensures.comes.same (rw c.loop.invariant.test at c.in-NoMemory.ensures.comes.leads) c.give_up.ensures.quits
 
 pub returns-in-NoMemory-clause-rises : goal.returns-in-NoMemory-clause-rises
 returns-in-NoMemory-clause-rises g c =
-    rises_then _ _ _ _ _ _ (rises_then _ _ _ _ _ _ c.loop.invariant.rises c.step.ensures.rises) (rises_none _ _ _ _ (omega arith) c.give_up.ensures.quits.struck)
+    rises_then _ _ _ _ _ _ (rises_then _ _ _ _ _ _ c.loop.invariant.rises c.step.ensures.comes.rises) (rises_none _ _ _ _ (omega arith) c.give_up.ensures.quits.struck)
 
 pub loop-preserved-in-Shut : goal.loop-preserved-in-Shut
 loop-preserved-in-Shut g c =
-    let is = (rw c.loop.invariant.test at c.in-Shut.ensures.leads) (part_in c.args.pass.now) c.loop.invariant.underway in
+    let is = (rw c.loop.invariant.test at c.in-Shut.ensures.comes.leads) (part_in c.args.pass.now) c.loop.invariant.underway in
     record {
       can_next = tt;
       is_finite = tt;
       going = c.step.ensures.going;
-      later = later_then _ _ _ _ c.loop.invariant.later c.step.ensures.later;
+      later = later_then _ _ _ _ c.loop.invariant.later c.step.ensures.comes.later;
       underway = is.0;
-      caller = c.step.ensures.same ∙ c.loop.invariant.caller ∙ sym c.step.ensures.later.caller;
+      caller = c.step.ensures.comes.same ∙ c.loop.invariant.caller ∙ sym c.step.ensures.comes.later.caller;
       waits = λ shut. is.1;
-      rises = rises_then _ _ _ _ _ _ c.loop.invariant.rises c.step.ensures.rises;
-      heard = (rw c.loop.invariant.test at c.in-Shut.ensures.hears) _ _ _ c.loop.invariant.heard;
+      rises = rises_then _ _ _ _ _ _ c.loop.invariant.rises c.step.ensures.comes.rises;
+      heard = (rw c.loop.invariant.test at c.in-Shut.ensures.comes.hears) _ _ _ c.loop.invariant.heard;
       test = c.step.ensures.test ∙ c.loop.invariant.test;
     }
 
@@ -67,12 +67,12 @@ loop-preserved-in-Busy g c = record {
   can_next = tt;
   is_finite = tt;
   going = c.step.ensures.going;
-  later = later_then _ _ _ _ c.loop.invariant.later c.step.ensures.later;
-  underway = (rw c.loop.invariant.test at c.in-Busy.ensures.leads) (part_in c.args.pass.now) c.loop.invariant.underway;
-  caller = c.step.ensures.same ∙ c.loop.invariant.caller ∙ sym c.step.ensures.later.caller;
+  later = later_then _ _ _ _ c.loop.invariant.later c.step.ensures.comes.later;
+  underway = (rw c.loop.invariant.test at c.in-Busy.ensures.comes.leads) (part_in c.args.pass.now) c.loop.invariant.underway;
+  caller = c.step.ensures.comes.same ∙ c.loop.invariant.caller ∙ sym c.step.ensures.comes.later.caller;
   waits = λ wrong. absurd (let both : false ≡ true = wrong in cc);
-  rises = rises_then _ _ _ _ _ _ c.loop.invariant.rises c.step.ensures.rises;
-  heard = (rw c.loop.invariant.test at c.in-Busy.ensures.hears) _ _ _ c.loop.invariant.heard;
+  rises = rises_then _ _ _ _ _ _ c.loop.invariant.rises c.step.ensures.comes.rises;
+  heard = (rw c.loop.invariant.test at c.in-Busy.ensures.comes.hears) _ _ _ c.loop.invariant.heard;
   test = c.step.ensures.test ∙ c.loop.invariant.test;
 }
 
@@ -81,12 +81,12 @@ loop-preserved-in-Inside g c = record {
   can_next = tt;
   is_finite = tt;
   going = c.step.ensures.going;
-  later = later_then _ _ _ _ c.loop.invariant.later c.step.ensures.later;
-  underway = ((rw c.loop.invariant.test at c.in-Inside.ensures.leads) (part_in c.args.pass.now) c.loop.invariant.underway).0;
-  caller = c.step.ensures.same ∙ c.loop.invariant.caller ∙ sym c.step.ensures.later.caller;
+  later = later_then _ _ _ _ c.loop.invariant.later c.step.ensures.comes.later;
+  underway = ((rw c.loop.invariant.test at c.in-Inside.ensures.comes.leads) (part_in c.args.pass.now) c.loop.invariant.underway).0;
+  caller = c.step.ensures.comes.same ∙ c.loop.invariant.caller ∙ sym c.step.ensures.comes.later.caller;
   waits = λ wrong. absurd (let both : false ≡ true = wrong in cc);
-  rises = rises_then _ _ _ _ _ _ c.loop.invariant.rises c.step.ensures.rises;
-  heard = (rw c.loop.invariant.test at c.in-Inside.ensures.hears) _ _ _ c.loop.invariant.heard;
+  rises = rises_then _ _ _ _ _ _ c.loop.invariant.rises c.step.ensures.comes.rises;
+  heard = (rw c.loop.invariant.test at c.in-Inside.ensures.comes.hears) _ _ _ c.loop.invariant.heard;
   test = c.step.ensures.test ∙ c.loop.invariant.test;
 }
 
@@ -95,11 +95,11 @@ loop-preserved g c = record {
   can_next = tt;
   is_finite = tt;
   going = c.step.ensures.going;
-  later = later_then _ _ _ _ c.loop.invariant.later c.step.ensures.later;
-  underway = (rw c.loop.invariant.test at c.in-On.ensures.leads) (part_in c.args.pass.now) c.loop.invariant.underway;
-  caller = c.step.ensures.same ∙ c.loop.invariant.caller ∙ sym c.step.ensures.later.caller;
+  later = later_then _ _ _ _ c.loop.invariant.later c.step.ensures.comes.later;
+  underway = (rw c.loop.invariant.test at c.in-On.ensures.comes.leads) (part_in c.args.pass.now) c.loop.invariant.underway;
+  caller = c.step.ensures.comes.same ∙ c.loop.invariant.caller ∙ sym c.step.ensures.comes.later.caller;
   waits = λ wrong. absurd (let both : false ≡ true = wrong in cc);
-  rises = rises_then _ _ _ _ _ _ c.loop.invariant.rises c.step.ensures.rises;
-  heard = (rw c.loop.invariant.test at c.in-On.ensures.hears) _ _ _ c.loop.invariant.heard;
+  rises = rises_then _ _ _ _ _ _ c.loop.invariant.rises c.step.ensures.comes.rises;
+  heard = (rw c.loop.invariant.test at c.in-On.ensures.comes.hears) _ _ _ c.loop.invariant.heard;
   test = c.step.ensures.test ∙ c.loop.invariant.test;
 }

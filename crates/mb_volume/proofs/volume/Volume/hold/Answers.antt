@@ -24,38 +24,25 @@ act-came-requires-clause-may g c =
     subst (λ (p : Part). MayCome c.args.call.now (g.H.Hook.test c.args.hook.now) (g.H.Hook.struck c.args.hook.now) p.seat c.args.attempt.now c.args.event) (sym same) c.requires.may
 
 pub give-requires-clause-others : goal.give-requires-clause-others
-give-requires-clause-others g c = rw c.take-shared.ensures.pass (others_held _ _ _ _ c.requires.making.caller c.act-came.ensures.moves)
+give-requires-clause-others g c = rw c.take-shared.ensures.pass (others_held _ _ _ _ c.requires.making.caller c.act-came.ensures.comes.moves)
 
 pub give-requires-clause-tally : goal.give-requires-clause-tally
-give-requires-clause-tally g c = rw c.take-shared.ensures.pass c.act-came.ensures.moves.seals
+give-requires-clause-tally g c = rw c.take-shared.ensures.pass c.act-came.ensures.comes.moves.seals
 
-pub returns-clause-later : goal.returns-clause-later
-returns-clause-later g c =
-    rw (c.give.ensures.pass, c.take-shared.ensures.pass) (later_held _ c.args.pass.now c.take-shared.result _ c.requires.idle c.take-shared.ensures.origin c.act-came.ensures.origin c.take-shared.ensures.seen _ c.act-came.ensures.moves.entries c.take-shared.ensures.tally c.act-came.ensures.moves.seals)
-
-pub returns-clause-leads : goal.returns-clause-leads
-returns-clause-leads g c =
-    let saw = c.args.pass.now.value.core.core in
-    let making = c.requires.making in
-    let low = declared_on (sight_of saw) c.args.pass.now.caller c.args.call.now _ _ c.args.attempt.now making.caller making.underway in
-    rw (c.give.ensures.pass, c.take-shared.ensures.pass)
-    (held_leads saw c.take-shared.result.core.core c.act-came.new.self.core.core c.args.pass.now.caller c.args.attempt.now.crossings.caller making.caller low c.take-shared.ensures.origin c.take-shared.ensures.mine c.take-shared.ensures.stand c.args.call.now _ _ _ _
-    (is_told g.D.Disk.told g.D.Disk.faults c.act-came.new.self.core.core c.in_order.ensures c.args.pass.now.caller) c.act-came.ensures.goes)
-
-pub returns-clause-rises : goal.returns-clause-rises
-returns-clause-rises g c =
+pub returns-clause-comes : goal.returns-clause-comes
+returns-clause-comes g c =
     let saw = c.args.pass.now.value.core.core in
     let making = c.requires.making in
     let low = declared_on (sight_of saw) c.args.pass.now.caller c.args.call.now _ _ c.args.attempt.now making.caller making.underway in
     let same = taken_part saw c.take-shared.result.core.core saw c.args.pass.now.caller c.args.attempt.now.crossings.caller making.caller low c.take-shared.ensures.origin c.take-shared.ensures.mine c.take-shared.ensures.stand in
+    let came = c.act-came.ensures.comes in
     rw (c.give.ensures.pass, c.take-shared.ensures.pass)
-    (λ before cause. rises_held before _ (sight_of saw) (sight_of c.take-shared.result.core.core) (sight_of c.act-came.new.self.core.core) c.args.pass.now.caller c.args.attempt.now.crossings.caller making.caller same c.act-came.ensures.moves (c.act-came.ensures.rises before cause))
-
-pub returns-clause-marks : goal.returns-clause-marks
-returns-clause-marks g c =
-    let saw = c.args.pass.now.value.core.core in
-    let making = c.requires.making in
-    let low = declared_on (sight_of saw) c.args.pass.now.caller c.args.call.now _ _ c.args.attempt.now making.caller making.underway in
-    let same = taken_part saw c.take-shared.result.core.core saw c.args.pass.now.caller c.args.attempt.now.crossings.caller making.caller low c.take-shared.ensures.origin c.take-shared.ensures.mine c.take-shared.ensures.stand in
-    rw (c.give.ensures.pass, c.take-shared.ensures.pass)
-    (held_marks c.args.event (sight_of saw) (sight_of c.take-shared.result.core.core) (sight_of c.act-came.new.self.core.core) c.args.pass.now.caller c.args.attempt.now.crossings.caller c.args.attempt.now _ _ making.caller same c.act-came.ensures.marks)
+    (record {
+      later = later_held _ c.args.pass.now c.take-shared.result _ c.requires.idle c.take-shared.ensures.origin c.act-came.ensures.origin c.take-shared.ensures.seen _ came.moves.entries c.take-shared.ensures.tally came.moves.seals;
+      leads = held_leads saw c.take-shared.result.core.core c.act-came.new.self.core.core c.args.pass.now.caller c.args.attempt.now.crossings.caller making.caller low c.take-shared.ensures.origin c.take-shared.ensures.mine c.take-shared.ensures.stand c.args.call.now _ _ _ _
+          (is_told g.D.Disk.told g.D.Disk.faults c.act-came.new.self.core.core c.in_order.ensures c.args.pass.now.caller) came.goes;
+      marks = held_marks c.args.event (sight_of saw) (sight_of c.take-shared.result.core.core) (sight_of c.act-came.new.self.core.core) c.args.pass.now.caller c.args.attempt.now.crossings.caller c.args.attempt.now _ _ making.caller same came.marks;
+      same = came.same;
+      rises = λ before cause. rises_held before _ (sight_of saw) (sight_of c.take-shared.result.core.core) (sight_of c.act-came.new.self.core.core) c.args.pass.now.caller c.args.attempt.now.crossings.caller making.caller same came.moves (c.act-came.ensures.rises before cause);
+      grows = c.act-came.ensures.grows;
+    })
