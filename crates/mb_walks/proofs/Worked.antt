@@ -1,5 +1,5 @@
 -- The worked numbers of what a volume keeps.
-use Rattle.std.proofs.Common.{◌≡◌, ◌≢◌, [], ◌∷◌, ℕ, zero, suc, ◌<◌, ◌≤◌, inl, inr, ◌+◌, refl, ap, ◌∙◌, arith, replicate, get_or-set_other, slice_index}
+use Rattle.std.proofs.Common.{◌≡◌, ◌≢◌, List, [], ◌∷◌, ℕ, zero, suc, ◌<◌, ◌≤◌, inl, inr, ◌+◌, refl, ap, ◌∙◌, arith, replicate, get_or-set_other, slice_index}
 use Rattle.std.proofs.lemmas.List.{get_or-replicate}
 use Rattle.mb_tree.specs.Views.{KeepsCache, MayCache}
 use Rattle.mb_word.specs.Fields.{cached_of, mode_of}
@@ -38,8 +38,8 @@ not_the_root keeps = none_other 2 (λ same. omega (arith, same)) (λ low high. o
 zero_at : (k : ℕ) → k < 64 → k ≢ 51 → slice_index wiped k ≡ 0
 zero_at k low apart = get_or-set_other (replicate 512 0) 51 k 7 0 apart ∙ get_or-replicate 512 k 0 0 (omega (arith, low))
 
-freed : NinthComesTo in_use wiped
-freed free = inl (λ k low apart. (let from : 0 + k ≡ k = omega arith in ap (slice_index wiped) from ∙ zero_at k low apart))
+freed : (old : List ℕ) → NinthComesTo old wiped
+freed old free = inl (λ k low apart. (let from : 0 + k ≡ k = omega arith in ap (slice_index wiped) from ∙ zero_at k low apart))
 
 was_used : mode_of in_use 0 ≡ 0 → ⊥
 unfolding word_at
@@ -66,4 +66,4 @@ used : NinthComesTo (free_with 1) in_use
 used free = absurd (was_used free)
 
 pub worked_kept : WorkedKept
-worked_kept = record { gets = gets; none_past = none_past; not_the_root = not_the_root; freed = freed; not_wiped = not_wiped; stays = stays; changes = changes; used = used }
+worked_kept = record { gets = gets; none_past = none_past; not_the_root = not_the_root; freed = freed in_use; not_wiped = not_wiped; stays = stays; wipes = freed (free_with 1); changes = changes; used = used }

@@ -2,6 +2,7 @@
 use Rattle.std.specs.Prelude.{◌-◌, ◌*◌, ◌/◌, ◌%◌, [], ◌∷◌, ◌++◌, ℕ, List, length, replicate, slice_set}
 use Rattle.mb_tree.specs.Views.{IsFreedWiped, KeepsCache}
 
+-- numbers below 65,536 as words, each with its low byte first
 abbrev pub words : List ℕ → List ℕ
 words [] = []
 words (n ∷ ns) = n % 256 ∷ n / 256 ∷ words ns
@@ -35,5 +36,6 @@ pub record WorkedKept : Type 0 where
   pub freed : NinthComesTo in_use wiped
   pub not_wiped : NinthComesTo in_use (free_with 1) → ⊥
   pub stays : NinthComesTo (free_with 1) (free_with 1)
+  pub wipes : NinthComesTo (free_with 1) wiped
   pub changes : NinthComesTo (free_with 1) (free_with 2) → ⊥
   pub used : NinthComesTo (free_with 1) in_use
